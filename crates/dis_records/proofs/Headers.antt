@@ -1,0 +1,137 @@
+-- Bytes begin with at most one header: the one that is read at its offsets, exactly where none of it is refused.
+use Rattle.std.proofs.Common.{◌≡◌, ◌≢◌, ◌≤◌, ◌<◌, ℕ, Bool, true, false, eqb, ltb, leb, inl, inr, List, length, Option, Some, None, refl, sym, ap, ◌∙◌, arith, rules, eqb-true, eq-eqb, ne_eqb}
+use Rattle.std.specs.Prelude.{if◌then◌else◌, ◌==◌, ◌&&◌, not}
+use Rattle.std.specs.Int.{w8, w16, w32}
+use Rattle.std.proofs.lemmas.Bool.{le-ltb, cases_lt, lt-ltb}
+use Rattle.dis_records.specs.declared.kind.Kind.{Kind}
+use Rattle.dis_records.specs.declared.kind.Kind.TheVariants as kinds
+use Rattle.dis_records.specs.declared.header.Header.{Header}
+use Rattle.dis_records.specs.declared.header.Version.{Version}
+use Rattle.dis_records.specs.declared.header.Version.TheVariants as versions
+use Rattle.dis_records.specs.Kind.{kind_code, kind_from, is_kind_code}
+use Rattle.dis_records.specs.Layout.{number_at}
+use Rattle.dis_records.specs.Header.{IsHeader, version_code, header_at, header_refusal}
+
+pub kind_from-kind_code : (kind : Kind) → kind_from (kind_code kind) ≡ kind
+unfolding kind_from
+kind_from-kind_code kinds.CreateEntity = refl
+kind_from-kind_code kinds.RemoveEntity = refl
+kind_from-kind_code kinds.StartResume = refl
+kind_from-kind_code kinds.StopFreeze = refl
+kind_from-kind_code kinds.Acknowledge = refl
+kind_from-kind_code kinds.ActionRequest = refl
+kind_from-kind_code kinds.ActionResponse = refl
+kind_from-kind_code kinds.DataQuery = refl
+kind_from-kind_code kinds.SetData = refl
+kind_from-kind_code kinds.DataPdu = refl
+kind_from-kind_code kinds.EventReport = refl
+kind_from-kind_code kinds.Comment = refl
+
+pub same_kind : (j k : Kind) → kind_code j ≡ kind_code k → j ≡ k
+same_kind j k e = sym (kind_from-kind_code j) ∙ ap kind_from e ∙ kind_from-kind_code k
+
+is_kind_code-kind_code : (kind : Kind) → is_kind_code (kind_code kind) ≡ true
+is_kind_code-kind_code kinds.CreateEntity = refl
+is_kind_code-kind_code kinds.RemoveEntity = refl
+is_kind_code-kind_code kinds.StartResume = refl
+is_kind_code-kind_code kinds.StopFreeze = refl
+is_kind_code-kind_code kinds.Acknowledge = refl
+is_kind_code-kind_code kinds.ActionRequest = refl
+is_kind_code-kind_code kinds.ActionResponse = refl
+is_kind_code-kind_code kinds.DataQuery = refl
+is_kind_code-kind_code kinds.SetData = refl
+is_kind_code-kind_code kinds.DataPdu = refl
+is_kind_code-kind_code kinds.EventReport = refl
+is_kind_code-kind_code kinds.Comment = refl
+
+version_is : (version : Version) → version_code version ≡ 7
+version_is versions.V7 = refl
+
+same_version : (v w : Version) → v ≡ w
+same_version versions.V7 versions.V7 = refl
+
+same_fields : (g : Header) (version : Version) (exercise : ℕ) (kind : Kind) (stamp own status : ℕ) → g.version ≡ version → g.exercise ≡ exercise → g.kind ≡ kind → g.stamp ≡ stamp → g.length ≡ own → g.status ≡ status
+    → g ≡ record { version = version; exercise = exercise; kind = kind; stamp = stamp; length = own; status = status }
+same_fields g version exercise kind stamp own status a b c d e f = rw (← a, ← b, ← c, ← d, ← e, ← f) refl
+
+-- bytes begin with at most one header
+pub same_header : (g h : Header) (b : List ℕ) → IsHeader g b → IsHeader h b → g ≡ h
+same_header g h b p q =
+    let x = p.stands in
+    let y = q.stands in
+    same_fields g h.version h.exercise h.kind h.stamp h.length h.status (same_version g.version h.version)
+    (x.1.0 ∙ sym y.1.0)
+    (same_kind g.kind h.kind (x.1.1.0 ∙ sym y.1.1.0))
+    (x.1.1.1.1.0 ∙ sym y.1.1.1.1.0)
+    (p.length_is ∙ sym q.length_is)
+    (x.1.1.1.1.1.1.0 ∙ sym y.1.1.1.1.1.1.0)
+
+-- a header that is there is not refused
+pub header_stands : (h : Header) (b : List ℕ) → IsHeader h b → header_refusal b ≡ None
+header_stands h b p =
+    let x = p.stands in
+    let version : number_at w8 0 b ≡ 7 = sym x.0 ∙ version_is h.version in
+    let family : number_at w8 3 b ≡ 5 = sym x.1.1.1.0 in
+    let kind : is_kind_code (number_at w8 2 b) ≡ true = ap is_kind_code (sym x.1.1.0) ∙ is_kind_code-kind_code h.kind in
+    let long : ltb (length b) 12 ≡ false = le-ltb (length b) 12 p.room in
+    let limit : ltb 8192 (length b) ≡ false = le-ltb 8192 (length b) p.limit in
+    let own : number_at w16 8 b ≡ length b = sym x.1.1.1.1.1.0 ∙ p.length_is in
+    let same : eqb (length b) (length b) ≡ true = search rules in
+    rw (long, version, family, kind, limit, own, same) refl
+
+-- the header that is there is the one that is read at its offsets
+pub header_is : (h : Header) (b : List ℕ) → IsHeader h b → h ≡ header_at b
+header_is h b p =
+    let x = p.stands in
+    same_fields h versions.V7 (number_at w8 1 b) (kind_from (number_at w8 2 b)) (number_at w32 4 b) (number_at w16 8 b) (number_at w8 10 b)
+    (same_version h.version versions.V7)
+    x.1.0
+    (sym (kind_from-kind_code h.kind) ∙ ap kind_from x.1.1.0)
+    x.1.1.1.1.0
+    x.1.1.1.1.1.0
+    x.1.1.1.1.1.1.0
+
+-- ---- what is not refused is there
+
+unless : {F : Type 0} (test : Bool) (fault : F) (rest : Option F) → (if test then Some fault else rest) ≡ None → (test ≡ false) × (rest ≡ None)
+unless true fault rest e = absurd cc
+unless false fault rest e = (refl, e)
+
+otherwise : (test : Bool) → not test ≡ false → test ≡ true
+otherwise true e = refl
+otherwise false e = absurd cc
+
+not_below : (m n : ℕ) → ltb m n ≡ false → n ≤ m
+not_below m n e = elim (cases_lt m n) [ | inl lt ↦ absurd (let t : ltb m n ≡ true = lt-ltb m n lt in let clash = sym t ∙ e in cc) | inr le ↦ le ]
+
+one_of : (n k : ℕ) (x y : Kind) → kind_code x ≡ k → (n ≢ k → kind_code y ≡ n) → kind_code (if n == k then x else y) ≡ n
+one_of n k x y here others =
+    elim (eqb n k) as (λ t. eqb n k ≡ t → kind_code (if t then x else y) ≡ n) [
+      | true ↦ λ e. here ∙ sym (eqb-true n k e)
+      | false ↦ λ e. others (λ same. let t : eqb n k ≡ true = eq-eqb n k same in let clash = sym t ∙ e in cc)
+    ] refl
+
+pub kind_code-kind_from : (n : ℕ) → is_kind_code n ≡ true → kind_code (kind_from n) ≡ n
+unfolding kind_from
+kind_code-kind_from n e =
+    let bounds : (11 ≤ n) × (n ≤ 22) = grind (arith, e) in
+    one_of n 11 _ _ refl (λ a. one_of n 12 _ _ refl (λ b. one_of n 13 _ _ refl (λ c. one_of n 14 _ _ refl (λ d. one_of n 15 _ _ refl (λ f. one_of n 16 _ _ refl
+    (λ g. one_of n 17 _ _ refl (λ h. one_of n 18 _ _ refl (λ i. one_of n 19 _ _ refl (λ j. one_of n 20 _ _ refl (λ k. one_of n 21 _ _ refl (λ l. omega arith)))))))))))
+
+pub header_reads : (b : List ℕ) → header_refusal b ≡ None → IsHeader (header_at b) b
+header_reads b e =
+    let short = unless (ltb (length b) 12) _ _ e in
+    let version = unless (not (eqb (number_at w8 0 b) 7)) _ _ short.1 in
+    let family = unless (not (eqb (number_at w8 3 b) 5)) _ _ version.1 in
+    let kind = unless (not (is_kind_code (number_at w8 2 b))) _ _ family.1 in
+    let long = unless (ltb 8192 (length b)) _ _ kind.1 in
+    let own = unless (not (eqb (number_at w16 8 b) (length b))) _ _ long.1 in
+    record {
+      stands = (
+        sym (eqb-true _ _ (otherwise _ version.0)),
+        (refl, (kind_code-kind_from (number_at w8 2 b) (otherwise (is_kind_code (number_at w8 2 b)) kind.0), (sym (eqb-true _ _ (otherwise _ family.0)), (refl, (refl, (refl, (tt, tt))))))),
+      );
+      length_is = eqb-true _ _ (otherwise _ own.0);
+      room = not_below _ _ short.0;
+      limit = not_below _ _ long.0;
+    }

@@ -1,0 +1,13 @@
+-- Clock times (IEEE 1278.1-2012, 6.2.14).
+use Rattle.std.specs.Prelude.{ℕ, List, [], ◌∷◌, ◌+◌}
+use Rattle.std.specs.Int.{w32}
+use Rattle.dis_records.specs.declared.clock_time.ClockTime.{ClockTime}
+use Rattle.dis_records.specs.Layout.{Field, Number, number_at}
+
+-- hours since 1 January 1970, time past the hour
+abbrev pub clock_time_layout : ClockTime → List Field
+clock_time_layout t = Number w32 t.hour ∷ Number w32 t.past ∷ []
+
+-- the clock time that stands at an offset
+abbrev pub clock_time_at : ℕ → List ℕ → ClockTime
+clock_time_at at b = record { hour = number_at w32 at b; past = number_at w32 (at + 4) b }

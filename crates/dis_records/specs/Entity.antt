@@ -1,0 +1,52 @@
+-- Entity identifiers (IEEE 1278.1-2012, 6.2.28): who is meant, and which entities.
+use Rattle.std.specs.Prelude.{ℕ, Bool, true, false, ◌&&◌, ◌||◌, ◌==◌, not, List, [], ◌∷◌, ◌+◌, if◌then◌else◌}
+use Rattle.std.specs.Int.{w16}
+use Rattle.dis_records.specs.declared.entity.EntityId.{EntityId}
+use Rattle.dis_records.specs.declared.entity.Scope.{Scope}
+use Rattle.dis_records.specs.declared.entity.Scope.TheVariants.{One, All}
+use Rattle.dis_records.specs.declared.kind.Kind.{Kind}
+use Rattle.dis_records.specs.declared.kind.Kind.TheVariants as kinds
+use Rattle.dis_records.specs.Layout.{Field, Number, number_at}
+use Rattle.dis_records.specs.Address.{Pair}
+
+-- site, application, entity
+abbrev pub entity_layout : EntityId → List Field
+entity_layout id = Number w16 id.site ∷ Number w16 id.application ∷ Number w16 id.entity ∷ []
+
+-- the identifier that stands at an offset
+abbrev pub entity_at : ℕ → List ℕ → EntityId
+entity_at at b = record { site = number_at w16 at b; application = number_at w16 (at + 2) b; entity = number_at w16 (at + 4) b }
+
+-- the site and the application of an identifier
+abbrev pub pair_of : EntityId → Pair
+pair_of id = record { site = id.site; application = id.application }
+
+-- A receiving identifier addresses a site and an application where each is named or is all of them, 0xFFFF (profile).
+abbrev pub is_addressed : EntityId → Pair → Bool
+is_addressed id p = ((id.site == p.site) || (id.site == 0xFFFF)) && ((id.application == p.application) || (id.application == 0xFFFF))
+
+abbrev pub is_create : Kind → Bool
+is_create kinds.CreateEntity = true
+is_create kinds.RemoveEntity = false
+is_create kinds.StartResume = false
+is_create kinds.StopFreeze = false
+is_create kinds.Acknowledge = false
+is_create kinds.ActionRequest = false
+is_create kinds.ActionResponse = false
+is_create kinds.DataQuery = false
+is_create kinds.SetData = false
+is_create kinds.DataPdu = false
+is_create kinds.EventReport = false
+is_create kinds.Comment = false
+
+-- An entity number is open where it names no single entity: 0, 0xFFFF, and in a Create Entity 0xFFFE, the wish for a number of the receiver's choice (profile).
+abbrev pub is_open : Kind → ℕ → Bool
+is_open kind n = (n == 0) || (n == 0xFFFF) || ((n == 0xFFFE) && is_create kind)
+
+-- A request's receiving number n and its answer's originating number m fit where they are equal or one of them is open (profile).
+abbrev pub are_fitting : Kind → ℕ → ℕ → Bool
+are_fitting kind n m = (n == m) || is_open kind n || is_open kind m
+
+-- the scope of two numbers that fit: the one that is not open, or all entities (profile)
+abbrev pub scope_of : Kind → ℕ → ℕ → Scope
+scope_of kind n m = if not (is_open kind n) then One n else (if not (is_open kind m) then One m else All)

@@ -1,0 +1,9 @@
+pub mod Layout
+pub mod Kind
+pub mod Address
+pub mod Entity
+pub mod ClockTime
+pub mod Header
+pub mod Datum
+pub mod Refusals
+pub mod Records

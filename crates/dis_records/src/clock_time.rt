@@ -1,0 +1,12 @@
+//! Clock times.
+
+/// A time that exceeds one hour (IEEE 1278.1-2012, 6.2.14). Both numbers are carried and shown as
+/// they stand, and nothing is computed from them (profile).
+#[derive(Clone, Copy, Debug, PartialEq, Eq)]
+pub struct ClockTime {
+    /// Hours since 0000 h on 1 January 1970 UTC; its 32 bits are shown as an unsigned number.
+    pub hour: u32,
+    /// The time past the hour, built like a timestamp: upper 31 bits the time, lowest bit 1 for
+    /// absolute time.
+    pub past: u32,
+}

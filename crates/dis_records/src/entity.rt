@@ -1,0 +1,44 @@
+//! Entity identifiers: who sends, who is meant, and which entities.
+
+ghost use Rattle.std.specs.Prelude.{◌≡◌};
+ghost use Rattle.dis_records.specs.Address.{Pair};
+ghost use Rattle.dis_records.specs.Entity.{is_addressed};
+
+use crate::address::Address;
+
+/// All sites or all applications, in its place (IEEE 1278.1-2012, 6.2.28).
+const ALL: u16 = 0xFFFF;
+
+/// An entity identifier (IEEE 1278.1-2012, 6.2.28): site, application and entity number, each
+/// 0..=0xFFFF, where 0xFFFF stands for all.
+#[derive(Clone, Copy, Debug, PartialEq, Eq)]
+pub struct EntityId {
+    pub site: u16,
+    pub application: u16,
+    pub entity: u16,
+}
+
+/// The entities that a request and its answer speak of (profile).
+#[derive(Clone, Copy, Debug, PartialEq, Eq)]
+pub enum Scope {
+    /// The entity of this number.
+    One(u16),
+    /// All entities of the application.
+    All,
+}
+
+/// Whether a receiving identifier addresses a station: site and application each are the
+/// station's or 0xFFFF (profile).
+pub fn addressed(target: EntityId, station: Address) -> bool
+    ensures { result ≡ is_addressed target station }
+{
+    addresses(target, station.site(), station.application())
+}
+
+/// Whether a receiving identifier addresses a site and an application, be they a station's or not.
+pub fn addresses(target: EntityId, site: u16, application: u16) -> bool
+    ensures { let pair : Pair = record { site = site; application = application } in result ≡ is_addressed target pair }
+{
+    (target.site == site || target.site == ALL)
+        && (target.application == application || target.application == ALL)
+}

@@ -1,0 +1,48 @@
+//! Entity numbers of a request and its answer: whether they fit, and whom they speak of.
+
+ghost use Rattle.std.specs.Prelude.{◌≡◌, IsTrue};
+ghost use Rattle.dis_records.specs.Entity.{is_open, are_fitting, scope_of};
+
+use crate::entity::Scope;
+use crate::kind::Kind;
+
+/// No entity in particular.
+const NO_ENTITY: u16 = 0;
+
+/// All entities of the application (IEEE 1278.1-2012, 6.2.28).
+const ALL_ENTITIES: u16 = 0xFFFF;
+
+/// In a Create Entity: a number of the receiver's choice (profile).
+const ANY_NUMBER: u16 = 0xFFFE;
+
+/// Whether a number names no single entity in a request of this kind, or in its answer.
+fn names_none(kind: Kind, number: u16) -> bool
+    ensures { result ≡ is_open kind number }
+{
+    number == NO_ENTITY
+        || number == ALL_ENTITIES
+        || number == ANY_NUMBER && kind.is_create()
+}
+
+/// Whether the receiving number of a request of this kind and the originating number of its
+/// answer fit: they are equal, or one of them is open (profile).
+pub fn fits(kind: Kind, receiving: u16, originating: u16) -> bool
+    ensures { result ≡ are_fitting kind receiving originating }
+{
+    receiving == originating || names_none(kind, receiving) || names_none(kind, originating)
+}
+
+/// The entities that the receiving number of a request of this kind and the originating number of
+/// its answer speak of: the number that is not open, or all (profile).
+pub fn scope(kind: Kind, receiving: u16, originating: u16) -> Scope
+    requires { IsTrue (are_fitting kind receiving originating) }
+    ensures { result ≡ scope_of kind receiving originating }
+{
+    if !names_none(kind, receiving) {
+        Scope::One(receiving)
+    } else if !names_none(kind, originating) {
+        Scope::One(originating)
+    } else {
+        Scope::All
+    }
+}

@@ -1,0 +1,143 @@
+//! The header that each datagram begins with.
+
+ghost use Rattle.std.specs.Prelude.{◌≡◌, ◌≤◌, length, IfOk, IfErr, Some, Ok};
+ghost use Rattle.dis_records.specs.Layout.{Fit, text};
+ghost use Rattle.dis_records.specs.Header.{IsHeader, header_layout, header_at, header_refusal, version_code};
+
+use crate::field::{u8_at, u16_at, u32_at};
+use crate::kind::Kind;
+use thiserror::Error;
+
+/// The size of a header in bytes.
+pub const HEADER_SIZE: usize = 12;
+
+/// The size in bytes of the largest datagram (profile).
+pub const LARGEST: usize = 8192;
+
+/// The protocol family Simulation Management.
+const FAMILY: u8 = 5;
+
+/// The protocol version: 7 is IEEE 1278.1-2012.
+#[derive(Clone, Copy, Debug, PartialEq, Eq)]
+pub enum Version {
+    V7,
+}
+
+impl Version {
+    fn code(self) -> u8
+        ensures { result ≡ version_code self }
+    {
+        match self {
+            Version::V7 => 7,
+        }
+    }
+}
+
+/// The header of a PDU (IEEE 1278.1-2012, 6.2.66). Its numbers are big-endian in a datagram.
+#[derive(Clone, Copy, Debug, PartialEq, Eq)]
+pub struct Header {
+    pub version: Version,
+    pub exercise: u8,
+    pub kind: Kind,
+    /// The timestamp: the upper 31 bits tell the time past the hour, the lowest bit is 1 where it
+    /// is absolute. No rule depends on it (profile).
+    pub stamp: u32,
+    /// The length of the whole PDU in bytes, header included.
+    pub length: u16,
+    /// The PDU status, carried as a number.
+    pub status: u8,
+}
+
+/// Why a datagram does not begin with a header: the first of these, in this order, that holds.
+#[derive(Clone, Copy, Debug, PartialEq, Eq, Error)]
+pub enum HeaderFault {
+    /// It has fewer than 12 bytes.
+    #[error("truncated")]
+    Truncated,
+    /// The protocol version is this number and not 7.
+    #[error("version {0}")]
+    Version(u8),
+    /// The protocol family is this number and not 5.
+    #[error("family {0}")]
+    Family(u8),
+    /// The PDU type is this number and none of 11 to 22.
+    #[error("kind {0}")]
+    Kind(u8),
+    /// It has more than 8192 bytes.
+    #[error("long")]
+    Long,
+    /// The length field has this number, which is not the number of its bytes.
+    #[error("length-field {0}")]
+    LengthField(u16),
+}
+
+/// The header of a datagram, whose length field is its number of bytes, at most 8192.
+pub fn read_header(bytes: &[u8]) -> Result<Header, HeaderFault>
+    // What is read is the header.
+    ensures header { IfOk result (λ header. IsHeader header bytes.now) }
+    // A header is read.
+    ensures only { (header : Header) → IsHeader header bytes.now → result ≡ Ok header }
+    // A refusal is the first in order that holds.
+    ensures refused { IfErr result (λ fault. header_refusal bytes.now ≡ Some fault) }
+{
+    if bytes.len() < HEADER_SIZE {
+        return Err(HeaderFault::Truncated);
+    }
+    let version = match u8_at(bytes, 0) {
+        7 => Version::V7,
+        other => return Err(HeaderFault::Version(other)),
+    };
+    let family = u8_at(bytes, 3);
+    if family != FAMILY {
+        return Err(HeaderFault::Family(family));
+    }
+    let code = u8_at(bytes, 2);
+    let Some(kind) = Kind::from_code(code) else {
+        return Err(HeaderFault::Kind(code));
+    };
+    if bytes.len() > LARGEST {
+        return Err(HeaderFault::Long);
+    }
+    let length = u16_at(bytes, 8);
+    if usize::from(length) != bytes.len() {
+        return Err(HeaderFault::LengthField(length));
+    }
+    Ok(Header {
+        version,
+        exercise: u8_at(bytes, 1),
+        kind,
+        stamp: u32_at(bytes, 4),
+        length,
+        status: u8_at(bytes, 10),
+    })
+}
+
+/// The text of a header, with its padding zero.
+pub fn write_header(header: &Header) -> [u8; 12]
+    ensures text { result ≡ text (header_layout header.now) }
+    ensures fits { Fit (header_layout header.now) }
+{
+    text_of(*header)
+}
+
+fn text_of(header: Header) -> [u8; 12]
+    ensures text { result ≡ text (header_layout header) }
+    ensures fits { Fit (header_layout header) }
+{
+    let [s0, s1, s2, s3] = header.stamp.to_be_bytes();
+    let [l0, l1] = header.length.to_be_bytes();
+    [
+        header.version.code(),
+        header.exercise,
+        header.kind.code(),
+        FAMILY,
+        s0,
+        s1,
+        s2,
+        s3,
+        l0,
+        l1,
+        header.status,
+        0,
+    ]
+}

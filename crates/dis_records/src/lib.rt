@@ -1,0 +1,29 @@
+//! The records that every Simulation Management PDU of DIS is made of (IEEE 1278.1-2012, 6.2):
+//! the header, addresses and entity identifiers, clock times and datum records.
+//!
+//! It knows no body of a PDU, and only [`VariableDatum::copy`] takes memory. The layers above rest
+//! on `read_header`, which accepts exactly the headers of the layout, on `scope`, and on the fact
+//! that a [`VariableDatum`] has as many bytes as its bits need, the unused bits zero.
+//!
+//! What the crate of the bodies needs to walk a datagram (numbers at an offset, the records one
+//! after the other) stands under [`field`] and [`records`].
+#![tactic(auto)]
+
+mod address;
+mod clock_time;
+mod datum;
+mod entity;
+mod entity_number;
+mod header;
+mod kind;
+
+pub mod field;
+pub mod records;
+
+pub use address::Address;
+pub use clock_time::ClockTime;
+pub use datum::{DatumFault, FixedDatum, VariableDatum, VariableView, padded_size};
+pub use entity::{EntityId, Scope, addressed, addresses};
+pub use entity_number::{fits, scope};
+pub use header::{HEADER_SIZE, Header, HeaderFault, LARGEST, Version, read_header, write_header};
+pub use kind::Kind;

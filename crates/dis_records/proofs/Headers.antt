@@ -1,11 +1,12 @@
 -- Bytes begin with at most one header: the one that is read at its offsets, exactly where none of it is refused.
-use Rattle.std.proofs.Common.{◌≡◌, ◌≢◌, ◌≤◌, ◌<◌, ℕ, Bool, true, false, eqb, ltb, leb, inl, inr, List, length, Option, Some, None, refl, sym, ap, ◌∙◌, arith, rules, eqb-true, eq-eqb, ne_eqb}
-use Rattle.std.specs.Prelude.{if◌then◌else◌, ◌==◌, ◌&&◌, not}
+use Rattle.std.proofs.Common.{◌≡◌, ◌≢◌, ◌≤◌, ℕ, Bool, true, false, eqb, ltb, inl, inr, List, length, Option, Some, None, Result, Ok, Err, refl, sym, ap, ◌∙◌, arith, rules, eqb-true, eq-eqb}
+use Rattle.std.specs.Prelude.{if◌then◌else◌, ◌==◌, not, IfOk, IfErr}
 use Rattle.std.specs.Int.{w8, w16, w32}
 use Rattle.std.proofs.lemmas.Bool.{le-ltb, cases_lt, lt-ltb}
 use Rattle.dis_records.specs.declared.kind.Kind.{Kind}
 use Rattle.dis_records.specs.declared.kind.Kind.TheVariants as kinds
 use Rattle.dis_records.specs.declared.header.Header.{Header}
+use Rattle.dis_records.specs.declared.header.HeaderFault.{HeaderFault}
 use Rattle.dis_records.specs.declared.header.Version.{Version}
 use Rattle.dis_records.specs.declared.header.Version.TheVariants as versions
 use Rattle.dis_records.specs.Kind.{kind_code, kind_from, is_kind_code}
@@ -26,9 +27,6 @@ kind_from-kind_code kinds.SetData = refl
 kind_from-kind_code kinds.DataPdu = refl
 kind_from-kind_code kinds.EventReport = refl
 kind_from-kind_code kinds.Comment = refl
-
-pub same_kind : (j k : Kind) → kind_code j ≡ kind_code k → j ≡ k
-same_kind j k e = sym (kind_from-kind_code j) ∙ ap kind_from e ∙ kind_from-kind_code k
 
 is_kind_code-kind_code : (kind : Kind) → is_kind_code (kind_code kind) ≡ true
 is_kind_code-kind_code kinds.CreateEntity = refl
@@ -53,18 +51,6 @@ same_version versions.V7 versions.V7 = refl
 same_fields : (g : Header) (version : Version) (exercise : ℕ) (kind : Kind) (stamp own status : ℕ) → g.version ≡ version → g.exercise ≡ exercise → g.kind ≡ kind → g.stamp ≡ stamp → g.length ≡ own → g.status ≡ status
     → g ≡ record { version = version; exercise = exercise; kind = kind; stamp = stamp; length = own; status = status }
 same_fields g version exercise kind stamp own status a b c d e f = rw (← a, ← b, ← c, ← d, ← e, ← f) refl
-
--- bytes begin with at most one header
-pub same_header : (g h : Header) (b : List ℕ) → IsHeader g b → IsHeader h b → g ≡ h
-same_header g h b p q =
-    let x = p.stands in
-    let y = q.stands in
-    same_fields g h.version h.exercise h.kind h.stamp h.length h.status (same_version g.version h.version)
-    (x.1.0 ∙ sym y.1.0)
-    (same_kind g.kind h.kind (x.1.1.0 ∙ sym y.1.1.0))
-    (x.1.1.1.1.0 ∙ sym y.1.1.1.1.0)
-    (p.length_is ∙ sym q.length_is)
-    (x.1.1.1.1.1.1.0 ∙ sym y.1.1.1.1.1.1.0)
 
 -- a header that is there is not refused
 pub header_stands : (h : Header) (b : List ℕ) → IsHeader h b → header_refusal b ≡ None
@@ -102,7 +88,7 @@ otherwise true e = refl
 otherwise false e = absurd cc
 
 not_below : (m n : ℕ) → ltb m n ≡ false → n ≤ m
-not_below m n e = elim (cases_lt m n) [ | inl lt ↦ absurd (let t : ltb m n ≡ true = lt-ltb m n lt in let clash = sym t ∙ e in cc) | inr le ↦ le ]
+not_below m n e = elim (cases_lt m n) [ inl lt ↦ absurd (let t : ltb m n ≡ true = lt-ltb m n lt in let clash = sym t ∙ e in cc) | inr le ↦ le ]
 
 one_of : (n k : ℕ) (x y : Kind) → kind_code x ≡ k → (n ≢ k → kind_code y ≡ n) → kind_code (if n == k then x else y) ≡ n
 one_of n k x y here others =
@@ -135,3 +121,13 @@ header_reads b e =
       room = not_below _ _ short.0;
       limit = not_below _ _ long.0;
     }
+
+-- ---- what read_header answers
+
+pub read_at : (r : Result Header HeaderFault) (b : List ℕ) → IfOk r (λ h. IsHeader h b) → IfOk r (λ h. (header_refusal b ≡ None) × (h ≡ header_at b))
+read_at (Ok h) b is = (header_stands h b is, header_is h b is)
+read_at (Err fault) b is = tt
+
+pub read_only : (r : Result Header HeaderFault) (b : List ℕ) → IfOk r (λ h. IsHeader h b) → IfErr r (λ fault. header_refusal b ≡ Some fault) → (h : Header) → IsHeader h b → r ≡ Ok h
+read_only (Ok g) b is refused h stands = ap (λ (x : Header). Ok x) (header_is g b is ∙ sym (header_is h b stands))
+read_only (Err fault) b is refused h stands = let clash = sym (header_stands h b stands) ∙ refused in absurd cc

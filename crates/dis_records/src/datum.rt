@@ -119,7 +119,12 @@ impl PartialEq for VariableDatum {
 
     ghost laws = { Prim.search (comparing, rules) };
 
-    fn eq(&self, other: &VariableDatum) -> bool {
+    /// Equal is identical.
+    #[tactic(auto, using(crate::proofs::Equality::datum_decides))]
+    fn eq(&self, other: &VariableDatum) -> bool
+        ensures value { result ≡ same_datum self.now other.now }
+        ensures exact { IsTrue result ↔ (self.now ≡ other.now) }
+    {
         self.id == other.id
             && (self.bits == other.bits && self.bytes.as_slice() == other.bytes.as_slice())
     }

@@ -19,9 +19,7 @@ const ANY_NUMBER: u16 = 0xFFFE;
 fn names_none(kind: Kind, number: u16) -> bool
     ensures { result ≡ is_open kind number }
 {
-    number == NO_ENTITY
-        || number == ALL_ENTITIES
-        || number == ANY_NUMBER && kind.is_create()
+    number == NO_ENTITY || number == ALL_ENTITIES || number == ANY_NUMBER && kind.is_create()
 }
 
 /// Whether the receiving number of a request of this kind and the originating number of its

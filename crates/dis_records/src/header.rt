@@ -1,6 +1,6 @@
 //! The header that each datagram begins with.
 
-ghost use Rattle.std.specs.Prelude.{◌≡◌, ◌≤◌, length, IfOk, IfErr, Some, Ok};
+ghost use Rattle.std.specs.Prelude.{◌≡◌, ◌≤◌, length, IfOk, IfErr, Some, None, Ok};
 ghost use Rattle.dis_records.specs.Layout.{Fit, text};
 ghost use Rattle.dis_records.specs.Header.{IsHeader, header_layout, header_at, header_refusal, version_code};
 
@@ -77,7 +77,16 @@ pub fn read_header(bytes: &[u8]) -> Result<Header, HeaderFault>
     ensures header { IfOk result (λ header. IsHeader header bytes.now) }
     // A header is read.
     ensures only { (header : Header) → IsHeader header bytes.now → result ≡ Ok header }
+    // It is the one that stands at the head of the bytes, of which none is refused.
+    ensures at { IfOk result (λ header. (header_refusal bytes.now ≡ None) × (header ≡ header_at bytes.now)) }
     // A refusal is the first in order that holds.
+    ensures refused { IfErr result (λ fault. header_refusal bytes.now ≡ Some fault) }
+{
+    read_fields(bytes)
+}
+
+fn read_fields(bytes: &[u8]) -> Result<Header, HeaderFault>
+    ensures header { IfOk result (λ header. IsHeader header bytes.now) }
     ensures refused { IfErr result (λ fault. header_refusal bytes.now ≡ Some fault) }
 {
     if bytes.len() < HEADER_SIZE {

@@ -14,10 +14,9 @@ mod clock_time;
 mod datum;
 mod entity;
 mod entity_number;
+pub mod field;
 mod header;
 mod kind;
-
-pub mod field;
 pub mod records;
 
 pub use address::Address;

@@ -1,4 +1,4 @@
-use Rattle.std.proofs.Common.{◌≡◌, ◌≢◌, ◌↔◌, ℕ, IsTrue, length, refl, sym, ◌∙◌, eqb, not, true, eq-eqb, ne_eqb}
+use Rattle.std.proofs.Common.{◌≡◌, ◌≢◌, ◌↔◌, ℕ, IsTrue, refl, sym, ◌∙◌, eqb, not, true, eq-eqb, ne_eqb}
 use Rattle.dis_records.proofs.Cleared.{cleared_exactly}
 use Rattle.dis_records.proofs.datum.has_unused.Goals as goal
 

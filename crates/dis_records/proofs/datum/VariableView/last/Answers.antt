@@ -1,4 +1,4 @@
-use Rattle.std.proofs.Common.{◌≡◌, length, sym, ap, ◌∙◌}
+use Rattle.std.proofs.Common.{sym, ap, ◌∙◌}
 use Rattle.std.specs.Prelude.{Some}
 use Rattle.dis_records.proofs.Cleared.{cleared_end}
 use Rattle.dis_records.proofs.datum.VariableView.last.Goals as goal

@@ -1,0 +1,9 @@
+pub mod DatumLists
+pub mod Equality
+pub mod Same
+pub mod Spelling
+pub mod Shape
+pub mod Reading
+pub mod Writing
+pub mod Role
+pub mod Answers

@@ -1,0 +1,28 @@
+//! The twelve Simulation Management PDUs of DIS (IEEE 1278.1-2012, 5.6 and 7.5): their values, the
+//! grammar of their datagrams, and what they do in an exchange.
+//!
+//! It knows no station and no history. The layers above rest on [`decode`], which accepts exactly
+//! the grammar and answers the reading of a datagram, on [`encode`], which appends the canonical
+//! text of a PDU, and on exact tests: [`role`], [`same_order`], [`request_id`] and [`answers`].
+#![tactic(auto)]
+
+mod datums;
+mod decoding;
+mod encoding;
+mod exchange;
+mod fault;
+mod order;
+mod pdu;
+mod roles;
+mod shape;
+mod size;
+
+pub use datums::{DatumIds, Datums};
+pub use decoding::{decode, spellings_are_apart};
+pub use encoding::{encode, kind_of};
+pub use exchange::{request_id, role};
+pub use fault::{EncodeFault, PduFault};
+pub use order::{answers, same_order};
+pub use pdu::{Body, Pdu};
+pub use roles::Role;
+pub use size::encoded_size;

@@ -1,0 +1,76 @@
+//! How many bytes the text of a PDU has.
+
+ghost use Rattle.std.specs.Prelude.{◌≡◌, ◌+◌, ◌≤◌, length};
+ghost use Rattle.std.specs.Option.{SomeIff};
+ghost use Rattle.dis_records.specs.Datum.{variable_layouts};
+ghost use Rattle.dis_records.specs.Layout.{size};
+ghost use Rattle.siman_pdus.specs.Spelling.{records_layout, id_lists_layout, pdu_size};
+
+use crate::pdu::{Body, Pdu};
+use dis_records::{FixedDatum, LARGEST, VariableDatum, padded_size};
+
+fn variable_size(records: &[VariableDatum], start: usize) -> Option<usize>
+    requires { start ≤ 8192 }
+    ensures { let end = start + size (variable_layouts records.now) in SomeIff result (end ≤ 8192) end }
+{
+    let mut end = start;
+    for datum in records {
+        end += padded_size(datum.bits()) as usize;
+        if end > LARGEST {
+            return None;
+        }
+    }
+    Some(end)
+}
+
+/// Where datums end whose counts stand at an offset, if a datagram holds them.
+#[tactic(auto, using(crate::proofs::Texts::size_join, crate::proofs::Texts::size_fixed))]
+fn datums_size(fixed: &[FixedDatum], variable: &[VariableDatum], counts: usize) -> Option<usize>
+    requires { counts ≤ 1000 }
+    ensures { let end = counts + size (records_layout fixed.now variable.now) in SomeIff result (end ≤ 8192) end }
+{
+    if fixed.len() > LARGEST / 8 {
+        return None;
+    }
+    let end = counts + 8 + 8 * fixed.len();
+    if end > LARGEST {
+        return None;
+    }
+    variable_size(variable, end)
+}
+
+/// Where identifiers end whose counts stand at an offset, if a datagram holds them.
+#[tactic(auto, using(crate::proofs::Texts::size_join, crate::proofs::Texts::size_ids))]
+fn ids_size(fixed: &[u32], variable: &[u32], counts: usize) -> Option<usize>
+    requires { counts ≤ 1000 }
+    ensures { let end = counts + size (id_lists_layout fixed.now variable.now) in SomeIff result (end ≤ 8192) end }
+{
+    if fixed.len() > LARGEST / 4 || variable.len() > LARGEST / 4 {
+        return None;
+    }
+    let end = counts + 8 + 4 * fixed.len() + 4 * variable.len();
+    if end > LARGEST {
+        return None;
+    }
+    Some(end)
+}
+
+/// The number of bytes of the text of a PDU, or `None` where it would have more than 8192.
+pub fn encoded_size(pdu: &Pdu) -> Option<u16>
+    ensures { SomeIff result (pdu_size pdu.now ≤ 8192) (pdu_size pdu.now) }
+{
+    let size = match &pdu.body {
+        Body::CreateEntity { .. } | Body::RemoveEntity { .. } => 28,
+        Body::StartResume { .. } => 44,
+        Body::StopFreeze { .. } => 40,
+        Body::Acknowledge { .. } => 32,
+        Body::ActionRequest { datums, .. }
+        | Body::ActionResponse { datums, .. }
+        | Body::SetData { datums, .. }
+        | Body::DataPdu { datums, .. }
+        | Body::EventReport { datums, .. } => datums_size(&datums.fixed, &datums.variable, 32)?,
+        Body::DataQuery { ids, .. } => ids_size(&ids.fixed, &ids.variable, 32)?,
+        Body::Comment { datums } => datums_size(&datums.fixed, &datums.variable, 24)?,
+    };
+    Some(size as u16)
+}

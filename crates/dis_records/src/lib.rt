@@ -26,3 +26,6 @@ pub use entity::{EntityId, Scope, addressed, addresses};
 pub use entity_number::{fits, scope};
 pub use header::{HEADER_SIZE, Header, HeaderFault, LARGEST, Version, read_header, write_header};
 pub use kind::Kind;
+
+#[cfg(test)]
+mod tests;

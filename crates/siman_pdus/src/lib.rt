@@ -26,3 +26,6 @@ pub use order::{answers, same_order};
 pub use pdu::{Body, Pdu};
 pub use roles::Role;
 pub use size::encoded_size;
+
+#[cfg(test)]
+mod tests;

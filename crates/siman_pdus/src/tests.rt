@@ -1,0 +1,9 @@
+use super::*;
+use dis_records::{ClockTime, EntityId, FixedDatum, HeaderFault, Kind, VariableDatum, Version};
+use std::alloc::Global;
+use std::process::Abort;
+use std::test::*;
+
+mod datagrams;
+mod exchanges;
+mod refusals;

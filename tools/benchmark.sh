@@ -1,0 +1,18 @@
+#!/usr/bin/env bash
+# Times the decoder and the encoder over one datagram of each kind, beside a plain loop over the same bytes.
+# It works on a copy of the repository in a temporary folder, so that the benchmark is no crate of the gate.
+set -eu
+top=$(cd "$(dirname "$0")/.." && pwd)
+work=$(mktemp -d)
+trap 'rm -rf "$work"' EXIT
+cp -r "$top/crates" "$top/crates.txt" "$top/HANDLES" "$work/"
+cd "$work"
+git init -q .
+rt new crates/benchmark start_io >&2
+rm -rf crates/benchmark/BUILD.bazel BUILD.bazel crates/benchmark/src crates/benchmark/proofs crates/benchmark/specs
+rm -f crates/benchmark/stdin crates/benchmark/stdout
+mkdir -p crates/benchmark/src
+cp "$top/tools/benchmark/main.rt" crates/benchmark/src/
+echo 'benchmark: dis_records siman_pdus hex' >> crates.txt
+cd crates/benchmark
+rt run < "$top/tools/benchmark/datagrams.hex"

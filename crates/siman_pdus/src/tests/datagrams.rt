@@ -64,184 +64,206 @@ const COMMENT: [u8; 40] = [
     0, 0, 0, 0, 0, 1, 0, 0, 0, 2,
 ];
 
-/// What is read equals its copy, and is written as the bytes that it was read from.
-fn read_again(rt: &impl Abort, alloc: Global, bytes: &[u8]) -> Result<Pdu, Fail> {
+/// What is read says this, equals its copy, and is written as the bytes that it was read from.
+fn read_again(rt: &impl Abort, alloc: Global, bytes: &[u8], body: &Body) -> Result<(), Fail> {
     let pdu = decode(alloc, bytes)?;
+    assert!(rt; pdu.body == *body);
     assert!(rt; pdu.copy(alloc)? == pdu);
     let mut out = Vec::new(alloc);
     encode(&pdu, &mut out)?;
     assert_eq!(rt; out.as_slice(), bytes);
-    assert_eq!(rt; encoded_size(&pdu).map(usize::from), Some(bytes.len()));
-    Ok(pdu)
+    Ok(())
 }
 
-fn fixed(id: u32, value: u32) -> FixedDatum {
-    FixedDatum { id, value }
+fn fixed_datums(alloc: Global, pairs: &[(u32, u32)]) -> Result<Vec<FixedDatum>, Fail> {
+    let mut datums = Vec::new(alloc);
+    for (id, value) in pairs {
+        datums.push(FixedDatum {
+            id: *id,
+            value: *value,
+        })?;
+    }
+    Ok(datums)
+}
+
+fn variable_datum(alloc: Global, id: u32, bits: u32, bytes: &[u8]) -> Result<VariableDatum, Fail> {
+    let bytes = Vec::from_slice(alloc, bytes)?;
+    Ok(VariableDatum::new(id, bits, bytes).ok().ok_or("a datum")?)
+}
+
+fn only_fixed(alloc: Global, pairs: &[(u32, u32)]) -> Result<Datums, Fail> {
+    let fixed = fixed_datums(alloc, pairs)?;
+    Ok(Datums {
+        fixed,
+        variable: Vec::new(alloc),
+    })
 }
 
 #[test]
-fn entities_are_created_and_removed(rt: HostRuntime) -> Result<(), Fail> {
-    let pdu = read_again(&rt, rt.alloc(), &CREATE_ENTITY)?;
+fn the_fields_of_a_pdu(rt: HostRuntime) -> Result<(), Fail> {
+    let pdu = decode(rt.alloc(), &COMMENT)?;
     assert_eq!(rt;
         (pdu.version, pdu.exercise, pdu.stamp, pdu.status),
-        (Version::V7, 1, 0, 0)
+        (Version::V7, 1, 0x0102_0304, 3)
     );
     assert_eq!(rt;
         pdu.origin,
-        EntityId {
-            site: 1,
-            application: 1,
-            entity: 0
-        }
-    );
-    assert_eq!(rt;
-        pdu.target,
         EntityId {
             site: 2,
             application: 3,
             entity: 7
         }
     );
-    assert!(rt; pdu.body == Body::CreateEntity { request: 1 });
-    let pdu = read_again(&rt, rt.alloc(), &REMOVE_ENTITY)?;
-    assert!(rt; pdu.body == Body::RemoveEntity { request: 2 });
+    assert_eq!(rt;
+        pdu.target,
+        EntityId {
+            site: 1,
+            application: 1,
+            entity: 0
+        }
+    );
+    assert_eq!(rt; encoded_size(&pdu), Some(40));
     Ok(())
 }
 
 #[test]
+fn entities_are_created_and_removed(rt: HostRuntime) -> Result<(), Fail> {
+    let alloc = rt.alloc();
+    read_again(
+        &rt,
+        alloc,
+        &CREATE_ENTITY,
+        &Body::CreateEntity { request: 1 },
+    )?;
+    read_again(
+        &rt,
+        alloc,
+        &REMOVE_ENTITY,
+        &Body::RemoveEntity { request: 2 },
+    )
+}
+
+#[test]
 fn entities_are_started_and_stopped(rt: HostRuntime) -> Result<(), Fail> {
-    let pdu = read_again(&rt, rt.alloc(), &START_RESUME)?;
+    let alloc = rt.alloc();
     let real = ClockTime {
         hour: 0x0001_0203,
         past: 0x8000_0001,
     };
     let sim = ClockTime { hour: 4, past: 5 };
-    assert!(rt;
-        pdu.body
-            == Body::StartResume {
-                real,
-                sim,
-                request: 3
-            }
-    );
-    let pdu = read_again(&rt, rt.alloc(), &STOP_FREEZE)?;
+    read_again(
+        &rt,
+        alloc,
+        &START_RESUME,
+        &Body::StartResume {
+            real,
+            sim,
+            request: 3,
+        },
+    )?;
     let real = ClockTime { hour: 6, past: 7 };
-    assert!(rt;
-        pdu.body
-            == Body::StopFreeze {
-                real,
-                reason: 2,
-                behaviour: 9,
-                request: 4
-            }
-    );
-    let pdu = read_again(&rt, rt.alloc(), &ACKNOWLEDGE)?;
-    assert!(rt;
-        pdu.body
-            == Body::Acknowledge {
-                flag: 3,
-                response: 1,
-                request: 0xFFFF_FFFF
-            }
-    );
-    Ok(())
+    read_again(
+        &rt,
+        alloc,
+        &STOP_FREEZE,
+        &Body::StopFreeze {
+            real,
+            reason: 2,
+            behaviour: 9,
+            request: 4,
+        },
+    )?;
+    read_again(
+        &rt,
+        alloc,
+        &ACKNOWLEDGE,
+        &Body::Acknowledge {
+            flag: 3,
+            response: 1,
+            request: 0xFFFF_FFFF,
+        },
+    )
 }
 
 #[test]
-fn actions_carry_datums(rt: HostRuntime) -> Result<(), Fail> {
-    let pdu = read_again(&rt, rt.alloc(), &ACTION_REQUEST)?;
-    let Body::ActionRequest {
-        request,
-        action,
-        datums,
-    } = &pdu.body
-    else {
-        return Err(Fail::from("an Action Request"));
-    };
-    assert_eq!(rt; (*request, *action), (5, 77));
-    assert_eq!(rt;
-        datums.fixed.as_slice(),
-        [fixed(10, 5), fixed(11, 0xFFFF_FFFE)].as_slice()
-    );
-    assert_eq!(rt; datums.variable.len(), 3);
-    assert_eq!(rt;
-        (datums.variable[0].id(), datums.variable[0].bits()),
-        (5, 40)
-    );
-    assert_eq!(rt; datums.variable[0].bytes(), b"HELLO".as_slice());
-    assert_eq!(rt;
-        (datums.variable[1].id(), datums.variable[1].bits()),
-        (6, 0)
-    );
-    assert_eq!(rt;
-        (datums.variable[2].id(), datums.variable[2].bits()),
-        (7, 12)
-    );
-    assert_eq!(rt; datums.variable[2].bytes(), [0xAB, 0xC0].as_slice());
-    let pdu = read_again(&rt, rt.alloc(), &ACTION_RESPONSE)?;
-    let Body::ActionResponse {
-        request,
-        result,
-        datums,
-    } = &pdu.body
-    else {
-        return Err(Fail::from("an Action Response"));
-    };
-    assert_eq!(rt; (*request, *result, datums.fixed.len()), (5, 4, 0));
-    assert_eq!(rt; datums.variable.len(), 1);
-    assert_eq!(rt;
-        datums.variable[0].bytes(),
-        [1, 2, 3, 4, 5, 6, 7, 8, 0x80].as_slice()
-    );
-    Ok(())
+fn an_action_is_requested(rt: HostRuntime) -> Result<(), Fail> {
+    let alloc = rt.alloc();
+    let mut datums = only_fixed(alloc, &[(10, 5), (11, 0xFFFF_FFFE)])?;
+    datums
+        .variable
+        .push(variable_datum(alloc, 5, 40, b"HELLO")?)?;
+    datums.variable.push(variable_datum(alloc, 6, 0, b"")?)?;
+    datums
+        .variable
+        .push(variable_datum(alloc, 7, 12, b"\xAB\xC0")?)?;
+    read_again(
+        &rt,
+        alloc,
+        &ACTION_REQUEST,
+        &Body::ActionRequest {
+            request: 5,
+            action: 77,
+            datums,
+        },
+    )
 }
 
 #[test]
-fn data_is_asked_for_and_set(rt: HostRuntime) -> Result<(), Fail> {
-    let pdu = read_again(&rt, rt.alloc(), &DATA_QUERY)?;
-    let Body::DataQuery {
-        request,
-        interval,
-        ids,
-    } = &pdu.body
-    else {
-        return Err(Fail::from("a Data Query"));
-    };
-    assert_eq!(rt; (*request, *interval), (6, 60));
-    assert_eq!(rt; ids.fixed.as_slice(), [10, 12].as_slice());
-    assert_eq!(rt; ids.variable.as_slice(), [5].as_slice());
-    let pdu = read_again(&rt, rt.alloc(), &SET_DATA)?;
-    let Body::SetData { request, datums } = &pdu.body else {
-        return Err(Fail::from("a Set Data"));
-    };
-    assert_eq!(rt; *request, 7);
-    assert_eq!(rt; datums.fixed.as_slice(), [fixed(10, 9)].as_slice());
-    let pdu = read_again(&rt, rt.alloc(), &DATA)?;
-    let Body::DataPdu { request, datums } = &pdu.body else {
-        return Err(Fail::from("a Data"));
-    };
-    assert_eq!(rt;
-        (*request, datums.fixed.len(), datums.variable.len()),
-        (6, 1, 1)
-    );
-    Ok(())
+fn an_action_is_answered(rt: HostRuntime) -> Result<(), Fail> {
+    let alloc = rt.alloc();
+    let mut datums = only_fixed(alloc, &[])?;
+    datums.variable.push(variable_datum(alloc, 8, 65, b"\x01\x02\x03\x04\x05\x06\x07\x08\x80")?)?;
+    read_again(
+        &rt,
+        alloc,
+        &ACTION_RESPONSE,
+        &Body::ActionResponse {
+            request: 5,
+            result: 4,
+            datums,
+        },
+    )
 }
 
 #[test]
-fn notices_have_no_request(rt: HostRuntime) -> Result<(), Fail> {
-    let pdu = read_again(&rt, rt.alloc(), &EVENT_REPORT)?;
-    let Body::EventReport { event, datums } = &pdu.body else {
-        return Err(Fail::from("an Event Report"));
+fn data_is_asked_for(rt: HostRuntime) -> Result<(), Fail> {
+    let alloc = rt.alloc();
+    let ids = DatumIds {
+        fixed: Vec::from_slice(alloc, &[10, 12])?,
+        variable: Vec::from_slice(alloc, &[5])?,
     };
-    assert_eq!(rt;
-        (*event, datums.fixed.len(), datums.variable.len()),
-        (3, 0, 0)
-    );
-    let pdu = read_again(&rt, rt.alloc(), &COMMENT)?;
-    assert_eq!(rt; (pdu.stamp, pdu.status), (0x0102_0304, 3));
-    let Body::Comment { datums } = &pdu.body else {
-        return Err(Fail::from("a Comment"));
-    };
-    assert_eq!(rt; datums.fixed.as_slice(), [fixed(1, 2)].as_slice());
-    Ok(())
+    read_again(
+        &rt,
+        alloc,
+        &DATA_QUERY,
+        &Body::DataQuery {
+            request: 6,
+            interval: 60,
+            ids,
+        },
+    )
+}
+
+#[test]
+fn data_is_set_and_told(rt: HostRuntime) -> Result<(), Fail> {
+    let alloc = rt.alloc();
+    let datums = only_fixed(alloc, &[(10, 9)])?;
+    read_again(&rt, alloc, &SET_DATA, &Body::SetData { request: 7, datums })?;
+    let mut datums = only_fixed(alloc, &[(10, 9)])?;
+    datums.variable.push(variable_datum(alloc, 5, 8, b"A")?)?;
+    read_again(&rt, alloc, &DATA, &Body::DataPdu { request: 6, datums })
+}
+
+#[test]
+fn notices_are_told(rt: HostRuntime) -> Result<(), Fail> {
+    let alloc = rt.alloc();
+    let datums = only_fixed(alloc, &[])?;
+    read_again(
+        &rt,
+        alloc,
+        &EVENT_REPORT,
+        &Body::EventReport { event: 3, datums },
+    )?;
+    let datums = only_fixed(alloc, &[(1, 2)])?;
+    read_again(&rt, alloc, &COMMENT, &Body::Comment { datums })
 }

@@ -88,31 +88,44 @@ fn the_same_order_at_another_time(rt: HostRuntime) {
 
 #[test]
 fn an_answer_fits_its_request(rt: HostRuntime) {
-    let create = pdu(MANAGER, ENTITY, Body::CreateEntity { request: 1 });
-    assert!(rt; answers(&acknowledge(ENTITY, 1, 1), &create));
-    assert!(rt; !answers(&acknowledge(ENTITY, 3, 1), &create));
-    assert!(rt; !answers(&acknowledge(ENTITY, 1, 2), &create));
     let other_station = EntityId {
         site: 2,
         application: 4,
         entity: 7,
     };
-    assert!(rt; !answers(&acknowledge(other_station, 1, 1), &create));
     let other_entity = EntityId {
         site: 2,
         application: 3,
         entity: 8,
     };
-    assert!(rt; !answers(&acknowledge(other_entity, 1, 1), &create));
-    let mut to_another = acknowledge(ENTITY, 1, 1);
-    to_another.target.site = 2;
-    assert!(rt; !answers(&to_another, &create));
     let everybody = EntityId {
         site: 65535,
         application: 65535,
         entity: 65535,
     };
-    let to_all = pdu(MANAGER, everybody, Body::RemoveEntity { request: 1 });
-    assert!(rt; answers(&acknowledge(other_station, 2, 1), &to_all));
-    assert!(rt; !answers(&create, &to_all));
+    for (target, origin, flag, request, fits) in [
+        (ENTITY, ENTITY, 2, 1, true),
+        (ENTITY, ENTITY, 3, 1, false),
+        (ENTITY, ENTITY, 2, 2, false),
+        (ENTITY, other_station, 2, 1, false),
+        (ENTITY, other_entity, 2, 1, false),
+        (everybody, other_station, 2, 1, true),
+    ] {
+        let order = pdu(MANAGER, target, Body::RemoveEntity { request: 1 });
+        let answer = acknowledge(origin, flag, request);
+        assert_eq!(rt;
+            answers(&answer, &order),
+            fits,
+            "flag {flag} request {request}"
+        );
+    }
+}
+
+#[test]
+fn an_answer_to_another_manager(rt: HostRuntime) {
+    let order = pdu(MANAGER, ENTITY, Body::RemoveEntity { request: 1 });
+    let mut answer = acknowledge(ENTITY, 2, 1);
+    answer.target.site = 2;
+    assert!(rt; !answers(&answer, &order));
+    assert!(rt; !answers(&order, &order));
 }

@@ -7,7 +7,7 @@ use std::alloc::Global;
 use std::io;
 use std::time::{Duration, Instant};
 
-const ROUNDS: u32 = 20000;
+const ROUNDS: u32 = 200000;
 
 fn read_lines(rt: &(impl Input + AllocGlobal)) -> io::Result<Vec<Vec<u8>>> {
     let alloc = rt.alloc();

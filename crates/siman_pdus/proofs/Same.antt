@@ -11,7 +11,7 @@ use Rattle.siman_pdus.specs.Equality.{datums_decide, ids_decide}
 use Rattle.siman_pdus.specs.declared.pdu.Body.{Body}
 use Rattle.siman_pdus.specs.declared.pdu.Body.TheVariants.{CreateEntity, RemoveEntity, StartResume, StopFreeze, Acknowledge, ActionRequest, ActionResponse, DataQuery, SetData, DataPdu, EventReport, Comment}
 use Rattle.siman_pdus.specs.declared.pdu.Pdu.{Pdu}
-use Rattle.siman_pdus.specs.Same.{same_time, same_entity, same_version, same_body, IsSameOrder, is_same_order}
+use Rattle.siman_pdus.specs.Same.{same_time, same_entity, same_version, same_body, IsSameOrder, is_same_order, is_same_pdu}
 
 same_time_fields : (t u : ClockTime) → t.hour ≡ u.hour → t.past ≡ u.past → t ≡ u
 same_time_fields t u p q = rw (p, q) refl
@@ -82,3 +82,17 @@ order_decides p q =
     (number_and p.exercise q.exercise _ _
     (Decides-and (same_entity p.origin q.origin) _ (entity_decides p.origin q.origin)
     (Decides-and (same_entity p.target q.target) (same_body p.body q.body) (entity_decides p.target q.target) (body_decides p.body q.body)))))
+
+same_pdu_fields : (p q : Pdu) → p.version ≡ q.version → p.exercise ≡ q.exercise → p.stamp ≡ q.stamp → p.status ≡ q.status → p.origin ≡ q.origin → p.target ≡ q.target → p.body ≡ q.body → p ≡ q
+same_pdu_fields p q v x s u o t b = rw (v, x, s, u, o, t, b) refl
+
+pub pdu_decides : (p q : Pdu) → Decides (is_same_pdu p q) (p ≡ q)
+pdu_decides p q =
+    Decides-like (is_same_pdu p q) (λ r. same_pdu_fields p q r.0 r.1.0 r.1.1.0 r.1.1.1.0 r.1.1.1.1.0 r.1.1.1.1.1.0 r.1.1.1.1.1.1)
+    (λ e. (ap (λ (x : Pdu). x.version) e, (ap (λ (x : Pdu). x.exercise) e, (ap (λ (x : Pdu). x.stamp) e, (ap (λ (x : Pdu). x.status) e, (ap (λ (x : Pdu). x.origin) e, (ap (λ (x : Pdu). x.target) e, ap (λ (x : Pdu). x.body) e)))))))
+    (Decides-and (same_version p.version q.version) _ (version_decides p.version q.version)
+    (number_and p.exercise q.exercise _ _
+    (number_and p.stamp q.stamp _ _
+    (number_and p.status q.status _ _
+    (Decides-and (same_entity p.origin q.origin) _ (entity_decides p.origin q.origin)
+    (Decides-and (same_entity p.target q.target) (same_body p.body q.body) (entity_decides p.target q.target) (body_decides p.body q.body)))))))

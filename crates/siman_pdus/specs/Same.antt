@@ -34,8 +34,9 @@ same_body (EventReport event datums) (EventReport event' datums') = (event == ev
 same_body (Comment datums) (Comment datums') = same_datums datums datums'
 same_body body other = false
 
-abbrev pub same_pdu : Pdu → Pdu → Bool
-same_pdu p q =
+-- the same fields
+abbrev pub is_same_pdu : Pdu → Pdu → Bool
+is_same_pdu p q =
     same_version p.version q.version && ((p.exercise == q.exercise) && ((p.stamp == q.stamp) && ((p.status == q.status)
     && (same_entity p.origin q.origin && (same_entity p.target q.target && same_body p.body q.body)))))
 

@@ -79,7 +79,7 @@ fn the_same_order_at_another_time(rt: HostRuntime) {
     again.stamp = 7;
     again.status = 1;
     assert!(rt; same_order(&order, &again));
-    assert!(rt; order != again);
+    assert!(rt; !same_pdu(&order, &again));
     again.target.entity = 8;
     assert!(rt; !same_order(&order, &again));
     let removal = pdu(MANAGER, ENTITY, Body::RemoveEntity { request: 1 });

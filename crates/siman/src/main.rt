@@ -1,0 +1,34 @@
+//! The program: the words of its command line to a command of `siman_console`, with the standard
+//! streams.
+#![tactic(auto)]
+
+use siman_console::{Task, pdu_command, pdu_from, read_words, unread_words, usage_command};
+use std::alloc::{AllocError, Global};
+use std::process::ExitCode;
+use std::{env, io};
+
+fn texts<'a>(alloc: Global, words: &'a [String]) -> Result<Vec<&'a str>, AllocError> {
+    let mut texts = Vec::new(alloc);
+    for word in words {
+        texts.push(word.as_str())?;
+    }
+    Ok(texts)
+}
+
+fn run(rt: &HostRuntime, alloc: Global) -> io::Result<u8> {
+    let words: Vec<String> = env::args(rt)?.collect(alloc)?;
+    let texts = texts(alloc, &words)?;
+    let (mut out, mut errors) = (rt.stdout(), rt.stderr());
+    Ok(match read_words(alloc, &texts) {
+        Ok(Task::Input) => pdu_from(alloc, rt.stdin(), &mut out, &mut errors),
+        Ok(Task::Pdu(hex)) => pdu_command(alloc, hex, &mut out, &mut errors),
+        Err(error) => usage_command(&error, &mut out, &mut errors),
+    })
+}
+
+fn main(rt: HostRuntime) -> ExitCode {
+    ExitCode::from(match run(&rt, rt.alloc()) {
+        Ok(status) => status,
+        Err(error) => unread_words(&error, &mut rt.stderr()),
+    })
+}

@@ -1,0 +1,4 @@
+pub mod Endings
+pub mod Fetches
+pub mod HexTexts
+pub mod Readings

@@ -1,0 +1,21 @@
+-- The laws, from those of the grammar and of hex text.
+use Rattle.std.proofs.Common.{◌≡◌, sym, arith}
+use Rattle.dis_records.specs.Header.{header_at}
+use Rattle.siman_pdus.specs.Reading.{pdu_from, refusal_of}
+use Rattle.siman_console.proofs.Readings.{said_of-read, said_of-unread}
+use Rattle.siman_console.proofs.HexTexts.{said_of_hex-encode_lower, said_of_input-line}
+use Rattle.siman_console.proofs.answer.answers_follow_the_grammar.Goals as goal
+
+pub returns-clause-spelled : goal.returns-clause-spelled
+returns-clause-spelled c = λ pdu b spells.
+    said_of-read (refusal_of b) (pdu_from (header_at b) b) pdu (sym (c.spellings_are_apart.ensures.read pdu b spells))
+
+pub returns-clause-not_spelled : goal.returns-clause-not_spelled
+returns-clause-not_spelled c = λ b none.
+    said_of-unread (refusal_of b) (pdu_from (header_at b) b) (λ pdu read. none pdu (c.spellings_are_apart.ensures.spelled pdu b read))
+
+pub returns-clause-hex : goal.returns-clause-hex
+returns-clause-hex c = λ b bytes short. said_of_hex-encode_lower b bytes short
+
+pub returns-clause-line : goal.returns-clause-line
+returns-clause-line c = λ text short. said_of_input-line text short

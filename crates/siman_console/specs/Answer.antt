@@ -1,0 +1,66 @@
+-- What the command `pdu` answers, and how it ends.
+use Rattle.std.specs.Prelude.{◌≡◌, ℕ, ◌≤◌, ◌<◌, nat_lt, List, [], ◌∷◌, ◌++◌, length, take, slice_index, ◌-◌, ◌==◌, Option, Some, None, Result, Ok, Err, ◌⊎◌, if◌then◌else◌}
+use Rattle.std.specs.Io.KnownBytes.{Appends, Keeps}
+use Rattle.dis_records.specs.Header.{header_at}
+use Rattle.siman_pdus.specs.declared.fault.PduFault.{PduFault}
+use Rattle.siman_pdus.specs.declared.pdu.Pdu.{Pdu}
+use Rattle.siman_pdus.specs.Reading.{pdu_from, refusal_of}
+use Rattle.siman_console.specs.declared.fault.Fault.{Fault}
+use Rattle.siman_console.specs.declared.fault.Fault.TheVariants.{NotBytePairs, Input, Output, Memory}
+use Rattle.siman_console.specs.HexText.{bytes_of}
+use Rattle.siman_console.specs.Records.{pdu_lines}
+use Rattle.siman_console.specs.Refusal.{refusal_line}
+
+-- a status, and the text that goes out before
+pub record Said : Type 0 where
+  pub status : ℕ
+  pub text : List ℕ
+
+abbrev pub shown : Pdu → Said
+shown pdu = record { status = 0; text = pdu_lines pdu }
+
+abbrev pub refused : PduFault → Said
+refused fault = record { status = 1; text = refusal_line fault }
+
+abbrev pub said_of_reading : Option PduFault → Pdu → Said
+said_of_reading None pdu = shown pdu
+said_of_reading (Some fault) pdu = refused fault
+
+-- the lines of the PDU that a datagram spells, or else its refusal
+abbrev pub answer_to : List ℕ → Said
+answer_to b = said_of_reading (refusal_of b) (pdu_from (header_at b) b)
+
+abbrev pub not_byte_pairs : Said
+not_byte_pairs = record { status = 2; text = [] }
+
+abbrev pub said_of_bytes : Option (List ℕ) → Said
+said_of_bytes None = not_byte_pairs
+said_of_bytes (Some b) = answer_to b
+
+-- what is answered to a word, hex text or not
+abbrev pub said_of_hex : List ℕ → Said
+said_of_hex text = said_of_bytes (bytes_of text)
+
+-- a text without the one line end that it may have at its end
+abbrev pub without_line_end : List ℕ → List ℕ
+without_line_end text = if slice_index text (length text - 1) == 10 then take (length text - 1) text else text
+
+-- what is answered to the bytes of standard input
+abbrev pub said_of_input : List ℕ → Said
+said_of_input bytes = if nat_lt 65536 (length bytes) then not_byte_pairs else said_of_hex (without_line_end bytes)
+
+-- An answer was written whole, or of its text a prefix, and none of it where memory ran out or there is none to give.
+abbrev pub IsTold : Said → Result ℕ Fault → Option (List ℕ) → Option (List ℕ) → Type 0
+IsTold said (Ok status) old new = (status ≡ said.status) × (status ≤ 1) × Appends old new said.text
+IsTold said (Err NotBytePairs) old new = (said ≡ not_byte_pairs) × Keeps old new
+IsTold said (Err Input) old new = Keeps old new
+IsTold said (Err Output) old new = (n : ℕ) × Appends old new (take n said.text)
+IsTold said (Err Memory) old new = Keeps old new
+
+-- A command ended with this status, having had to say this.
+pub record Ends (said : Said) (status : ℕ) (old new : Option (List ℕ)) : Type 0 where
+  -- its own status, or that of a fault
+  pub status_is : (status ≡ said.status) ⊎ (status ≡ 2) ⊎ (status ≡ 3)
+  pub whole : status ≤ 1 → Appends old new said.text
+  pub part : status ≡ 2 → (n : ℕ) × Appends old new (take n said.text)
+  pub none : status ≡ 3 → Keeps old new

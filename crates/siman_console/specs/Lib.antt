@@ -1,0 +1,6 @@
+pub mod Head
+pub mod Records
+pub mod Refusal
+pub mod HexText
+pub mod Fault
+pub mod Answer

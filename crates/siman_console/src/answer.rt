@@ -1,0 +1,79 @@
+//! What `pdu` answers for a datagram.
+
+ghost use Rattle.std.specs.Prelude.{◌≡◌, ℕ, ◌<◌, ◌≤◌, List, [], ◌∷◌, ◌++◌, length, IfOk};
+ghost use Rattle.hex.specs.Hex.{IsBytes, encode_lower};
+ghost use Rattle.siman_pdus.specs.declared.pdu.Pdu.{Pdu};
+ghost use Rattle.siman_pdus.specs.Spelling.{Spells};
+ghost use Rattle.siman_console.specs.Answer.{answer_to, said_of_hex, said_of_input, shown};
+
+use crate::records::pdu_lines;
+use crate::refusal::Refusal;
+use siman_pdus::{PduFault, decode, spellings_are_apart};
+use std::alloc::{AllocError, Global};
+use std::marker::Model;
+
+/// The status of an answer that shows a PDU.
+const SHOWN: u8 = 0;
+
+/// The status of an answer that tells a refusal.
+const REFUSED: u8 = 1;
+
+/// What a command answers: the status to exit with, and the text that goes out before.
+#[derive(Debug, Drop)]
+pub struct Answer {
+    status: u8,
+    text: String,
+}
+
+impl Model for Answer {
+    ghost use Rattle.std.specs.Prelude.{string_bytes};
+    ghost use Rattle.siman_console.specs.Answer.{Said};
+
+    ghost Value = { Said };
+
+    ghost view = { λ a. record { status = a.status; text = string_bytes a.text } };
+}
+
+impl Answer {
+    /// The answer for a datagram: the lines of the PDU that it spells with status 0, or else the line of its
+    /// refusal with status 1.
+    pub fn to(alloc: Global, datagram: &[u8]) -> Result<Answer, AllocError>
+        ensures { IfOk result (λ answer. answer ≡ answer_to datagram.now) }
+    {
+        match decode(alloc, datagram) {
+            Ok(pdu) => Ok(Answer {
+                status: SHOWN,
+                text: pdu_lines(alloc, &pdu)?,
+            }),
+            Err(PduFault::Memory) => Err(AllocError),
+            Err(fault) => Ok(Answer {
+                status: REFUSED,
+                text: format!(in alloc; "{}\n", Refusal(fault))?,
+            }),
+        }
+    }
+
+    /// 0 or 1.
+    pub fn status(&self) -> u8
+        ensures { result ≡ self.now.status }
+    {
+        self.status
+    }
+
+    pub fn text(&self) -> &str
+        ensures { result.now ≡ self.now.text }
+    {
+        &self.text
+    }
+}
+
+/// Laws of the answers: a datagram that spells a PDU is shown as that PDU, and any other is refused;
+/// the hex text of a datagram is answered for as the datagram, with a line end after it or not.
+pub fn answers_follow_the_grammar()
+    ensures spelled { (pdu : Pdu) (b : List ℕ) → Spells pdu b → answer_to b ≡ shown pdu }
+    ensures not_spelled { (b : List ℕ) → ((pdu : Pdu) → ¬ Spells pdu b) → (answer_to b).status ≡ 1 }
+    ensures hex { (b : List ℕ) → IsBytes b → length b ≤ 32768 → said_of_hex (encode_lower b) ≡ answer_to b }
+    ensures line { (text : List ℕ) → length text < 65536 → said_of_input (text ++ 10 ∷ []) ≡ said_of_hex text }
+{
+    spellings_are_apart();
+}

@@ -1,0 +1,102 @@
+//! The command `pdu`: a datagram in hex text, shown.
+
+ghost use Rattle.std.specs.Prelude.{◌≡◌, ◌≤◌, ℕ, List, OnOk, IfSome};
+ghost use Rattle.std.specs.Io.KnownBytes.{Keeps};
+ghost use Rattle.siman_console.specs.Fault.{status_of};
+ghost use Rattle.siman_console.specs.Answer.{said_of_hex, said_of_input, without_line_end, IsTold, Ends};
+
+use crate::answer::Answer;
+use crate::fault::Fault;
+use crate::hex_text::{LONGEST, hex_bytes};
+use crate::input::read_text;
+use crate::output::put;
+use std::alloc::Global;
+use std::io::{Read, Write};
+
+/// Shows the datagram that a word spells in hex: prints the PDU, one line for its head and one for
+/// each record, with status 0, or `refused NUMBER NAME` with status 1.
+///
+/// Status 2 with a line on `errors` tells that the word is not pairs of hex digits (`hex: not byte
+/// pairs`), or that a write to `out` failed (`output: write`), after which a prefix of the text is
+/// out. Status 3 is want of memory (`memory`), and nothing is out.
+pub fn pdu_command<W: Write, E: Write>(alloc: Global, hex: &str, out: &mut W, errors: &mut E) -> u8
+    ensures ends { Ends (said_of_hex hex.now) result (W.contents out.old) (W.contents out.new) }
+    ensures silent { result ≤ 1 → Keeps (E.contents errors.old) (E.contents errors.new) }
+{
+    let told = tell(alloc, hex.as_bytes(), out);
+    end(told, errors)
+}
+
+/// Shows the datagram that a reader has in hex text, which one line end may follow: as
+/// [`pdu_command`], and status 2 with `file: -` where a read failed. It reads no more than 65,537
+/// bytes; more than 65,536, the line end included, are `hex: not byte pairs`.
+pub fn pdu_from<R: Read + Drop, W: Write, E: Write>(
+    alloc: Global,
+    reader: R,
+    out: &mut W,
+    errors: &mut E,
+) -> u8
+    ensures known { IfSome (R.remaining reader) (λ bytes. Ends (said_of_input bytes) result (W.contents out.old) (W.contents out.new)) }
+    // Whatever it read, it answered for that.
+    ensures ends { (bytes : List ℕ) × Ends (said_of_input bytes) result (W.contents out.old) (W.contents out.new) }
+    ensures silent { result ≤ 1 → Keeps (E.contents errors.old) (E.contents errors.new) }
+{
+    let mut reader = reader;
+    let told = tell_input(alloc, &mut reader, out);
+    end(told, errors)
+}
+
+/// Writes the answer for hex text, and gives its status.
+fn tell<W: Write>(alloc: Global, hex: &[u8], out: &mut W) -> Result<u8, Fault>
+    ensures { IsTold (said_of_hex hex.now) result (W.contents out.old) (W.contents out.new) }
+{
+    let datagram = hex_bytes(alloc, hex)?;
+    let answer = Answer::to(alloc, &datagram)?;
+    match put(out, answer.text().as_bytes()) {
+        Ok(()) => Ok(answer.status()),
+        Err(_) => Err(Fault::Output),
+    }
+}
+
+/// Writes the answer for hex text that one line end may follow, and gives its status.
+fn tell_line<W: Write>(alloc: Global, text: &[u8], out: &mut W) -> Result<u8, Fault>
+    ensures { IsTold (said_of_input text.now) result (W.contents out.old) (W.contents out.new) }
+{
+    if text.len() > LONGEST {
+        return Err(Fault::NotBytePairs);
+    }
+    tell(alloc, before_line_end(text), out)
+}
+
+fn before_line_end(text: &[u8]) -> &[u8]
+    ensures { result.now ≡ without_line_end text.now }
+{
+    match text.last() {
+        Some(b'\n') => &text[..text.len() - 1],
+        _ => text,
+    }
+}
+
+/// Writes the answer for what a reader has.
+fn tell_input<R: Read, W: Write>(alloc: Global, reader: &mut R, out: &mut W) -> Result<u8, Fault>
+    ensures known { IfSome (R.remaining reader.old) (λ bytes. IsTold (said_of_input bytes) result (W.contents out.old) (W.contents out.new)) }
+    ensures some { (bytes : List ℕ) × IsTold (said_of_input bytes) result (W.contents out.old) (W.contents out.new) }
+{
+    let text = read_text(alloc, reader)?;
+    tell_line(alloc, &text, out)
+}
+
+/// The status that a command ends with, after it told its fault.
+fn end<E: Write>(told: Result<u8, Fault>, errors: &mut E) -> u8
+    ensures status { result ≡ status_of told }
+    ensures silent { OnOk told (Keeps (E.contents errors.old) (E.contents errors.new)) }
+{
+    match told {
+        Ok(status) => status,
+        Err(fault) => {
+            // A fault that can't be written has nowhere to be told.
+            let _ = writeln!(errors, "{fault}");
+            fault.status()
+        }
+    }
+}

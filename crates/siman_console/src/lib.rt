@@ -1,0 +1,29 @@
+//! The commands of the program `siman`, as functions over readers and writers that answer the
+//! status to exit with, and the texts that they print.
+//!
+//! It opens no file and ends no process. The program and the tests call the same functions:
+//! [`read_words`] and [`usage_command`] for the words of a command line, [`pdu_command`] and
+//! [`pdu_from`] for datagrams in hex text. Their contracts give the status and the bytes on the
+//! writer of the answer; the writer of faults gets bytes only where the status is 2 or 3.
+#![tactic(auto)]
+
+mod answer;
+mod clock_time;
+mod datagram;
+mod entity;
+mod fault;
+mod head;
+mod hex_text;
+mod input;
+mod kind;
+mod output;
+mod records;
+mod refusal;
+mod words;
+
+pub use answer::answers_follow_the_grammar;
+pub use datagram::{pdu_command, pdu_from};
+pub use words::{Task, read_words, unread_words, usage_command};
+
+#[cfg(test)]
+mod tests;

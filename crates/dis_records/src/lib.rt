@@ -14,6 +14,7 @@ mod clock_time;
 mod datum;
 mod entity;
 mod entity_number;
+mod entity_state;
 pub mod field;
 mod header;
 mod kind;
@@ -24,6 +25,7 @@ pub use clock_time::ClockTime;
 pub use datum::{DatumFault, FixedDatum, VariableDatum, VariableView, padded_size};
 pub use entity::{EntityId, Scope, addressed, addresses};
 pub use entity_number::{fits, scope};
+pub use entity_state::EntityState;
 pub use header::{HEADER_SIZE, Header, HeaderFault, LARGEST, Version, read_header, write_header};
 pub use kind::Kind;
 

@@ -2,8 +2,11 @@
 //! streams.
 #![tactic(auto)]
 
-use siman_console::{Task, pdu_command, pdu_from, read_words, unread_words, usage_command};
+use siman_console::{
+    Task, pdu_command, pdu_from, read_words, show_command, unopened_file, unread_words, usage_command,
+};
 use std::alloc::{AllocError, Global};
+use std::fs::File;
 use std::process::ExitCode;
 use std::{env, io};
 
@@ -22,6 +25,10 @@ fn run(rt: &HostRuntime, alloc: Global) -> io::Result<u8> {
     Ok(match read_words(alloc, &texts) {
         Ok(Task::Input) => pdu_from(alloc, rt.stdin(), &mut out, &mut errors),
         Ok(Task::Pdu(hex)) => pdu_command(alloc, hex, &mut out, &mut errors),
+        Ok(Task::Show(name)) => match File::open(rt, name) {
+            Ok(file) => show_command(alloc, file, &mut out, &mut errors),
+            Err(error) => unopened_file(name, &error, &mut errors),
+        },
         Err(error) => usage_command(&error, &mut out, &mut errors),
     })
 }

@@ -4,3 +4,4 @@ pub mod Refusal
 pub mod HexText
 pub mod Fault
 pub mod Answer
+pub mod ShowFault

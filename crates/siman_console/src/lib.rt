@@ -3,7 +3,7 @@
 //!
 //! It opens no file and ends no process. The program and the tests call the same functions:
 //! [`read_words`] and [`usage_command`] for the words of a command line, [`pdu_command`] and
-//! [`pdu_from`] for datagrams in hex text. Their contracts give the status and the bytes on the
+//! [`pdu_from`] for datagrams in hex text, [`show_command`] for recordings. Their contracts give the status and the bytes on the
 //! writer of the answer; the writer of faults gets bytes only where the status is 2 or 3.
 #![tactic(auto)]
 
@@ -11,6 +11,7 @@ mod answer;
 mod clock_time;
 mod datagram;
 mod entity;
+mod entry_lines;
 mod fault;
 mod head;
 mod hex_text;
@@ -19,11 +20,15 @@ mod kind;
 mod output;
 mod records;
 mod refusal;
+mod show;
+mod show_fault;
+mod state;
 mod words;
 
 pub use answer::answers_follow_the_grammar;
 pub use datagram::{pdu_command, pdu_from};
-pub use words::{Task, read_words, unread_words, usage_command};
+pub use show::{LARGEST_RECORDING, show_command};
+pub use words::{Task, read_words, unopened_file, unread_words, usage_command};
 
 #[cfg(test)]
 mod tests;

@@ -19,6 +19,8 @@ pub enum Task<'a> {
     Input,
     /// `pdu HEX`: show the datagram of this hex text.
     Pdu(&'a str),
+    /// `show REC`: show the recording of this file.
+    Show(&'a str),
 }
 
 fn pdu<'a>(alloc: Global) -> Result<Command<'a>, Error> {
@@ -33,13 +35,26 @@ fn pdu<'a>(alloc: Global) -> Result<Command<'a>, Error> {
     )
 }
 
+fn show<'a>(alloc: Global) -> Result<Command<'a>, Error> {
+    let recording = Arg::new(alloc, "REC")
+        .required(true)
+        .action(ArgAction::Set)
+        .help("The file of the recording");
+    Ok(
+        Command::new(alloc, "show")
+            .about("Shows a recording, a line for each entry")
+            .arg(recording)?,
+    )
+}
+
 fn siman<'a>(alloc: Global) -> Result<Command<'a>, Error> {
     Ok(
         Command::new(alloc, "siman")
             .about(
                 "Shows Simulation Management PDUs of DIS (IEEE 1278.1-2012). With no command, the hex text of a datagram is read from standard input",
             )
-            .subcommand(pdu(alloc)?)?,
+            .subcommand(pdu(alloc)?)?
+            .subcommand(show(alloc)?)?,
     )
 }
 
@@ -49,7 +64,8 @@ pub fn read_words<'a>(alloc: Global, words: &'a [&'a str]) -> Result<Task<'a>, E
     let matches = siman(alloc)?.try_get_matches_from(words)?;
     match matches.subcommand() {
         None => Ok(Task::Input),
-        Some((_, found)) => Ok(Task::Pdu(found.get_str("HEX").unwrap_or(""))),
+        Some(("pdu", found)) => Ok(Task::Pdu(found.get_str("HEX").unwrap_or(""))),
+        Some((_, found)) => Ok(Task::Show(found.get_str("REC").unwrap_or(""))),
     }
 }
 
@@ -91,5 +107,19 @@ pub fn unread_words<E: Write>(error: &io::Error, errors: &mut E) -> u8
         return Fault::Memory.status();
     }
     let _ = writeln!(errors, "words: not UTF-8");
+    2
+}
+
+/// Tells that a file could not be opened: status 3 is want of memory (`memory`), 2 any other cause
+/// (`file: NAME`, with the name as it was given).
+pub fn unopened_file<E: Write>(name: &str, error: &io::Error, errors: &mut E) -> u8
+    ensures status { (result ≡ 2) ⊎ (result ≡ 3) }
+    ensures memory { (result ≡ 3) ↔ (error_kind error.now ≡ IoKind.OutOfMemory) }
+{
+    if error.kind() == IoKind::OutOfMemory {
+        let _ = writeln!(errors, "{}", Fault::Memory);
+        return Fault::Memory.status();
+    }
+    let _ = writeln!(errors, "file: {name}");
     2
 }

@@ -1,0 +1,9 @@
+pub mod Steps
+pub mod Taking
+pub mod Tables
+pub mod Places
+pub mod Lives
+pub mod Induction
+pub mod Sends
+pub mod Consequences
+pub mod Settled

@@ -1,0 +1,34 @@
+-- What the calls of a manager answer.
+use Rattle.std.specs.Prelude.{ℕ, Option, Some, None, Result, Ok, Err, List, length}
+use Rattle.siman_pdus.specs.declared.pdu.Pdu.{Pdu}
+use Rattle.siman_manager.specs.declared.fault.OrderFault.{OrderFault}
+use Rattle.siman_manager.specs.declared.fault.OrderFault.TheVariants as faults
+use Rattle.siman_manager.specs.declared.order.Order.{Order}
+use Rattle.siman_manager.specs.declared.kept.KeptOrder.{KeptOrder}
+use Rattle.siman_manager.specs.Book.{Book, refusal, with_order, after_tick, after_take}
+
+-- the refusal that an error tells: out of memory is none
+abbrev pub told_by : OrderFault → Option OrderFault
+told_by faults.IdsSpent = Some faults.IdsSpent
+told_by faults.TooLong = Some faults.TooLong
+told_by faults.Memory = None
+
+-- why the next order is not made, whatever memory there is
+abbrev pub refusal_of : Book → Order → ℕ → Option OrderFault
+refusal_of b order stamp = refusal b.settings (length b.orders) order stamp
+
+abbrev pub with_orders : Book → List KeptOrder → Book
+with_orders b orders = record { settings = b.settings; orders = orders }
+
+-- the book after a request that was answered so
+abbrev pub book_after : {A : Type 0} → Book → Order → ℕ → ℕ → Result A OrderFault → Book
+book_after b order now stamp (Ok a) = with_orders b (with_order b.settings order now stamp b.orders)
+book_after b order now stamp (Err fault) = b
+
+-- the book after a tick
+abbrev pub ticked : Book → ℕ → ℕ → Book
+ticked b now stamp = with_orders b (after_tick b.settings now stamp b.orders)
+
+-- the book after a PDU was taken
+abbrev pub taken : Book → Pdu → Book
+taken b p = with_orders b (after_take b.settings p b.orders)

@@ -1,0 +1,5 @@
+pub mod Book
+pub mod Table
+pub mod Answers
+pub mod Lending
+pub mod Calls

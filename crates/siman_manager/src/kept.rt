@@ -1,0 +1,65 @@
+//! What is kept of each order.
+
+ghost use Rattle.std.specs.Prelude.{◌≡◌, count_by};
+ghost use Rattle.indexmap.specs.IndexMap.{values};
+ghost use Rattle.siman_manager.specs.Book.{status_of, is_given_up};
+
+use crate::order::OrderStatus;
+use indexmap::IndexMap;
+use siman_pdus::Pdu;
+
+/// Whether an order is still to be sent.
+#[derive(Clone, Copy, Debug, PartialEq, Eq)]
+pub(crate) enum Standing {
+    Waiting,
+    Answered,
+    GivenUp,
+}
+
+/// An order that was made.
+#[derive(Debug, Drop)]
+pub(crate) struct KeptOrder {
+    /// Its PDU, as it was last sent.
+    pub pdu: Pdu,
+    /// How often it was sent.
+    pub sends: u32,
+    /// When it was last sent.
+    pub last: u64,
+    pub standing: Standing,
+}
+
+impl KeptOrder {
+    pub(crate) fn status(&self) -> OrderStatus
+        ensures { result ≡ status_of self.now }
+    {
+        match self.standing {
+            Standing::Waiting => OrderStatus::Waiting(self.sends),
+            Standing::Answered => OrderStatus::Answered,
+            Standing::GivenUp => OrderStatus::GivenUp,
+        }
+    }
+
+    fn is_given_up(&self) -> bool
+        ensures { result ≡ is_given_up self.now }
+    {
+        match self.standing {
+            Standing::GivenUp => true,
+            Standing::Waiting | Standing::Answered => false,
+        }
+    }
+}
+
+/// The orders under their identifiers, in order of making.
+pub(crate) type OrderTable = IndexMap<u32, KeptOrder>;
+
+pub(crate) fn count_given_up(orders: &OrderTable) -> usize
+    ensures { result ≡ count_by is_given_up (values orders.now) }
+{
+    let mut count = 0;
+    for place in 0..orders.len() {
+        if orders[place].is_given_up() {
+            count += 1;
+        }
+    }
+    count
+}

@@ -2,5 +2,5 @@ pub mod Head
 pub mod Records
 pub mod Refusal
 pub mod HexText
-pub mod Fault
+pub mod CommandFault
 pub mod Answer

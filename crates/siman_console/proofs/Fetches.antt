@@ -1,9 +1,9 @@
 -- What was fetched of a reader, and that an answer depends on no more.
-use Rattle.std.proofs.Common.{◌≡◌, ℕ, ◌+◌, ◌<◌, ◌≤◌, List, [], ◌++◌, Option, Some, None, nat_lt, length, take, drop, IfSome, if◌then◌else◌, arith, sym, ap, ◌∙◌, ◌⊎◌, inl, inr, take_all}
+use Rattle.std.proofs.Common.{◌≡◌, ℕ, ◌<◌, ◌≤◌, List, [], ◌++◌, Option, Some, None, nat_lt, length, take, IfSome, if◌then◌else◌, arith, sym, ap, ◌∙◌, inl, inr, take_all}
 use Rattle.std.proofs.lemmas.Bool.{cases_lt}
 use Rattle.std.proofs.lemmas.Bool.Decides.{nat_tests}
 use Rattle.std.proofs.lemmas.Grind.{common_steps}
-use Rattle.std.proofs.lemmas.List.{length-take-le, take-append-le}
+use Rattle.std.proofs.lemmas.List.{length-take-le}
 use Rattle.std.specs.Io.KnownBytes.{Consumes, IsAtEnd}
 use Rattle.siman_console.specs.HexText.{fetched}
 use Rattle.siman_console.specs.Answer.{Said, not_byte_pairs, said_of_hex, said_of_input, without_line_end}

@@ -1,12 +1,12 @@
 -- What the command `pdu` answers, and how it ends.
-use Rattle.std.specs.Prelude.{◌≡◌, ℕ, ◌≤◌, ◌<◌, nat_lt, List, [], ◌∷◌, ◌++◌, length, take, slice_index, ◌-◌, ◌==◌, Option, Some, None, Result, Ok, Err, ◌⊎◌, if◌then◌else◌}
+use Rattle.std.specs.Prelude.{◌≡◌, ℕ, ◌≤◌, nat_lt, List, [], length, take, slice_index, ◌-◌, ◌==◌, Option, Some, None, Result, Ok, Err, ◌⊎◌, if◌then◌else◌}
 use Rattle.std.specs.Io.KnownBytes.{Appends, Keeps}
 use Rattle.dis_records.specs.Header.{header_at}
 use Rattle.siman_pdus.specs.declared.fault.PduFault.{PduFault}
 use Rattle.siman_pdus.specs.declared.pdu.Pdu.{Pdu}
 use Rattle.siman_pdus.specs.Reading.{pdu_from, refusal_of}
-use Rattle.siman_console.specs.declared.fault.Fault.{Fault}
-use Rattle.siman_console.specs.declared.fault.Fault.TheVariants.{NotBytePairs, Input, Output, Memory}
+use Rattle.siman_console.specs.declared.fault.CommandFault.{CommandFault}
+use Rattle.siman_console.specs.declared.fault.CommandFault.TheVariants.{NotBytePairs, Input, Output, Memory}
 use Rattle.siman_console.specs.HexText.{bytes_of}
 use Rattle.siman_console.specs.Records.{pdu_lines}
 use Rattle.siman_console.specs.Refusal.{refusal_line}
@@ -50,7 +50,7 @@ abbrev pub said_of_input : List ℕ → Said
 said_of_input bytes = if nat_lt 65536 (length bytes) then not_byte_pairs else said_of_hex (without_line_end bytes)
 
 -- An answer was written whole, or of its text a prefix, and none of it where memory ran out or there is none to give.
-abbrev pub IsTold : Said → Result ℕ Fault → Option (List ℕ) → Option (List ℕ) → Type 0
+abbrev pub IsTold : Said → Result ℕ CommandFault → Option (List ℕ) → Option (List ℕ) → Type 0
 IsTold said (Ok status) old new = (status ≡ said.status) × (status ≤ 1) × Appends old new said.text
 IsTold said (Err NotBytePairs) old new = (said ≡ not_byte_pairs) × Keeps old new
 IsTold said (Err Input) old new = Keeps old new

@@ -1,5 +1,5 @@
 -- Hex text: pairs of hex digits of either case, and nothing else.
-use Rattle.std.specs.Prelude.{ℕ, List, length, take, nat_lt, Option, Some, None, if◌then◌else◌}
+use Rattle.std.specs.Prelude.{ℕ, List, length, take, nat_lt, Option, None, if◌then◌else◌}
 use Rattle.std.specs.Result.{result_ok}
 use Rattle.hex.specs.Hex.{decode_of}
 

@@ -2,6 +2,6 @@ pub mod Head
 pub mod Records
 pub mod Refusal
 pub mod HexText
-pub mod Fault
+pub mod CommandFault
 pub mod Answer
 pub mod ShowFault

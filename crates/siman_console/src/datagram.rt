@@ -2,11 +2,11 @@
 
 ghost use Rattle.std.specs.Prelude.{◌≡◌, ◌≤◌, ℕ, List, OnOk, IfSome};
 ghost use Rattle.std.specs.Io.KnownBytes.{Keeps};
-ghost use Rattle.siman_console.specs.Fault.{status_of};
+ghost use Rattle.siman_console.specs.CommandFault.{status_of};
 ghost use Rattle.siman_console.specs.Answer.{said_of_hex, said_of_input, without_line_end, IsTold, Ends};
 
 use crate::answer::Answer;
-use crate::fault::Fault;
+use crate::fault::CommandFault;
 use crate::hex_text::{LONGEST, hex_bytes};
 use crate::input::read_text;
 use crate::output::put;
@@ -47,23 +47,23 @@ pub fn pdu_from<R: Read + Drop, W: Write, E: Write>(
 }
 
 /// Writes the answer for hex text, and gives its status.
-fn tell<W: Write>(alloc: Global, hex: &[u8], out: &mut W) -> Result<u8, Fault>
+fn tell<W: Write>(alloc: Global, hex: &[u8], out: &mut W) -> Result<u8, CommandFault>
     ensures { IsTold (said_of_hex hex.now) result (W.contents out.old) (W.contents out.new) }
 {
     let datagram = hex_bytes(alloc, hex)?;
     let answer = Answer::to(alloc, &datagram)?;
     match put(out, answer.text().as_bytes()) {
         Ok(()) => Ok(answer.status()),
-        Err(_) => Err(Fault::Output),
+        Err(_) => Err(CommandFault::Output),
     }
 }
 
 /// Writes the answer for hex text that one line end may follow, and gives its status.
-fn tell_line<W: Write>(alloc: Global, text: &[u8], out: &mut W) -> Result<u8, Fault>
+fn tell_line<W: Write>(alloc: Global, text: &[u8], out: &mut W) -> Result<u8, CommandFault>
     ensures { IsTold (said_of_input text.now) result (W.contents out.old) (W.contents out.new) }
 {
     if text.len() > LONGEST {
-        return Err(Fault::NotBytePairs);
+        return Err(CommandFault::NotBytePairs);
     }
     tell(alloc, before_line_end(text), out)
 }
@@ -78,7 +78,11 @@ fn before_line_end(text: &[u8]) -> &[u8]
 }
 
 /// Writes the answer for what a reader has.
-fn tell_input<R: Read, W: Write>(alloc: Global, reader: &mut R, out: &mut W) -> Result<u8, Fault>
+fn tell_input<R: Read, W: Write>(
+    alloc: Global,
+    reader: &mut R,
+    out: &mut W,
+) -> Result<u8, CommandFault>
     ensures known { IfSome (R.remaining reader.old) (λ bytes. IsTold (said_of_input bytes) result (W.contents out.old) (W.contents out.new)) }
     ensures some { (bytes : List ℕ) × IsTold (said_of_input bytes) result (W.contents out.old) (W.contents out.new) }
 {
@@ -87,7 +91,7 @@ fn tell_input<R: Read, W: Write>(alloc: Global, reader: &mut R, out: &mut W) -> 
 }
 
 /// The status that a command ends with, after it told its fault.
-fn end<E: Write>(told: Result<u8, Fault>, errors: &mut E) -> u8
+fn end<E: Write>(told: Result<u8, CommandFault>, errors: &mut E) -> u8
     ensures status { result ≡ status_of told }
     ensures silent { OnOk told (Keeps (E.contents errors.old) (E.contents errors.new)) }
 {

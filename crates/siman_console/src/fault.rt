@@ -1,15 +1,15 @@
 //! Why a command gave no answer.
 
 ghost use Rattle.std.specs.Prelude.{◌≡◌};
-ghost use Rattle.siman_console.specs.declared.fault.Fault.TheVariants.{Memory};
-ghost use Rattle.siman_console.specs.Fault.{fault_status};
+ghost use Rattle.siman_console.specs.declared.fault.CommandFault.TheVariants.{Memory};
+ghost use Rattle.siman_console.specs.CommandFault.{fault_status};
 
-use std::alloc::{AllocError, AllocFailed};
+use std::alloc::AllocError;
 use thiserror::Error;
 
 /// Why a command gave no answer, or not the whole of it. Its `Display` is the line of the fault.
 #[derive(Clone, Copy, Debug, PartialEq, Eq, Error)]
-pub enum Fault {
+pub enum CommandFault {
     /// The hex text is more than 65,536 bytes, or is not pairs of hex digits.
     #[error("hex: not byte pairs")]
     NotBytePairs,
@@ -24,22 +24,22 @@ pub enum Fault {
     Memory,
 }
 
-impl Fault {
+impl CommandFault {
     /// The status that tells of it: 3 for want of memory, else 2.
     pub fn status(self) -> u8
         ensures { result ≡ fault_status self }
     {
         match self {
-            Fault::NotBytePairs | Fault::Input | Fault::Output => 2,
-            Fault::Memory => 3,
+            CommandFault::NotBytePairs | CommandFault::Input | CommandFault::Output => 2,
+            CommandFault::Memory => 3,
         }
     }
 }
 
-impl From<AllocError> for Fault {
+impl From<AllocError> for CommandFault {
     ghost from_gives = { λ _ fault. fault ≡ Memory };
 
-    fn from(_e: AllocError) -> Fault {
-        Fault::Memory
+    fn from(_e: AllocError) -> CommandFault {
+        CommandFault::Memory
     }
 }

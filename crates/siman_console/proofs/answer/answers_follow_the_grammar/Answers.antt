@@ -1,5 +1,5 @@
 -- The laws, from those of the grammar and of hex text.
-use Rattle.std.proofs.Common.{◌≡◌, sym, arith}
+use Rattle.std.proofs.Common.{sym}
 use Rattle.dis_records.specs.Header.{header_at}
 use Rattle.siman_pdus.specs.Reading.{pdu_from, refusal_of}
 use Rattle.siman_console.proofs.Readings.{said_of-read, said_of-unread}

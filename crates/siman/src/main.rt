@@ -3,7 +3,8 @@
 #![tactic(auto)]
 
 use siman_console::{
-    Task, pdu_command, pdu_from, read_words, show_command, unopened_file, unread_words, usage_command,
+    Task, pdu_command, pdu_from, read_words, show_command, unopened_file, unread_words,
+    usage_command,
 };
 use std::alloc::{AllocError, Global};
 use std::fs::File;

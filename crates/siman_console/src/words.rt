@@ -117,8 +117,8 @@ pub fn unopened_file<E: Write>(name: &str, error: &io::Error, errors: &mut E) ->
     ensures memory { (result ≡ 3) ↔ (error_kind error.now ≡ IoKind.OutOfMemory) }
 {
     if error.kind() == IoKind::OutOfMemory {
-        let _ = writeln!(errors, "{}", Fault::Memory);
-        return Fault::Memory.status();
+        let _ = writeln!(errors, "{}", CommandFault::Memory);
+        return CommandFault::Memory.status();
     }
     let _ = writeln!(errors, "file: {name}");
     2

@@ -1,5 +1,6 @@
 #!/usr/bin/env bash
-# Times the decoder and the encoder over one datagram of each kind, beside a plain loop over the same bytes.
+# Times the decoder and the encoder over one datagram of each kind, beside a plain loop over the same bytes, and a tick
+# of the manager over settled orders.
 # It works on a copy of the repository in a temporary folder, so that the benchmark is no crate of the gate; its source
 # has the ending .txt here, since the gate refuses code that no crate holds.
 set -eu
@@ -14,6 +15,6 @@ rm -rf crates/benchmark/BUILD.bazel BUILD.bazel crates/benchmark/src crates/benc
 rm -f crates/benchmark/stdin crates/benchmark/stdout
 mkdir -p crates/benchmark/src
 cp "$top/tools/benchmark/main.txt" crates/benchmark/src/main.rt
-echo 'benchmark: dis_records siman_pdus hex' >> crates.txt
+echo 'benchmark: dis_records siman_pdus siman_manager hex' >> crates.txt
 cd crates/benchmark
 rt run < "$top/tools/benchmark/datagrams.hex"

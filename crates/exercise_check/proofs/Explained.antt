@@ -1,0 +1,86 @@
+-- Good steps name a run, and a good certificate one that explains the recording.
+use Rattle.std.proofs.Common.{◌≡◌, ℕ, zero, suc, ◌+◌, ◌<◌, ◌≤◌, List, [], ◌∷◌, ◌++◌, length, take, Option, Some, None, Bool, true, refl, sym, ap, ◌∙◌, subst, arith}
+use Rattle.std.specs.Prelude.{slice_get, slice_index_or, ◌&&◌, nat_lt}
+use Rattle.std.specs.Option.{option_map_or}
+use Rattle.std.specs.List.{list_all}
+use Rattle.std.proofs.Math.Numerals.{add-one}
+use Rattle.std.proofs.lemmas.List.{take_more, take_all}
+use Rattle.std.proofs.lemmas.Bool.{lt-ltb}
+use Rattle.exercise_recording.specs.Entry.{Entry}
+use Rattle.exercise_recording.specs.Recording.{PlainRecording, IsRecording}
+use Rattle.exercise_recording.specs.History.{Event, History, event_of, station_of, past, log_at, log_of}
+use Rattle.exercise_recording.specs.Setting.{setting_of}
+use Rattle.exercise_recording.specs.Run.{IsRun, Explains, CoversPrefixes, IsBeginning}
+use Rattle.exercise_recording.proofs.Counting.{entry_station, within, all_events, fewer_events, same_count, past_within, length-past}
+use Rattle.exercise_check.specs.declared.certificate.Step.{Step}
+use Rattle.exercise_check.specs.Order.{order_of}
+use Rattle.exercise_check.specs.Goodness.{step_cause, IsGoodStep, no_step, cause_at, GoodBelow, IsGood}
+use Rattle.exercise_check.proofs.Orders.{order_of-snoc, order_of-none}
+use Rattle.exercise_check.proofs.Goodness.{good_step, steps_cover}
+
+-- what is order_of after one good step more
+order_of_next : (r : PlainRecording) (steps : List Step) (n : ℕ) (e : Entry) → n < length steps → slice_get r.entries (slice_index_or steps n no_step).place ≡ Some e → order_of r (take (suc n) steps) ≡ event_of e ∷ order_of r (take n steps)
+order_of_next r steps n e within at =
+    ap (λ k. order_of r (take k steps)) (sym (add-one n)) ∙ ap (order_of r) (take_more steps n no_step within)
+    ∙ order_of-snoc r (take n steps) (slice_index_or steps n no_step)
+    ∙ ap (λ o. option_map_or (λ e. event_of e ∷ order_of r (take n steps)) o (order_of r (take n steps))) at
+
+-- what good steps record: a run, with an event for each, at stations that there are
+pub record IsSound (r : PlainRecording) (h : History) (n : ℕ) : Type 0 where
+  pub run : IsRun (setting_of r) h
+  pub count : length h ≡ n
+  pub stations : within (length r.stations) h ≡ true
+
+sound_none : (r : PlainRecording) → IsSound r (order_of r []) 0
+sound_none r = subst (λ h. IsSound r h 0) (sym (order_of-none r)) (record { run = tt; count = refl; stations = refl })
+
+pub sound_steps : (r : PlainRecording) → IsRecording r → (steps : List Step) (n : ℕ) → n ≤ length steps → GoodBelow r steps n → IsSound r (order_of r (take n steps)) n
+sound_steps r limits steps zero le good = sound_none r
+sound_steps r limits steps (suc n) le good =
+    let before = sound_steps r limits steps n (omega arith) (λ k l. good k (omega arith)) in
+    let here = good_step r (take n steps) (slice_index_or steps n no_step) (good n (omega arith)) in
+    subst (λ h. IsSound r h (suc n)) (sym (order_of_next r steps n here.0 (omega arith) here.1.at)) (record {
+      run = (before.run, here.1.allowed);
+      count = ap suc before.count;
+      stations = ap (λ b. b && within (length r.stations) (order_of r (take n steps))) (lt-ltb _ _ (entry_station (length r.stations) r.entries _ here.0 limits.each_entry here.1.at)) ∙ before.stations;
+    })
+
+-- good steps record a run that covers prefixes
+pub good_covers : (r : PlainRecording) → IsRecording r → (steps : List Step) → GoodBelow r steps (length steps) → CoversPrefixes r (order_of r steps)
+good_covers r limits steps good =
+    let whole : take (length steps) steps ≡ steps = take_all (length steps) steps (omega arith) in
+    subst (λ xs. CoversPrefixes r (order_of r xs)) whole (record {
+      run = (sound_steps r limits steps (length steps) (omega arith) good).run;
+      logs = steps_cover r steps (length steps) (omega arith) good;
+    })
+
+pub good_sound : (r : PlainRecording) → IsRecording r → (steps : List Step) → GoodBelow r steps (length steps) → IsSound r (order_of r steps) (length steps)
+good_sound r limits steps good = subst (λ xs. IsSound r (order_of r xs) (length steps)) (take_all (length steps) steps (omega arith)) (sound_steps r limits steps (length steps) (omega arith) good)
+
+-- A GOOD CERTIFICATE EXPLAINS
+pub good_explains : (r : PlainRecording) → IsRecording r → (steps : List Step) → IsGood r steps → Explains r (order_of r steps)
+unfolding log_of
+good_explains r limits steps good =
+    let sound = good_sound r limits steps good.good in
+    let covers = good_covers r limits steps good.good in
+    record {
+      run = covers.run;
+      logs = all_events (length r.stations) (order_of r steps) (past r.entries) sound.stations (past_within r limits) covers.logs (sound.count ∙ good.count ∙ sym (length-past r.entries));
+    }
+
+-- good steps are no more than entries
+pub good_few : (r : PlainRecording) → IsRecording r → (steps : List Step) → GoodBelow r steps (length steps) → length steps ≤ length r.entries
+unfolding log_of
+good_few r limits steps good =
+    let sound = good_sound r limits steps good in
+    let covers = good_covers r limits steps good in
+    omega (arith, sound.count, length-past r.entries, fewer_events (length r.stations) (order_of r steps) (past r.entries) sound.stations (past_within r limits) covers.logs)
+
+-- good steps that record all logs are a good certificate
+pub good_whole : (r : PlainRecording) → IsRecording r → (steps : List Step) → GoodBelow r steps (length steps) → ((s : ℕ) → log_at s (order_of r steps) ≡ log_at s (past r.entries)) → IsGood r steps
+good_whole r limits steps good whole =
+    let sound = good_sound r limits steps good in
+    record {
+      count = sym sound.count ∙ same_count (length r.stations) (order_of r steps) (past r.entries) sound.stations (past_within r limits) whole ∙ length-past r.entries;
+      good = good;
+    }

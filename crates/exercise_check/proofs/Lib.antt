@@ -1,0 +1,5 @@
+pub mod Sent
+pub mod Orders
+pub mod Goodness
+pub mod Explained
+pub mod Causes

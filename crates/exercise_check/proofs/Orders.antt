@@ -1,0 +1,127 @@
+-- The order that steps name, one step after another.
+use Rattle.std.proofs.Common.{◌≡◌, ℕ, zero, suc, ◌+◌, ◌<◌, ◌≤◌, List, [], ◌∷◌, ◌++◌, length, take, drop, get_or, filter, cond, Option, Some, None, Bool, true, false, refl, sym, ap, ◌∙◌, subst, arith, append_assoc, append-nil}
+use Rattle.std.specs.Prelude.{slice_get, slice_index_or, option_and_then, is_some, nat_eq, ◌==◌, ◌||◌, if◌then◌else◌}
+use Rattle.std.specs.Option.{option_map_or, option_to_list}
+use Rattle.std.specs.List.{list_any}
+use Rattle.std.proofs.Math.Numerals.{add-one}
+use Rattle.std.proofs.Math.Nat.{add-zero}
+use Rattle.std.proofs.lemmas.List.{take_more, drop_more, drop_all}
+use Rattle.std.proofs.lemmas.List.Folds.{list_any-append}
+use Rattle.exercise_recording.specs.Entry.{Entry}
+use Rattle.exercise_recording.specs.Recording.{PlainRecording}
+use Rattle.exercise_recording.specs.History.{Event, Send, Get, Tell, History, event_of, station_of, past, log_at}
+use Rattle.exercise_recording.specs.Cause.{sends, was_sent}
+use Rattle.exercise_recording.specs.Place.{event_at, log_before, own_event}
+use Rattle.exercise_recording.proofs.Onward.{past-snoc, past-append, log_before-more, log_before-none}
+use Rattle.exercise_check.specs.declared.certificate.Step.{Step}
+use Rattle.exercise_check.specs.Order.{chosen, order_of, first_sender}
+use Rattle.exercise_check.specs.Goodness.{no_step}
+
+or_false : (b : Bool) → (b || false) ≡ b
+or_false true = refl
+or_false false = refl
+
+or_true : (b : Bool) → (b || true) ≡ true
+or_true true = refl
+or_true false = refl
+
+pub chosen-append : (es : List Entry) (xs ys : List Step) → chosen es (xs ++ ys) ≡ chosen es xs ++ chosen es ys
+unfolding chosen
+chosen-append es [] ys = refl
+chosen-append es (x ∷ xs) ys = ap (λ zs. option_to_list (slice_get es x.place) ++ zs) (chosen-append es xs ys) ∙ sym (append_assoc (option_to_list (slice_get es x.place)) (chosen es xs) (chosen es ys))
+
+chosen-one : (es : List Entry) (x : Step) → chosen es (x ∷ []) ≡ option_to_list (slice_get es x.place)
+unfolding chosen
+chosen-one es x = append-nil (option_to_list (slice_get es x.place))
+
+-- one step more
+pub order_of-snoc : (r : PlainRecording) (steps : List Step) (step : Step) → order_of r (steps ++ step ∷ []) ≡ option_map_or (λ e. event_of e ∷ order_of r steps) (slice_get r.entries step.place) (order_of r steps)
+unfolding order_of
+order_of-snoc r steps step =
+    ap past (chosen-append r.entries steps (step ∷ []) ∙ ap (λ zs. chosen r.entries steps ++ zs) (chosen-one r.entries step))
+    ∙ elim (slice_get r.entries step.place) as (λ o. past (chosen r.entries steps ++ option_to_list o) ≡ option_map_or (λ e. event_of e ∷ past (chosen r.entries steps)) o (past (chosen r.entries steps))) [
+      | None ↦ ap past (append-nil (chosen r.entries steps))
+      | Some e ↦ past-snoc (chosen r.entries steps) e
+    ]
+
+pub order_of-none : (r : PlainRecording) → order_of r [] ≡ []
+unfolding order_of chosen past
+order_of-none r = refl
+
+pub log_at-cons : (s : ℕ) (v : Event) (h : History) → log_at s (v ∷ h) ≡ (if station_of v == s then v ∷ log_at s h else log_at s h)
+unfolding log_at
+log_at-cons s v h = refl
+
+-- the log of a station goes on by its own events
+pub log_at-order_of-snoc : (r : PlainRecording) (s : ℕ) (steps : List Step) (step : Step) → log_at s (order_of r (steps ++ step ∷ [])) ≡ option_map_or (λ v. v ∷ log_at s (order_of r steps)) (own_event r s step.place) (log_at s (order_of r steps))
+unfolding own_event
+log_at-order_of-snoc r s steps step =
+    ap (log_at s) (order_of-snoc r steps step)
+    ∙ elim (slice_get r.entries step.place) as (λ o. log_at s (option_map_or (λ e. event_of e ∷ order_of r steps) o (order_of r steps)) ≡ option_map_or (λ v. v ∷ log_at s (order_of r steps)) (option_and_then (λ e. if station_of (event_of e) == s then Some (event_of e) else None) o) (log_at s (order_of r steps))) [
+      | None ↦ refl
+      | Some e ↦ log_at-cons s (event_of e) (order_of r steps)
+          ∙ elim (nat_eq (station_of (event_of e)) s) as (λ b. cond b (event_of e ∷ log_at s (order_of r steps)) (log_at s (order_of r steps)) ≡ option_map_or (λ v. v ∷ log_at s (order_of r steps)) (cond b (Some (event_of e)) None) (log_at s (order_of r steps))) [ true ↦ refl | false ↦ refl ]
+    ]
+
+pub log_at-order_of-none : (r : PlainRecording) (s : ℕ) → log_at s (order_of r []) ≡ []
+unfolding order_of chosen past log_at
+log_at-order_of-none r s = refl
+
+longer : (o : Option Event) (h : History) → length (option_map_or (λ v. v ∷ h) o h) ≡ length h + (if is_some o then 1 else 0)
+longer None h = sym (add-zero (length h))
+longer (Some v) h = sym (add-one (length h))
+
+-- how many events of a station steps record
+pub length-steps-more : (r : PlainRecording) (s : ℕ) (steps : List Step) (k : ℕ) → k < length steps → length (log_at s (order_of r (take (k + 1) steps))) ≡ length (log_at s (order_of r (take k steps))) + (if is_some (own_event r s (slice_index_or steps k no_step).place) then 1 else 0)
+length-steps-more r s steps k within =
+    ap (λ xs. length (log_at s (order_of r xs))) (take_more steps k no_step within)
+    ∙ ap length (log_at-order_of-snoc r s (take k steps) (slice_index_or steps k no_step))
+    ∙ longer (own_event r s (slice_index_or steps k no_step).place) (log_at s (order_of r (take k steps)))
+
+pub length-steps-none : (r : PlainRecording) (s : ℕ) → length (log_at s (order_of r [])) ≡ 0
+length-steps-none r s = ap length (log_at-order_of-none r s)
+
+pub length-entries-more : (r : PlainRecording) (s i : ℕ) → length (log_before r s (i + 1)) ≡ length (log_before r s i) + (if is_some (own_event r s i) then 1 else 0)
+length-entries-more r s i = ap (λ n. length (log_before r s n)) (add-one i) ∙ ap length (log_before-more r s i) ∙ longer (own_event r s i) (log_before r s i)
+
+pub length-entries-none : (r : PlainRecording) (s : ℕ) → length (log_before r s 0) ≡ 0
+length-entries-none r s = ap length (log_before-none r s)
+
+-- the first sender among what is left
+pub first_sender-drop : (es : List Entry) (b : List ℕ) (steps : List Step) (k : ℕ) → k < length steps → first_sender es b (drop k steps) ≡ (if option_map_or (λ e. sends b (event_of e)) (slice_get es (slice_index_or steps k no_step).place) false then Some (slice_index_or steps k no_step).place else first_sender es b (drop (k + 1) steps))
+unfolding first_sender
+first_sender-drop es b steps k within = ap (first_sender es b) (drop_more steps k no_step within)
+
+pub first_sender-all : (es : List Entry) (b : List ℕ) (steps : List Step) (k : ℕ) → length steps ≤ k → first_sender es b (drop k steps) ≡ None
+unfolding first_sender
+first_sender-all es b steps k past = ap (first_sender es b) (drop_all k steps past)
+
+pub first_sender-none : (es : List Entry) (b : List ℕ) → first_sender es b [] ≡ None
+unfolding first_sender
+first_sender-none es b = refl
+
+is_some-first : (es : List Entry) (b : List ℕ) (step : Step) (o : Option ℕ) → is_some (if option_map_or (λ e. sends b (event_of e)) (slice_get es step.place) false then Some step.place else o) ≡ (is_some o || list_any (sends b) (past (option_to_list (slice_get es step.place))))
+unfolding past
+is_some-first es b step o =
+    elim (slice_get es step.place) as (λ m. is_some (if option_map_or (λ e. sends b (event_of e)) m false then Some step.place else o) ≡ (is_some o || list_any (sends b) (past (option_to_list m)))) [
+      | None ↦ sym (or_false (is_some o))
+      | Some e ↦ elim (sends b (event_of e)) as (λ t. is_some (if t then Some step.place else o) ≡ (is_some o || (t || false))) [ true ↦ sym (or_true (is_some o)) | false ↦ sym (or_false (is_some o)) ]
+    ]
+
+sender_along : (es : List Entry) (b : List ℕ) (steps : List Step) → is_some (first_sender es b steps) ≡ list_any (sends b) (past (chosen es steps))
+unfolding first_sender chosen past
+sender_along es b [] = refl
+sender_along es b (step ∷ steps) =
+    is_some-first es b step (first_sender es b steps)
+    ∙ ap (λ t. t || list_any (sends b) (past (option_to_list (slice_get es step.place)))) (sender_along es b steps)
+    ∙ sym (list_any-append (sends b) (past (chosen es steps)) (past (option_to_list (slice_get es step.place))))
+    ∙ ap (list_any (sends b)) (sym (past-append (option_to_list (slice_get es step.place)) (chosen es steps)))
+
+-- there is a first sender where the bytes were sent
+pub is_some-first_sender : (r : PlainRecording) (b : List ℕ) (steps : List Step) → is_some (first_sender r.entries b steps) ≡ was_sent b (order_of r steps)
+unfolding was_sent order_of
+is_some-first_sender r b steps = sender_along r.entries b steps
+
+pub ruleset order_steps = (length-steps-more, length-steps-none, length-entries-more, length-entries-none, first_sender-drop, first_sender-all, first_sender-none)
+
+pub ruleset sender_steps = (is_some-first_sender)

@@ -1,0 +1,4 @@
+pub mod Order
+pub mod Goodness
+pub mod Sent
+pub mod Checked

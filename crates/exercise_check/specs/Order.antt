@@ -1,0 +1,45 @@
+-- The order that a certificate names, and the links of its steps (profile).
+use Rattle.std.specs.Prelude.{ℕ, List, [], ◌∷◌, ◌++◌, length, slice_get, slice_index_or, Option, Some, None, option_and_then, unwrap_or, ◌==◌, Bool, true, false, if◌then◌else◌}
+use Rattle.std.specs.Option.{option_map_or, option_to_list}
+use Rattle.siman_pdus.specs.declared.pdu.Pdu.{Pdu}
+use Rattle.exercise_recording.specs.Entry.{Entry}
+use Rattle.exercise_recording.specs.Recording.{PlainRecording}
+use Rattle.exercise_recording.specs.History.{Event, Send, Get, Tell, History, event_of, station_of, past, log_at}
+use Rattle.exercise_recording.specs.Meaning.{meaning}
+use Rattle.exercise_recording.specs.Exchange.{is_answer_body}
+use Rattle.exercise_recording.specs.Cause.{sends}
+use Rattle.exercise_recording.specs.Place.{log_before, entry_taken_up}
+use Rattle.exercise_check.specs.declared.certificate.Step.{Step}
+
+-- the entries that steps name, in the order of the steps
+unfoldable pub chosen : List Entry → List Step → List Entry
+chosen entries [] = []
+chosen entries (step ∷ steps) = option_to_list (slice_get entries step.place) ++ chosen entries steps
+
+-- THE ORDER THAT A CERTIFICATE NAMES: the events of the entries that its steps name, the last first
+unfoldable pub order_of : PlainRecording → List Step → History
+order_of r steps = past (chosen r.entries steps)
+
+-- the event of entry `place` is its station's next one: as many events of the station come before it in the order as entries of the station stand before it
+unfoldable pub is_next : PlainRecording → List Step → ℕ → Event → Bool
+is_next r before place v = length (log_at (station_of v) (order_of r before)) == length (log_before r (station_of v) place)
+
+-- the entry of the first step that sends a datagram of these bytes
+unfoldable pub first_sender : List Entry → List ℕ → List Step → Option ℕ
+first_sender entries b [] = None
+first_sender entries b (step ∷ steps) =
+    if option_map_or (λ e. sends b (event_of e)) (slice_get entries step.place) false then Some step.place else first_sender entries b steps
+
+-- the entry of the request that a PDU takes up which station s sends at entry `place`, if it is an answer
+abbrev pub link_of_sent : PlainRecording → ℕ → ℕ → Pdu → Option ℕ
+link_of_sent r s place p = if is_answer_body p.body then entry_taken_up r s p place else None
+
+-- THE LINK OF A STEP: for an answer that is sent the entry of the request that it takes up, for a datagram that is received and means something the entry of the first Send before with the same bytes, for all else none
+unfoldable pub link_of : PlainRecording → List Step → ℕ → Event → Option ℕ
+link_of r before place (Send s b) = option_and_then (link_of_sent r s place) (meaning r.exercise b)
+link_of r before place (Get s b) = option_and_then (λ (p : Pdu). first_sender r.entries b before) (meaning r.exercise b)
+link_of r before place (Tell s e y) = None
+
+-- how a link is written: none as 0xFFFFFFFF
+abbrev pub link_number : Option ℕ → ℕ
+link_number link = unwrap_or link 0xFFFFFFFF

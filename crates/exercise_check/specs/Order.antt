@@ -8,7 +8,8 @@ use Rattle.exercise_recording.specs.History.{Event, Send, Get, Tell, History, ev
 use Rattle.exercise_recording.specs.Meaning.{meaning}
 use Rattle.exercise_recording.specs.Exchange.{is_answer_body}
 use Rattle.exercise_recording.specs.Cause.{sends}
-use Rattle.exercise_recording.specs.Place.{log_before, entry_taken_up}
+use Rattle.exercise_recording.specs.Place.{log_before}
+use Rattle.exercise_recording.specs.Account.{pair_of_sent}
 use Rattle.exercise_check.specs.declared.certificate.Step.{Step}
 
 -- the entries that steps name, in the order of the steps
@@ -30,13 +31,9 @@ first_sender entries b [] = None
 first_sender entries b (step ∷ steps) =
     if option_map_or (λ e. sends b (event_of e)) (slice_get entries step.place) false then Some step.place else first_sender entries b steps
 
--- the entry of the request that a PDU takes up which station s sends at entry `place`, if it is an answer
-abbrev pub link_of_sent : PlainRecording → ℕ → ℕ → Pdu → Option ℕ
-link_of_sent r s place p = if is_answer_body p.body then entry_taken_up r s p place else None
-
 -- THE LINK OF A STEP: for an answer that is sent the entry of the request that it takes up, for a datagram that is received and means something the entry of the first Send before with the same bytes, for all else none
 unfoldable pub link_of : PlainRecording → List Step → ℕ → Event → Option ℕ
-link_of r before place (Send s b) = option_and_then (link_of_sent r s place) (meaning r.exercise b)
+link_of r before place (Send s b) = option_and_then (pair_of_sent r s place) (meaning r.exercise b)
 link_of r before place (Get s b) = option_and_then (λ (p : Pdu). first_sender r.entries b before) (meaning r.exercise b)
 link_of r before place (Tell s e y) = None
 

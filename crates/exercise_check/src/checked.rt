@@ -3,10 +3,14 @@
 use dis_records::EntityState;
 use std::marker::Model;
 
-/// What the run says that a good certificate names.
+/// What each run says that explains a recording: it is read from each station's log alone, so
+/// every good certificate gives the same.
 #[derive(Debug, Drop)]
 pub struct Checked {
     states: Vec<Vec<(u16, EntityState)>>,
+    pairs: Vec<Option<u32>>,
+    causes: Vec<Option<u32>>,
+    others: u32,
 }
 
 impl Model for Checked {
@@ -15,18 +19,28 @@ impl Model for Checked {
 
     ghost Value = { CheckedData };
 
-    ghost view = { λ c. record { states = map (λ v. v.items) c.states.items } };
+    ghost view = { λ c. record { states = map (λ v. v.items) c.states.items; pairs = c.pairs.items; causes = c.causes.items; others = c.others } };
 }
 
 impl Checked {
-    ghost use Rattle.std.specs.Prelude.{◌≡◌, map, slice_index_or, []};
+    ghost use Rattle.std.specs.Prelude.{◌≡◌, map, slice_index_or, [], None};
     ghost use Rattle.exercise_check.specs.Checked.{CheckedData};
 
     /// What these parts say.
-    pub(crate) fn of(states: Vec<Vec<(u16, EntityState)>>) -> Checked
-        ensures { let c : CheckedData = record { states = map (λ v. v.items) states.items } in result ≡ c }
+    pub(crate) fn of(
+        states: Vec<Vec<(u16, EntityState)>>,
+        pairs: Vec<Option<u32>>,
+        causes: Vec<Option<u32>>,
+        others: u32,
+    ) -> Checked
+        ensures { let c : CheckedData = record { states = map (λ v. v.items) states.items; pairs = pairs.items; causes = causes.items; others = others } in result ≡ c }
     {
-        Checked { states }
+        Checked {
+            states,
+            pairs,
+            causes,
+            others,
+        }
     }
 
     /// The entities of the station of an index, from 0, that are not Absent at the end of the run,
@@ -38,5 +52,34 @@ impl Checked {
             Some(entities) => entities.as_slice(),
             None => &[],
         }
+    }
+
+    /// For an answer that was sent, the entry of the request that it takes up; `None` for all else
+    /// and past the last entry. It takes no memory.
+    pub fn pair(&self, entry: usize) -> Option<u32>
+        ensures { result ≡ slice_index_or self.now.pairs entry None }
+    {
+        match self.pairs.get(entry) {
+            Some(pair) => *pair,
+            None => None,
+        }
+    }
+
+    /// For an Able Acknowledge that was received, the entry of the first Able that its originator's
+    /// station sent under its key; `None` for all else and past the last entry. It takes no memory.
+    pub fn cause(&self, entry: usize) -> Option<u32>
+        ensures { result ≡ slice_index_or self.now.causes entry None }
+    {
+        match self.causes.get(entry) {
+            Some(cause) => *cause,
+            None => None,
+        }
+    }
+
+    /// How many datagrams are "other". It takes no memory.
+    pub fn others(&self) -> u32
+        ensures { result ≡ self.now.others }
+    {
+        self.others
     }
 }

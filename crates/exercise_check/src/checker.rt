@@ -1,14 +1,14 @@
 //! The checker: the plain program of the definitions.
 
-ghost use Rattle.std.specs.Prelude.{◌≡◌, ◌≢◌, ◌<◌, ℕ, length, slice_index_or, [], OnOk, IfOk, IfErr, IfSome, Err};
+ghost use Rattle.std.specs.Prelude.{◌≡◌, ◌≢◌, length, OnOk, IfOk, IfErr, Err};
 ghost use Rattle.exercise_recording.specs.Run.{Explains};
-ghost use Rattle.exercise_recording.specs.Account.{states_of};
 ghost use Rattle.exercise_check.specs.Order.{order_of};
-ghost use Rattle.exercise_check.specs.Goodness.{cause_at, GoodBelow, IsGood, Refuses};
+ghost use Rattle.exercise_check.specs.Goodness.{IsGood, Refuses};
+ghost use Rattle.exercise_check.specs.Checked.{TellsAccount};
 
+use crate::account::{changes, others, pairs, states};
 use crate::certificate::{Certificate, Step};
 use crate::checked::Checked;
-use crate::entities::states;
 use crate::steps::step_cause;
 use exercise_recording::{Cause, ExerciseLog};
 use std::alloc::{AllocError, Global};
@@ -64,7 +64,7 @@ pub fn check<L: ExerciseLog>(
 ) -> Result<Checked, CheckFault>
     ensures good { OnOk result (IsGood (L.recording log.now) certificate.now.steps.items) }
     ensures explains { let r = L.recording log.now in OnOk result (Explains r (order_of r certificate.now.steps.items)) }
-    ensures states { let r = L.recording log.now in IfOk result (λ checked. (s : ℕ) → slice_index_or checked.states s [] ≡ states_of r s) }
+    ensures account { IfOk result (λ checked. TellsAccount (L.recording log.now) checked) }
     ensures bad { IfErr result (Refuses (L.recording log.now) certificate.now.steps.items) }
     ensures count { length certificate.now.steps.items ≢ length (L.recording log.now).entries → result ≡ Err (CheckFault.Bad 0 Cause.CountDiffers) }
 {
@@ -76,5 +76,8 @@ pub fn check<L: ExerciseLog>(
         });
     }
     judge(alloc, log, steps)?;
-    Ok(Checked::of(states(alloc, log)?))
+    let pairs = pairs(alloc, log)?;
+    let causes = changes(alloc, log)?;
+    let others = others(alloc, log)?;
+    Ok(Checked::of(states(alloc, log)?, pairs, causes, others))
 }

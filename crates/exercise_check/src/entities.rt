@@ -5,7 +5,7 @@ ghost use Rattle.std.specs.Option.{option_to_list};
 ghost use Rattle.exercise_recording.specs.Station.{is_absent, listed_state};
 ghost use Rattle.exercise_recording.specs.History.{log_of, station_at};
 ghost use Rattle.exercise_recording.specs.State.{changes_of, after_changes, state_after};
-ghost use Rattle.exercise_recording.specs.Account.{entities_of, states_below};
+ghost use Rattle.exercise_recording.specs.Account.{entities_of};
 
 use crate::station_log::change_made;
 use dis_records::EntityState;
@@ -67,7 +67,7 @@ fn after_changes(station: &Station, changes: &[Change], entity: u16) -> EntitySt
 
 /// The entities of a station that are not Absent after its log, by rising numbers.
 #[tactic(auto, unfolding(exercise_recording::specs::State::state_after), using(exercise_recording::proofs::Changes::change_steps))]
-fn entities<L: ExerciseLog>(
+pub(crate) fn entities<L: ExerciseLog>(
     alloc: Global,
     log: &L,
     station: usize,
@@ -82,19 +82,4 @@ fn entities<L: ExerciseLog>(
         push_present(&mut entities, entity, state)?;
     }
     Ok(entities)
-}
-
-/// The same for each station, by rising indices.
-#[tactic(auto, using(exercise_recording::proofs::Changes::change_steps))]
-pub(crate) fn states<L: ExerciseLog>(
-    alloc: Global,
-    log: &L,
-) -> Result<Vec<Vec<(u16, EntityState)>>, AllocError>
-    ensures { let r = L.recording log.now in IfOk result (λ states. map (λ v. v.items) states.items ≡ states_below r (length r.stations)) }
-{
-    let mut states = Vec::new(alloc);
-    for station in 0..log.station_count() {
-        states.push(entities(alloc, log, station)?)?;
-    }
-    Ok(states)
 }

@@ -1,6 +1,7 @@
 //! Certificates of exercise recordings, and the checker.
 #![tactic(auto)]
 
+mod account;
 mod certificate;
 mod checker;
 mod checked;

@@ -115,7 +115,7 @@ pub(crate) fn was_acknowledged<L: ExerciseLog>(
 
 /// Whether an entry of a station sends an Acknowledge with this response flag under this key.
 #[tactic(auto, using(crate::proofs::Sent::sent_steps))]
-fn acknowledges<L: ExerciseLog>(
+pub(crate) fn acknowledges<L: ExerciseLog>(
     alloc: Global,
     log: &L,
     station: usize,

@@ -7,7 +7,8 @@ ghost use Rattle.exercise_recording.specs.Held.{shown};
 ghost use Rattle.exercise_recording.specs.Setting.{setting_of, is_recorded};
 ghost use Rattle.exercise_recording.specs.Cause.{sends, get_cause, cause_of};
 ghost use Rattle.exercise_recording.specs.Place.{log_before, own_event};
-ghost use Rattle.exercise_check.specs.Order.{order_of, first_sender, link_of, link_of_sent, link_number};
+ghost use Rattle.exercise_check.specs.Order.{order_of, first_sender, link_of, link_number};
+ghost use Rattle.exercise_recording.specs.Account.{pair_of_sent};
 ghost use Rattle.exercise_check.specs.Goodness.{step_cause, ArePlaced, IsReady, GoodBelow};
 
 use crate::certificate::{NO_LINK, Step};
@@ -163,7 +164,7 @@ fn cause_of<L: ExerciseLog>(
 }
 
 /// The entry that an answer is linked with which a station sends at an entry.
-fn link_of_sent<L: ExerciseLog>(
+pub(crate) fn pair_of_sent<L: ExerciseLog>(
     alloc: Global,
     log: &L,
     station: usize,
@@ -172,7 +173,7 @@ fn link_of_sent<L: ExerciseLog>(
 ) -> Result<Option<usize>, AllocError>
     requires at { station < length (L.recording log.now).stations }
     requires within { place < length (L.recording log.now).entries }
-    ensures link { let r = L.recording log.now in IfOk result (λ link. link ≡ link_of_sent r station place pdu.now) }
+    ensures link { let r = L.recording log.now in IfOk result (λ link. link ≡ pair_of_sent r station place pdu.now) }
     ensures within { IfOk result (λ link. IfSome link (λ e. e < length (L.recording log.now).entries)) }
 {
     if !is_answer(pdu) {
@@ -199,7 +200,7 @@ fn link_of<L: ExerciseLog>(
 {
     match log.entry(place) {
         EntryView::Sent { station, bytes, .. } => match meaning_of(alloc, log.exercise(), bytes)? {
-            Some(pdu) => link_of_sent(alloc, log, usize::from(station), place, &pdu),
+            Some(pdu) => pair_of_sent(alloc, log, usize::from(station), place, &pdu),
             None => Ok(None),
         },
         EntryView::Received { bytes, .. } => match meaning_of(alloc, log.exercise(), bytes)? {

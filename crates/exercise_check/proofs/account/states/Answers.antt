@@ -1,8 +1,8 @@
 use Rattle.std.proofs.Common.{◌≡◌, List, [], ◌∷◌, ◌++◌, map, ap, sym, ◌∙◌}
 use Rattle.std.proofs.lemmas.List.{map-append}
-use Rattle.exercise_recording.specs.Account.{states_below}
-use Rattle.exercise_recording.proofs.Changes.{states_below-more}
-use Rattle.exercise_check.proofs.entities.states.Goals as goal
+use Rattle.exercise_recording.specs.Account.{entities_of, values_below}
+use Rattle.exercise_recording.proofs.Accounts.{values_below-more}
+use Rattle.exercise_check.proofs.account.states.Goals as goal
 
 pub loop-station-preserved : goal.loop-station-preserved
 loop-station-preserved g c =
@@ -10,5 +10,5 @@ loop-station-preserved g c =
     ap (map (λ v. v.items)) c.in_ok-push.ensures.items
     ∙ map-append (λ v. v.items) c.loop-station.states.items (c.in_ok-entities.field-0 ∷ [])
     ∙ ap (λ xs. xs ++ c.in_ok-entities.field-0.items ∷ []) c.loop-station.invariant
-    ∙ ap (λ x. states_below r c.loop-station.station ++ x ∷ []) c.in_ok-entities.ensures
-    ∙ sym (states_below-more r c.loop-station.station)
+    ∙ ap (λ x. values_below (entities_of r) c.loop-station.station ++ x ∷ []) c.in_ok-entities.ensures
+    ∙ sym (values_below-more (entities_of r) c.loop-station.station)

@@ -1,0 +1,9 @@
+use Rattle.std.proofs.Common.{◌≡◌}
+use Rattle.exercise_recording.specs.History.{station_at}
+use Rattle.exercise_recording.specs.Setting.{is_from}
+use Rattle.exercise_recording.specs.Place.{first_below}
+use Rattle.exercise_check.proofs.account.sender_of.Given as goal
+
+abbrev pub invariant-loop-station : goal.invariant-loop-station
+invariant-loop-station g l =
+    l.found ≡ first_below (λ t. is_from (station_at (g.L.ExerciseLog.recording l.log) t).address l.pdu) l.station

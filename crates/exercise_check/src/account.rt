@@ -1,0 +1,192 @@
+//! What a recording says, read from each station's log alone and looked through anew at each
+//! question.
+
+ghost use Rattle.std.specs.Prelude.{◌≡◌, ◌<◌, ◌≤◌, ◌+◌, length, map, take, slice_get, IfOk, IfSome, if◌then◌else◌};
+ghost use Rattle.exercise_recording.specs.Held.{shown};
+ghost use Rattle.exercise_recording.specs.Account.{pair_of, sender_of, sends_able, first_able, change_under, change_behind_pdu, change_behind, is_other, others_among, others_of, entities_of, values_below};
+
+use crate::entities::entities;
+use crate::station_log::acknowledges;
+use crate::steps::pair_of_sent;
+use dis_records::EntityState;
+use exercise_recording::{
+    ABLE, AcknowledgeKey, EntryView, ExerciseLog, is_from, key_of, meaning_of, responds,
+};
+use siman_pdus::Pdu;
+use std::alloc::{AllocError, Global};
+
+/// The number of an entry, which every one is in 32 bits.
+fn number(entry: Option<usize>) -> Option<u32>
+    requires { IfSome entry (λ e. e < 4294967296) }
+    ensures { result ≡ entry }
+{
+    match entry {
+        Some(entry) => Some(entry as u32),
+        None => None,
+    }
+}
+
+/// The entry of the request that an entry's answer takes up, where it is an answer that was sent.
+#[tactic(auto, unfolding(exercise_recording::specs::Account::pair_of))]
+fn pair_of<L: ExerciseLog>(
+    alloc: Global,
+    log: &L,
+    entry: usize,
+) -> Result<Option<usize>, AllocError>
+    requires { entry < length (L.recording log.now).entries }
+    ensures pair { IfOk result (λ pair. pair ≡ pair_of (L.recording log.now) entry) }
+    ensures within { IfOk result (λ pair. IfSome pair (λ e. e < length (L.recording log.now).entries)) }
+{
+    match log.entry(entry) {
+        EntryView::Sent { station, bytes, .. } => match meaning_of(alloc, log.exercise(), bytes)? {
+            Some(pdu) => pair_of_sent(alloc, log, usize::from(station), entry, &pdu),
+            None => Ok(None),
+        },
+        EntryView::Received { .. } | EntryView::Told { .. } => Ok(None),
+    }
+}
+
+/// The recorded station that a PDU comes from.
+#[tactic(auto, unfolding(exercise_recording::specs::Account::sender_of), using(exercise_recording::proofs::Accounts::account_steps))]
+fn sender_of<L: ExerciseLog>(log: &L, pdu: &Pdu) -> Option<usize>
+    ensures { result ≡ sender_of (L.recording log.now) pdu.now }
+{
+    let mut found = None;
+    for station in 0..log.station_count() {
+        if found.is_none() && is_from(log.station(station).address(), pdu) {
+            found = Some(station);
+        }
+    }
+    found
+}
+
+/// The entry of the first Able that a station sends under a key.
+#[tactic(auto, unfolding(exercise_recording::specs::Account::first_able), using(exercise_recording::proofs::Accounts::account_steps))]
+fn first_able<L: ExerciseLog>(
+    alloc: Global,
+    log: &L,
+    key: &AcknowledgeKey,
+    station: usize,
+) -> Result<Option<usize>, AllocError>
+    ensures able { IfOk result (λ able. able ≡ first_able (L.recording log.now) key.now station) }
+    ensures within { IfOk result (λ able. IfSome able (λ e. e < length (L.recording log.now).entries)) }
+{
+    let mut found = None;
+    for entry in 0..log.entry_count() {
+        if found.is_none() && acknowledges(alloc, log, station, ABLE, key, entry)? {
+            found = Some(entry);
+        }
+    }
+    Ok(found)
+}
+
+/// The entry of the first Able under the key of a PDU that its originator's station sent, where
+/// the PDU is an Able Acknowledge.
+fn change_behind_pdu<L: ExerciseLog>(
+    alloc: Global,
+    log: &L,
+    pdu: &Pdu,
+) -> Result<Option<usize>, AllocError>
+    ensures change { IfOk result (λ change. change ≡ change_behind_pdu (L.recording log.now) pdu.now) }
+    ensures within { IfOk result (λ change. IfSome change (λ e. e < length (L.recording log.now).entries)) }
+{
+    match key_of(pdu) {
+        Some(key) if responds(ABLE, pdu) => match sender_of(log, pdu) {
+            Some(station) => first_able(alloc, log, &key, station),
+            None => Ok(None),
+        },
+        _ => Ok(None),
+    }
+}
+
+/// The change behind an entry, where it is an Able Acknowledge that was received.
+#[tactic(auto, unfolding(exercise_recording::specs::Account::change_behind))]
+fn change_behind<L: ExerciseLog>(
+    alloc: Global,
+    log: &L,
+    entry: usize,
+) -> Result<Option<usize>, AllocError>
+    requires { entry < length (L.recording log.now).entries }
+    ensures change { IfOk result (λ change. change ≡ change_behind (L.recording log.now) entry) }
+    ensures within { IfOk result (λ change. IfSome change (λ e. e < length (L.recording log.now).entries)) }
+{
+    match log.entry(entry) {
+        EntryView::Received { bytes, .. } => match meaning_of(alloc, log.exercise(), bytes)? {
+            Some(pdu) => change_behind_pdu(alloc, log, &pdu),
+            None => Ok(None),
+        },
+        EntryView::Sent { .. } | EntryView::Told { .. } => Ok(None),
+    }
+}
+
+/// 1 for an entry that has a datagram that is "other", and 0 for every other entry.
+fn count_other(alloc: Global, exercise: u8, entry: &EntryView<'_>) -> Result<u32, AllocError>
+    ensures { IfOk result (λ count. count ≡ (if is_other exercise (shown entry.now) then 1 else 0)) }
+{
+    match entry {
+        EntryView::Sent { bytes, .. } | EntryView::Received { bytes, .. } => {
+            match meaning_of(alloc, exercise, bytes)? {
+                Some(_) => Ok(0),
+                None => Ok(1),
+            }
+        }
+        EntryView::Told { .. } => Ok(0),
+    }
+}
+
+/// How many datagrams are "other".
+#[tactic(auto, unfolding(exercise_recording::specs::Account::others_of))]
+pub(crate) fn others<L: ExerciseLog>(alloc: Global, log: &L) -> Result<u32, AllocError>
+    ensures { IfOk result (λ others. others ≡ others_of (L.recording log.now)) }
+{
+    let mut others = 0;
+    for i in 0..log.entry_count() {
+        others += count_other(alloc, log.exercise(), &log.entry(i))?;
+    }
+    Ok(others)
+}
+
+/// The pair of each entry.
+#[tactic(auto, using(exercise_recording::proofs::Accounts::account_steps))]
+pub(crate) fn pairs<L: ExerciseLog>(
+    alloc: Global,
+    log: &L,
+) -> Result<Vec<Option<u32>>, AllocError>
+    ensures { let r = L.recording log.now in IfOk result (λ pairs. pairs.items ≡ values_below (pair_of r) (length r.entries)) }
+{
+    let mut pairs = Vec::new(alloc);
+    for entry in 0..log.entry_count() {
+        pairs.push(number(pair_of(alloc, log, entry)?))?;
+    }
+    Ok(pairs)
+}
+
+/// The change behind each entry.
+#[tactic(auto, using(exercise_recording::proofs::Accounts::account_steps))]
+pub(crate) fn changes<L: ExerciseLog>(
+    alloc: Global,
+    log: &L,
+) -> Result<Vec<Option<u32>>, AllocError>
+    ensures { let r = L.recording log.now in IfOk result (λ changes. changes.items ≡ values_below (change_behind r) (length r.entries)) }
+{
+    let mut changes = Vec::new(alloc);
+    for entry in 0..log.entry_count() {
+        changes.push(number(change_behind(alloc, log, entry)?))?;
+    }
+    Ok(changes)
+}
+
+/// The entities of each station that are not Absent after its log.
+#[tactic(auto, using(exercise_recording::proofs::Accounts::account_steps))]
+pub(crate) fn states<L: ExerciseLog>(
+    alloc: Global,
+    log: &L,
+) -> Result<Vec<Vec<(u16, EntityState)>>, AllocError>
+    ensures { let r = L.recording log.now in IfOk result (λ states. map (λ v. v.items) states.items ≡ values_below (entities_of r) (length r.stations)) }
+{
+    let mut states = Vec::new(alloc);
+    for station in 0..log.station_count() {
+        states.push(entities(alloc, log, station)?)?;
+    }
+    Ok(states)
+}

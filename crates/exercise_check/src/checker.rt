@@ -2,6 +2,7 @@
 
 ghost use Rattle.std.specs.Prelude.{◌≡◌, ◌≢◌, length, OnOk, IfOk, IfErr, Err};
 ghost use Rattle.exercise_recording.specs.Run.{Explains};
+ghost use Rattle.exercise_recording.specs.Headline.{Holds};
 ghost use Rattle.exercise_check.specs.Order.{order_of};
 ghost use Rattle.exercise_check.specs.Goodness.{IsGood, Refuses};
 ghost use Rattle.exercise_check.specs.Checked.{TellsAccount};
@@ -64,6 +65,7 @@ pub fn check<L: ExerciseLog>(
 ) -> Result<Checked, CheckFault>
     ensures good { OnOk result (IsGood (L.recording log.now) certificate.now.steps.items) }
     ensures explains { let r = L.recording log.now in OnOk result (Explains r (order_of r certificate.now.steps.items)) }
+    ensures holds { let r = L.recording log.now in OnOk result (Holds r (order_of r certificate.now.steps.items)) }
     ensures account { IfOk result (λ checked. TellsAccount (L.recording log.now) checked) }
     ensures bad { IfErr result (Refuses (L.recording log.now) certificate.now.steps.items) }
     ensures count { length certificate.now.steps.items ≢ length (L.recording log.now).entries → result ≡ Err (CheckFault.Bad 0 Cause.CountDiffers) }

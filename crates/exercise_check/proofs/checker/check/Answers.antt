@@ -1,6 +1,8 @@
 use Rattle.std.proofs.Common.{rules, ◌≡◌, [], None, slice_index_or, length, ap, ◌∙◌, arith}
 use Rattle.std.proofs.lemmas.Grind.{common_steps}
 use Rattle.exercise_recording.proofs.Accounts.{states-all, pairs-all, changes-all}
+use Rattle.exercise_recording.proofs.Sentences.{explained_holds}
+use Rattle.exercise_check.specs.Order.{order_of}
 use Rattle.exercise_check.specs.Goodness.{IsGood}
 use Rattle.exercise_check.proofs.Explained.{good_explains}
 use Rattle.exercise_check.proofs.checker.check.Goals as goal
@@ -10,6 +12,13 @@ returns-clause-explains g c =
     let r = g.L.ExerciseLog.recording c.args.log.now in
     let good : IsGood r c.args.certificate.now.steps.items = first_of (search rules, grind (arith, common_steps)) in
     good_explains r c.entry_count.ensures.limits c.args.certificate.now.steps.items good
+
+pub returns-clause-holds : goal.returns-clause-holds
+returns-clause-holds g c =
+    let r = g.L.ExerciseLog.recording c.args.log.now in
+    let steps = c.args.certificate.now.steps.items in
+    let good : IsGood r steps = first_of (search rules, grind (arith, common_steps)) in
+    explained_holds r (order_of r steps) c.entry_count.ensures.limits (good_explains r c.entry_count.ensures.limits steps good)
 
 pub returns-clause-account : goal.returns-clause-account
 returns-clause-account g c =

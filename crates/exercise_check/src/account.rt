@@ -148,10 +148,7 @@ pub(crate) fn others<L: ExerciseLog>(alloc: Global, log: &L) -> Result<u32, Allo
 
 /// The pair of each entry.
 #[tactic(auto, using(exercise_recording::proofs::Accounts::account_steps))]
-pub(crate) fn pairs<L: ExerciseLog>(
-    alloc: Global,
-    log: &L,
-) -> Result<Vec<Option<u32>>, AllocError>
+pub(crate) fn pairs<L: ExerciseLog>(alloc: Global, log: &L) -> Result<Vec<Option<u32>>, AllocError>
     ensures { let r = L.recording log.now in IfOk result (λ pairs. pairs.items ≡ values_below (pair_of r) (length r.entries)) }
 {
     let mut pairs = Vec::new(alloc);

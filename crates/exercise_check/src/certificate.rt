@@ -1,20 +1,23 @@
 //! Certificates.
 
-/// One step of a certificate.
+/// The link of a step that has none.
+pub const NO_LINK: u32 = 0xFFFF_FFFF;
+
+/// A step of an order of a recording's entries: which entry comes next, and what it takes up.
 #[derive(Clone, Copy, Debug, PartialEq, Eq)]
 pub struct Step {
     /// The number of an entry of the recording, from 0.
     pub place: u32,
-    /// The entry that it is linked with, or 0xFFFFFFFF for none.
+    /// For an answer that was sent, the number of the entry of the request that it takes up; for a
+    /// datagram that was received and means something, that of the first earlier entry in this
+    /// order that sent the same bytes; for all else [`NO_LINK`].
     pub link: u32,
 }
 
-/// An order of the entries of a recording.
+/// An order of a recording's entries, step by step. Any numbers may stand in it: whether it
+/// explains a recording is for the checker.
 #[derive(Debug, Drop)]
 pub struct Certificate {
-    /// In the order of the run.
+    /// The steps, the first one first.
     pub steps: Vec<Step>,
 }
-
-/// The link of a step that is linked with nothing.
-pub const NO_LINK: u32 = 0xFFFF_FFFF;

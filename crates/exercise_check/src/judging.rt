@@ -7,9 +7,7 @@ ghost use Rattle.exercise_recording.specs.State.{state_after};
 ghost use Rattle.exercise_recording.specs.Cause.{is_changed_answer, is_hopeless, is_hopeless_for, is_impossible, send_cause};
 ghost use Rattle.exercise_recording.specs.Place.{log_before};
 
-use crate::station_log::{
-    is_change, is_reused, request_taken_up, state_before, was_acknowledged,
-};
+use crate::station_log::{is_change, is_reused, request_taken_up, state_before, was_acknowledged};
 use dis_records::{EntityState, Kind, Scope};
 use exercise_recording::{
     ABLE, Cause, Change, ExerciseLog, UNABLE, is_answer, is_entity, is_from, key_of, responds,

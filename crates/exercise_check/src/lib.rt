@@ -1,15 +1,36 @@
-//! Certificates of exercise recordings, and the checker.
+//! Certificates of recordings: an order of the entries that is to explain what each station did,
+//! the file format that keeps it, and the checker.
+//!
+//! [`check`] trusts nothing but a log and a certificate: a yes is a run that explains the recording,
+//! and a no names the first bad step and the first cause that holds there. Its body is the plain
+//! program of the definitions, which looks through the log and the earlier steps anew at each
+//! question. [`read_certificate`] answers the certificate whose text was read or the first field
+//! that is bad, missing or past the limit, [`write_certificate`] writes that text, and
+//! [`text_and_reading_agree`] and [`refusals_hold`] are the laws that tie them.
 #![tactic(auto)]
 
 mod account;
 mod certificate;
-mod checker;
+mod certificate_fault;
+mod certificate_reading;
+mod certificate_text;
 mod checked;
+mod checker;
 mod entities;
 mod judging;
+mod laws;
 mod station_log;
 mod steps;
 
 pub use certificate::{Certificate, NO_LINK, Step};
-pub use checker::{CheckFault, check};
+pub use certificate_fault::{CertificateFault, CertificateFormatFault, CertificateWriterFault};
+pub use certificate_reading::read_certificate;
+pub use certificate_text::write_certificate;
 pub use checked::Checked;
+pub use checker::{CheckFault, check};
+pub use laws::{refusals_hold, text_and_reading_agree};
+
+#[cfg(test)]
+mod certificate_tests;
+#[cfg(test)]
+mod tests;

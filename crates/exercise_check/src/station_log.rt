@@ -12,8 +12,8 @@ ghost use Rattle.exercise_check.specs.Sent.{meant_by_send};
 
 use dis_records::{Address, EntityState};
 use exercise_recording::{
-    ABLE, AcknowledgeKey, Change, EntryView, ExerciseLog, is_asked, is_entity,
-    is_under_identifier, key_of, meaning_of, responds, responds_under,
+    ABLE, AcknowledgeKey, Change, EntryView, ExerciseLog, is_asked, is_entity, is_under_identifier,
+    key_of, meaning_of, responds, responds_under,
 };
 use siman_pdus::{Pdu, same_order};
 use std::alloc::{AllocError, Global};
@@ -136,9 +136,7 @@ pub(crate) fn acknowledges<L: ExerciseLog>(
 fn is_other_order(request: &Pdu, other: &Pdu) -> bool
     ensures { result ≡ is_other_order request.now other.now }
 {
-    other.body.is_request()
-        && is_under_identifier(request, other)
-        && !same_order(request, other)
+    other.body.is_request() && is_under_identifier(request, other) && !same_order(request, other)
 }
 
 /// Whether an entry of a station sends another order under the request identifier of a request.

@@ -109,12 +109,7 @@ fn is_recorded<L: ExerciseLog>(log: &L, pdu: &Pdu) -> bool
 
 /// The first cause against a datagram that a station receives after these steps.
 #[tactic(auto, unfolding(exercise_recording::specs::Cause::get_cause), using(crate::proofs::Orders::sender_steps))]
-fn get_cause<L: ExerciseLog>(
-    log: &L,
-    before: &[Step],
-    datagram: &[u8],
-    pdu: &Pdu,
-) -> Option<Cause>
+fn get_cause<L: ExerciseLog>(log: &L, before: &[Step], datagram: &[u8], pdu: &Pdu) -> Option<Cause>
     requires { ArePlaced (L.recording log.now) before.now }
     ensures { let r = L.recording log.now in result ≡ get_cause (setting_of r) (order_of r before.now) datagram.now pdu.now }
 {

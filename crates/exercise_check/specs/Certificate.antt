@@ -1,0 +1,128 @@
+-- Certificates: the text of their file, numbers big-endian, and how it is read field by field (profile).
+use Rattle.std.specs.Prelude.{◌≡◌, ◌≤◌, ◌<◌, ℕ, zero, suc, ◌+◌, ◌*◌, List, [], ◌∷◌, ◌++◌, length, take, drop, Bool, false, ◌&&◌, nat_lt, nat_le, Option, Some, None, Result, Ok, bytes_eq, codes}
+use Rattle.std.specs.List.{flat_map}
+use Rattle.std.specs.Int.{Width, w32, to_be_bytes, from_be_bytes}
+use Rattle.exercise_recording.specs.declared.source.FieldFault.{FieldFault}
+use Rattle.exercise_recording.specs.declared.source.FieldFault.TheVariants as fields_faults
+use Rattle.exercise_recording.specs.Fields.{Input, Names, ◌>>=◌, judged}
+use Rattle.exercise_recording.specs.Fields as fields
+use Rattle.exercise_check.specs.declared.certificate.Step.{Step}
+use Rattle.exercise_check.specs.declared.certificate.Certificate.{Certificate}
+use Rattle.exercise_check.specs.declared.certificate_fault.CertificateFormatFault.{CertificateFormatFault}
+use Rattle.exercise_check.specs.declared.certificate_fault.CertificateFormatFault.TheVariants as faults
+use Rattle.exercise_check.specs.declared.certificate_fault.CertificateFault.{CertificateFault}
+use Rattle.exercise_check.specs.declared.certificate_fault.CertificateFault.TheVariants.{Format, Read, Memory}
+
+-- ---- the text
+
+-- a step: place, link
+abbrev pub step_text : Step → List ℕ
+step_text s = to_be_bytes w32 s.place ++ to_be_bytes w32 s.link
+
+-- what stands before the steps: the magic, the number of steps
+abbrev pub head_text : ℕ → List ℕ
+head_text count = codes "DSCT0001" ++ to_be_bytes w32 count
+
+-- the one text of a certificate
+abbrev pub certificate_text : List Step → List ℕ
+certificate_text steps = head_text (length steps) ++ flat_map step_text steps
+
+-- the numbers of a step have 32 bits
+abbrev pub is_step : Step → Bool
+is_step s = nat_lt s.place 4294967296 && nat_lt s.link 4294967296
+
+-- ---- reading it
+
+-- how a certificate names what is wrong with a field
+abbrev pub names : Names CertificateFormatFault
+names = record { over_limit = faults.OverLimit; truncated = faults.Truncated }
+
+-- a field, and a number, of a certificate
+abbrev pub field_at : ℕ → Input → Result (List ℕ × Input) CertificateFormatFault
+field_at n i = fields.field_at names n i
+
+abbrev pub number_at : Width → Input → Result (ℕ × Input) CertificateFormatFault
+number_at w i = fields.number_at names w i
+
+-- the magic
+unfoldable pub magic_at : Input → Result Input CertificateFormatFault
+magic_at i = do
+  m ← field_at 8 i
+  judged (bytes_eq m.0 (codes "DSCT0001")) (faults.Magic i.at) m.1
+
+-- the number of steps, at most the limit
+unfoldable pub count_at : (limit : ℕ) → Input → Result (ℕ × Input) CertificateFormatFault
+count_at limit i = fields.number_where names w32 (λ n. nat_le n limit) faults.OverLimit i
+
+-- a step: place, link
+unfoldable pub step_at : Input → Result (Step × Input) CertificateFormatFault
+step_at i = do
+  place ← number_at w32 i
+  link ← number_at w32 place.1
+  Ok (record { place = place.0; link = link.0 }, link.1)
+
+-- so many steps
+unfoldable pub steps_at : ℕ → Input → Result (List Step × Input) CertificateFormatFault
+steps_at zero i = Ok ([], i)
+steps_at (suc left) i = do
+  s ← step_at i
+  ss ← steps_at left s.1
+  Ok (s.0 ∷ ss.0, ss.1)
+
+-- the end of the bytes
+abbrev pub ended : {A : Type 0} → A → Input → Result A CertificateFormatFault
+ended x i = fields.ended faults.Trailing x i
+
+-- the whole of a certificate of at most so many steps
+unfoldable pub whole_at : (limit : ℕ) → Input → Result (List Step) CertificateFormatFault
+whole_at limit i = do
+  m ← magic_at i
+  n ← count_at limit m
+  ss ← steps_at n.0 n.1
+  ended ss.0 ss.1
+
+-- The steps of the certificate whose text the bytes are, at most so many, or the first fault. The text of so many steps has 12 + 8 * limit bytes, so no field that is read ends past these.
+unfoldable pub certificate_at : (limit : ℕ) → List ℕ → Result (List Step) CertificateFormatFault
+certificate_at limit bytes = whole_at limit (record { limit = 12 + 8 * limit; at = 0; bytes = bytes })
+
+-- the number that stands where the steps are counted
+abbrev pub count_of : List ℕ → ℕ
+count_of bytes = from_be_bytes w32 (take 4 (drop 8 bytes))
+
+-- Why the bytes are refused: eight of them that are no magic; or more steps than the limit; or fewer bytes than the head and its steps have; or the text of a certificate with more behind it.
+abbrev pub IsRefused : (limit : ℕ) → List ℕ → CertificateFormatFault → Type 0
+IsRefused limit bytes (faults.Magic at) = (at ≡ 0) × (8 ≤ length bytes) × (bytes_eq (take 8 bytes) (codes "DSCT0001") ≡ false)
+IsRefused limit bytes (faults.OverLimit at) = (at ≡ 8) × (take 8 bytes ≡ codes "DSCT0001") × (12 ≤ length bytes) × (limit < count_of bytes)
+IsRefused limit bytes (faults.Truncated at) = (at ≡ length bytes) × (length bytes < 12 + 8 * count_of bytes)
+IsRefused limit bytes (faults.Trailing at) = (at < length bytes) × ((steps : List Step) × (take at bytes ≡ certificate_text steps) × (length steps ≤ limit))
+
+-- ---- what a function returned
+
+-- a fault of a field, in a certificate
+abbrev pub said : FieldFault → CertificateFault
+said (fields_faults.Truncated at) = Format (faults.Truncated at)
+said (fields_faults.OverLimit at) = Format (faults.OverLimit at)
+said fields_faults.Read = Read
+
+-- the fault of the format, where it is one
+abbrev pub told : CertificateFault → Option CertificateFormatFault
+told (Format fault) = Some fault
+told Read = None
+told Memory = None
+
+-- the steps, without where they lie in memory
+abbrev pub steps_of : Certificate → List Step
+steps_of c = c.steps.items
+
+-- What a function returned is what reading a certificate gives.
+abbrev pub Gives : {X Y : Type 0} → (X → Y) → Result X CertificateFault → Option Input → Result (Y × Input) CertificateFormatFault → Type 0
+Gives view result rest read = fields.Gives told view result rest read
+
+abbrev pub Passes : Result (Unit {0}) CertificateFault → Option Input → Result Input CertificateFormatFault → Type 0
+Passes result rest read = fields.Passes told result rest read
+
+abbrev pub Fills : Result (Unit {0}) CertificateFault → List ℕ → Option Input → Result (List ℕ × Input) CertificateFormatFault → Type 0
+Fills result filled rest read = fields.Fills told result filled rest read
+
+abbrev pub Answers : {X Y : Type 0} → (X → Y) → Result X CertificateFault → Result Y CertificateFormatFault → Type 0
+Answers view result read = fields.Answers told view result read

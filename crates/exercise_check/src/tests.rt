@@ -1,0 +1,5 @@
+//! Certificates at work, with literal datagrams, places and links.
+
+mod datagrams;
+mod scenes;
+mod verdicts;

@@ -2,7 +2,8 @@
 //! the file format that keeps it, and the checker.
 //!
 //! [`check`] trusts nothing but a log and a certificate: a yes is a run that explains the recording,
-//! and a no names the first bad step and the first cause that holds there. Its body is the plain
+//! and a no names the first bad step and the first cause that holds there;
+//! [`good_steps_have_no_cause`] ties the causes to good steps. Its body is the plain
 //! program of the definitions, which looks through the log and the earlier steps anew at each
 //! question. [`read_certificate`] answers the certificate whose text was read or the first field
 //! that is bad, missing or past the limit, [`write_certificate`] writes that text, and
@@ -20,6 +21,7 @@ mod entities;
 mod judging;
 mod laws;
 mod station_log;
+mod step_laws;
 mod steps;
 
 pub use certificate::{Certificate, NO_LINK, Step};
@@ -29,6 +31,7 @@ pub use certificate_text::write_certificate;
 pub use checked::Checked;
 pub use checker::{CheckFault, check};
 pub use laws::{refusals_hold, text_and_reading_agree};
+pub use step_laws::good_steps_have_no_cause;
 
 #[cfg(test)]
 mod certificate_tests;

@@ -397,3 +397,35 @@ fn what_waits_for_each_other_never_happens(rt: HostRuntime) -> Result<(), Fail> 
     );
     Ok(())
 }
+
+#[test]
+fn a_history_with_a_copy_is_followed_step_by_step(rt: HostRuntime) -> Result<(), Fail> {
+    let alloc = rt.alloc();
+    let create = create(SEVEN, 1);
+    let able = acknowledge(SEVEN, 1, 1, 1);
+    let unable = acknowledge(SEVEN, 1, 2, 1);
+    let mut done = [
+        Received(1, &create),
+        Sent(1, &able),
+        Told(1, 7, Stopped),
+        Received(1, &create),
+        Sent(1, &able),
+        Sent(0, &create),
+        Received(0, &able),
+    ];
+    let steps = [(5, N), (0, 5), (1, 0), (2, N), (3, 5), (4, 0), (6, 1)];
+    let log = recorded(alloc, two(alloc, &[])?, &done)?;
+    assert!(rt; are(&yes(alloc, &log, &steps)?, 1, &[(7, Stopped)]));
+    let sooner = [(5, N), (0, 5), (1, 0), (6, 1), (2, N), (3, 5), (4, 0)];
+    assert!(rt; are(&yes(alloc, &log, &sooner)?, 1, &[(7, Stopped)]));
+    let log = recorded(alloc, two(alloc, &[(7, Running)])?, &done)?;
+    assert_eq!(rt; no(alloc, &log, &steps)?, bad(2, Cause::Impossible));
+    done[2] = Told(1, 7, Running);
+    let log = recorded(alloc, two(alloc, &[])?, &done)?;
+    assert_eq!(rt; no(alloc, &log, &steps)?, bad(3, Cause::WrongState));
+    done[2] = Told(1, 7, Stopped);
+    done[4] = Sent(1, &unable);
+    let log = recorded(alloc, two(alloc, &[])?, &done)?;
+    assert_eq!(rt; no(alloc, &log, &steps)?, bad(5, Cause::ChangedAnswer));
+    Ok(())
+}

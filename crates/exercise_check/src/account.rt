@@ -10,9 +10,9 @@ use crate::station_log::acknowledges;
 use crate::steps::pair_of_sent;
 use dis_records::EntityState;
 use exercise_recording::{
-    ABLE, AcknowledgeKey, EntryView, ExerciseLog, is_from, key_of, meaning_of, responds,
+    AcknowledgeKey, EntryView, ExerciseLog, is_from, key_of, meaning_of, responds,
 };
-use siman_pdus::Pdu;
+use siman_pdus::{ABLE, Pdu};
 use std::alloc::{AllocError, Global};
 
 /// The number of an entry, which every one is in 32 bits.

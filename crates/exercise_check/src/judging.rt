@@ -10,9 +10,9 @@ ghost use Rattle.exercise_recording.specs.Place.{log_before};
 use crate::station_log::{is_change, is_reused, request_taken_up, state_before, was_acknowledged};
 use dis_records::{EntityState, Kind, Scope};
 use exercise_recording::{
-    ABLE, Cause, Change, ExerciseLog, UNABLE, is_answer, is_entity, is_from, key_of, responds,
+    Cause, Change, ExerciseLog, is_answer, is_entity, is_from, key_of, responds,
 };
-use siman_pdus::{Pdu, answers};
+use siman_pdus::{ABLE, Pdu, UNABLE, answers};
 use std::alloc::{AllocError, Global};
 
 /// Whether a PDU that a station sends at an entry is an Able after an Unable under its key, or an

@@ -12,10 +12,10 @@ ghost use Rattle.exercise_check.specs.Sent.{meant_by_send};
 
 use dis_records::{Address, EntityState};
 use exercise_recording::{
-    ABLE, AcknowledgeKey, Change, EntryView, ExerciseLog, is_asked, is_entity, is_under_identifier,
+    AcknowledgeKey, Change, EntryView, ExerciseLog, is_asked, is_entity, is_under_identifier,
     key_of, meaning_of, responds, responds_under,
 };
-use siman_pdus::{Pdu, same_order};
+use siman_pdus::{ABLE, Pdu, same_order};
 use std::alloc::{AllocError, Global};
 
 /// What an entry of a station sends, if it sends something that is not "other".

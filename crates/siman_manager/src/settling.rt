@@ -9,13 +9,7 @@ ghost use Rattle.siman_manager.specs.Book.{settles, judged, settled, taken_as, a
 use crate::kept::{KeptOrder, OrderTable, Standing};
 use crate::order::Taken;
 use crate::settings::Settings;
-use siman_pdus::{Body, Pdu, answers, request_id};
-
-/// The response of an Acknowledge: able to comply.
-const ABLE: u16 = 1;
-
-/// The response of an Acknowledge: unable to comply.
-const UNABLE: u16 = 2;
+use siman_pdus::{ABLE, Body, Pdu, UNABLE, answers, request_id};
 
 /// Whether an answer with this body settles the order that it answers.
 fn settles(body: &Body) -> bool

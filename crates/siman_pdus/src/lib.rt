@@ -23,7 +23,7 @@ pub use encoding::{encode, kind_of};
 pub use exchange::{request_id, role};
 pub use fault::{EncodeFault, PduFault};
 pub use order::{answers, same_order, same_pdu};
-pub use pdu::{Body, Pdu};
+pub use pdu::{ABLE, Body, Pdu, UNABLE};
 pub use roles::Role;
 pub use size::encoded_size;
 

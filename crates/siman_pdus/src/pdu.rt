@@ -6,6 +6,12 @@ use crate::datums::{DatumIds, Datums};
 use dis_records::{ClockTime, EntityId, Version};
 use std::alloc::{AllocError, Global};
 
+/// The response flag Able to comply of an Acknowledge (SISO-REF-010).
+pub const ABLE: u16 = 1;
+
+/// The response flag Unable to comply of an Acknowledge (SISO-REF-010).
+pub const UNABLE: u16 = 2;
+
 /// What a PDU says: the body of its kind, after the header and the two identifiers
 /// (IEEE 1278.1-2012, 7.5.2 to 7.5.13). All numbers are carried as they stand, unsigned.
 #[derive(Debug, Drop, PartialEq, Eq)]

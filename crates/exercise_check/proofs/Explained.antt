@@ -1,20 +1,19 @@
 -- Good steps name a run, and a good certificate one that explains the recording.
-use Rattle.std.proofs.Common.{◌≡◌, ℕ, zero, suc, ◌+◌, ◌<◌, ◌≤◌, List, [], ◌∷◌, ◌++◌, length, take, Option, Some, None, Bool, true, refl, sym, ap, ◌∙◌, subst, arith}
-use Rattle.std.specs.Prelude.{slice_get, slice_index_or, ◌&&◌, nat_lt}
+use Rattle.std.proofs.Common.{◌≡◌, ℕ, zero, suc, ◌<◌, ◌≤◌, List, [], ◌∷◌, length, take, Some, true, refl, sym, ap, ◌∙◌, subst, arith}
+use Rattle.std.specs.Prelude.{slice_get, slice_index_or, ◌&&◌}
 use Rattle.std.specs.Option.{option_map_or}
-use Rattle.std.specs.List.{list_all}
 use Rattle.std.proofs.Math.Numerals.{add-one}
 use Rattle.std.proofs.lemmas.List.{take_more, take_all}
 use Rattle.std.proofs.lemmas.Bool.{lt-ltb}
 use Rattle.exercise_recording.specs.Entry.{Entry}
 use Rattle.exercise_recording.specs.Recording.{PlainRecording, IsRecording}
-use Rattle.exercise_recording.specs.History.{Event, History, event_of, station_of, past, log_at, log_of}
+use Rattle.exercise_recording.specs.History.{History, event_of, past, log_at, log_of}
 use Rattle.exercise_recording.specs.Setting.{setting_of}
-use Rattle.exercise_recording.specs.Run.{IsRun, Explains, CoversPrefixes, IsBeginning}
+use Rattle.exercise_recording.specs.Run.{IsRun, Explains, CoversPrefixes}
 use Rattle.exercise_recording.proofs.Counting.{entry_station, within, all_events, fewer_events, same_count, past_within, length-past}
 use Rattle.exercise_check.specs.declared.certificate.Step.{Step}
 use Rattle.exercise_check.specs.Order.{order_of}
-use Rattle.exercise_check.specs.Goodness.{step_cause, IsGoodStep, no_step, cause_at, GoodBelow, IsGood}
+use Rattle.exercise_check.specs.Goodness.{no_step, GoodBelow, IsGood}
 use Rattle.exercise_check.proofs.Orders.{order_of-snoc, order_of-none}
 use Rattle.exercise_check.proofs.Goodness.{good_step, steps_cover}
 

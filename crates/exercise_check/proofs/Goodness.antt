@@ -1,25 +1,24 @@
 -- What good steps name.
-use Rattle.std.proofs.Common.{◌≡◌, ℕ, zero, suc, ◌+◌, ◌<◌, ◌≤◌, List, [], ◌∷◌, ◌++◌, length, take, drop, get_or, cond, Option, Some, None, Bool, true, false, refl, sym, ap, ◌∙◌, subst, ⊎_elim, arith, append_assoc, append-nil}
-use Rattle.std.specs.Prelude.{slice_get, slice_index_or, option_and_then, nat_eq, ◌==◌, if◌then◌else◌, All}
+use Rattle.std.proofs.Common.{◌≡◌, ℕ, zero, suc, ◌+◌, ◌<◌, ◌≤◌, List, [], ◌∷◌, ◌++◌, length, take, cond, Some, None, true, false, refl, sym, ap, ◌∙◌, subst, ⊎_elim, arith, append-nil}
+use Rattle.std.specs.Prelude.{slice_get, slice_index_or, option_and_then, nat_eq, ◌==◌, if◌then◌else◌}
 use Rattle.std.specs.Option.{option_map_or, option_or}
 use Rattle.std.proofs.Math.Numerals.{add-one}
 use Rattle.std.proofs.lemmas.List.{take_more, take-take, get_or-take, length-take-le, length_push, take-append-le, get_or_append_left, take_at, get_or_at}
 use Rattle.std.proofs.lemmas.List.Elements.{All-from_get_or}
 use Rattle.std.proofs.lemmas.Bool.{eqb-true, eq-eqb, cases_lt}
-use Rattle.std.proofs.lemmas.Option.{same_Some, slice_get_within}
-use Rattle.exercise_recording.specs.declared.cause.Cause.{Cause}
+use Rattle.std.proofs.lemmas.Option.{slice_get_within}
 use Rattle.exercise_recording.specs.declared.cause.Cause.TheVariants.{NoSuchRecord, OutOfOrder, BadLink}
 use Rattle.exercise_recording.specs.Entry.{Entry}
 use Rattle.exercise_recording.specs.Recording.{PlainRecording}
 use Rattle.exercise_recording.specs.History.{Event, History, event_of, station_of, past, log_at, log_of}
 use Rattle.exercise_recording.specs.Setting.{setting_of}
 use Rattle.exercise_recording.specs.Cause.{cause_of}
-use Rattle.exercise_recording.specs.Place.{event_at, log_before, own_event}
+use Rattle.exercise_recording.specs.Place.{log_before, own_event}
 use Rattle.exercise_recording.specs.Run.{IsBeginning}
 use Rattle.exercise_recording.proofs.Beginnings.{same_beginnings, log_before-beginning, log_before-next}
 use Rattle.exercise_check.specs.declared.certificate.Step.{Step}
 use Rattle.exercise_check.specs.Order.{order_of, is_next, link_of, link_number}
-use Rattle.exercise_check.specs.Goodness.{link_cause, event_cause, step_cause, IsGoodStep, no_step, cause_at, GoodBelow, ArePlaced, IsReady}
+use Rattle.exercise_check.specs.Goodness.{event_cause, step_cause, IsGoodStep, no_step, GoodBelow, ArePlaced, IsReady}
 use Rattle.exercise_check.proofs.Orders.{log_at-order_of-snoc, log_at-order_of-none}
 
 -- the parts of a good step

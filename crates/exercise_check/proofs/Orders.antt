@@ -1,5 +1,5 @@
 -- The order that steps name, one step after another.
-use Rattle.std.proofs.Common.{◌≡◌, ℕ, zero, suc, ◌+◌, ◌<◌, ◌≤◌, List, [], ◌∷◌, ◌++◌, length, take, drop, get_or, filter, cond, Option, Some, None, Bool, true, false, refl, sym, ap, ◌∙◌, subst, arith, append_assoc, append-nil}
+use Rattle.std.proofs.Common.{◌≡◌, ℕ, ◌+◌, ◌<◌, ◌≤◌, List, [], ◌∷◌, ◌++◌, length, take, drop, cond, Option, Some, None, Bool, true, false, refl, sym, ap, ◌∙◌, append_assoc, append-nil}
 use Rattle.std.specs.Prelude.{slice_get, slice_index_or, option_and_then, is_some, nat_eq, ◌==◌, ◌||◌, if◌then◌else◌}
 use Rattle.std.specs.Option.{option_map_or, option_to_list}
 use Rattle.std.specs.List.{list_any}
@@ -9,9 +9,9 @@ use Rattle.std.proofs.lemmas.List.{take_more, drop_more, drop_all}
 use Rattle.std.proofs.lemmas.List.Folds.{list_any-append}
 use Rattle.exercise_recording.specs.Entry.{Entry}
 use Rattle.exercise_recording.specs.Recording.{PlainRecording}
-use Rattle.exercise_recording.specs.History.{Event, Send, Get, Tell, History, event_of, station_of, past, log_at}
+use Rattle.exercise_recording.specs.History.{Event, History, event_of, station_of, past, log_at}
 use Rattle.exercise_recording.specs.Cause.{sends, was_sent}
-use Rattle.exercise_recording.specs.Place.{event_at, log_before, own_event}
+use Rattle.exercise_recording.specs.Place.{log_before, own_event}
 use Rattle.exercise_recording.proofs.Onward.{past-snoc, past-append, log_before-more, log_before-none}
 use Rattle.exercise_check.specs.declared.certificate.Step.{Step}
 use Rattle.exercise_check.specs.Order.{chosen, order_of, first_sender}

@@ -1,10 +1,9 @@
 -- What is asked of a sending event is asked of what it sends.
-use Rattle.std.proofs.Common.{◌≡◌, ℕ, List, Option, Some, None, Bool, false, refl}
+use Rattle.std.proofs.Common.{◌≡◌, ℕ, Option, Some, None, false, refl}
 use Rattle.std.specs.Prelude.{option_and_then}
 use Rattle.std.specs.Option.{option_map_or}
 use Rattle.siman_pdus.specs.declared.pdu.Pdu.{Pdu}
 use Rattle.exercise_recording.specs.declared.acknowledge.AcknowledgeKey.{AcknowledgeKey}
-use Rattle.exercise_recording.specs.declared.state.Change.{Change}
 use Rattle.exercise_recording.specs.Station.{StationData}
 use Rattle.exercise_recording.specs.History.{Event, Send, Get, Tell, History}
 use Rattle.exercise_recording.specs.Change.{responds_under, sends_under}

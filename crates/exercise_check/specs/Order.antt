@@ -1,12 +1,11 @@
 -- The order that a certificate names, and the links of its steps (profile).
-use Rattle.std.specs.Prelude.{ℕ, List, [], ◌∷◌, ◌++◌, length, slice_get, slice_index_or, Option, Some, None, option_and_then, unwrap_or, ◌==◌, Bool, true, false, if◌then◌else◌}
+use Rattle.std.specs.Prelude.{ℕ, List, [], ◌∷◌, ◌++◌, length, slice_get, Option, Some, None, option_and_then, unwrap_or, ◌==◌, Bool, false, if◌then◌else◌}
 use Rattle.std.specs.Option.{option_map_or, option_to_list}
 use Rattle.siman_pdus.specs.declared.pdu.Pdu.{Pdu}
 use Rattle.exercise_recording.specs.Entry.{Entry}
 use Rattle.exercise_recording.specs.Recording.{PlainRecording}
 use Rattle.exercise_recording.specs.History.{Event, Send, Get, Tell, History, event_of, station_of, past, log_at}
 use Rattle.exercise_recording.specs.Meaning.{meaning}
-use Rattle.exercise_recording.specs.Exchange.{is_answer_body}
 use Rattle.exercise_recording.specs.Cause.{sends}
 use Rattle.exercise_recording.specs.Place.{log_before}
 use Rattle.exercise_recording.specs.Account.{pair_of_sent}

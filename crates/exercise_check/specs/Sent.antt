@@ -1,5 +1,5 @@
 -- What an event sends.
-use Rattle.std.specs.Prelude.{ℕ, List, Option, Some, None}
+use Rattle.std.specs.Prelude.{ℕ, Option, None}
 use Rattle.siman_pdus.specs.declared.pdu.Pdu.{Pdu}
 use Rattle.exercise_recording.specs.History.{Event, Send, Get, Tell}
 use Rattle.exercise_recording.specs.Meaning.{meaning}

@@ -51,6 +51,16 @@ pub(crate) fn recorded(
     entries: &[Done<'_>],
 ) -> Result<Recording, Fail> {
     let mut recording = Recording::start(alloc, 1, stations)?;
+    record(alloc, &mut recording, entries)?;
+    Ok(recording)
+}
+
+/// Records what else they did.
+pub(crate) fn record(
+    alloc: Global,
+    recording: &mut Recording,
+    entries: &[Done<'_>],
+) -> Result<(), Fail> {
     for entry in entries {
         recording.push(match *entry {
             Done::Sent(station, bytes) => LogEntry::Sent {
@@ -70,7 +80,7 @@ pub(crate) fn recorded(
             },
         })?;
     }
-    Ok(recording)
+    Ok(())
 }
 
 /// A certificate whose steps have these places and links.

@@ -6,7 +6,8 @@ use crate::tests::scenes::*;
 use crate::{CheckFault, Checked, NO_LINK as N};
 use dis_records::EntityState;
 use dis_records::EntityState::{Running, Stopped};
-use exercise_recording::Cause;
+use exercise_recording::{Cause, Recording};
+use std::alloc::Global;
 use std::test::Fail;
 
 /// A refusal at a step.
@@ -101,22 +102,33 @@ fn entries_in_no_common_order_are_explained(rt: HostRuntime) -> Result<(), Fail>
     Ok(())
 }
 
-#[test]
-fn a_told_state_is_the_state_of_the_run(rt: HostRuntime) -> Result<(), Fail> {
-    let alloc = rt.alloc();
-    let (create, able) = (create(SEVEN, 1), acknowledge(SEVEN, 1, 1, 1));
-    let (start, started) = (start(SEVEN, 2), acknowledge(SEVEN, 3, 1, 2));
-    let mut done = [
+/// Entity 7 is created and started, and then told to be in a state.
+fn created_and_started(alloc: Global, told: EntityState) -> Result<Recording, Fail> {
+    let create = create(SEVEN, 1);
+    let able = acknowledge(SEVEN, 1, 1, 1);
+    let created = [
         Sent(0, &create),
         Received(1, &create),
         Sent(1, &able),
         Received(0, &able),
+    ];
+    let mut log = recorded(alloc, two(alloc, &[])?, &created)?;
+    let start = start(SEVEN, 2);
+    let able = acknowledge(SEVEN, 3, 1, 2);
+    let started = [
         Sent(0, &start),
         Received(1, &start),
-        Sent(1, &started),
-        Received(0, &started),
-        Told(1, 7, Running),
+        Sent(1, &able),
+        Received(0, &able),
     ];
+    record(alloc, &mut log, &started)?;
+    record(alloc, &mut log, &[Told(1, 7, told)])?;
+    Ok(log)
+}
+
+#[test]
+fn a_told_state_is_the_state_of_the_run(rt: HostRuntime) -> Result<(), Fail> {
+    let alloc = rt.alloc();
     let steps = [
         (0, N),
         (1, 0),
@@ -128,12 +140,11 @@ fn a_told_state_is_the_state_of_the_run(rt: HostRuntime) -> Result<(), Fail> {
         (7, 6),
         (8, N),
     ];
-    let log = recorded(alloc, two(alloc, &[])?, &done)?;
+    let log = created_and_started(alloc, Running)?;
     let checked = yes(alloc, &log, &steps)?;
     assert!(rt; are(&checked, 1, &[(7, Running)]) && checked.pair(6) == Some(5));
     assert!(rt; checked.cause(3) == Some(2) && checked.cause(7) == Some(6));
-    done[8] = Told(1, 7, Stopped);
-    let log = recorded(alloc, two(alloc, &[])?, &done)?;
+    let log = created_and_started(alloc, Stopped)?;
     assert_eq!(rt; no(alloc, &log, &steps)?, bad(8, Cause::WrongState));
     Ok(())
 }
@@ -168,22 +179,34 @@ fn a_stop_to_all_is_answered_by_each(rt: HostRuntime) -> Result<(), Fail> {
     Ok(())
 }
 
+/// The request to start 7 comes and is answered.
+fn start_comes(alloc: Global, log: &mut Recording) -> Result<(), Fail> {
+    let start = start(SEVEN, 1);
+    let started = acknowledge(SEVEN, 3, 1, 1);
+    record(alloc, log, &[Received(1, &start), Sent(1, &started)])
+}
+
+/// Entity 7 is started and stopped, the first request comes again and is answered again, and then
+/// 7 is told to be in a state.
+fn answered_again(alloc: Global, told: EntityState) -> Result<Recording, Fail> {
+    let start = start(SEVEN, 1);
+    let mut log = recorded(alloc, two(alloc, &[(7, Stopped)])?, &[Sent(0, &start)])?;
+    start_comes(alloc, &mut log)?;
+    let stop = stop(SEVEN, 2);
+    let stopped = acknowledge(SEVEN, 4, 1, 2);
+    record(
+        alloc,
+        &mut log,
+        &[Sent(0, &stop), Received(1, &stop), Sent(1, &stopped)],
+    )?;
+    start_comes(alloc, &mut log)?;
+    record(alloc, &mut log, &[Told(1, 7, told)])?;
+    Ok(log)
+}
+
 #[test]
 fn a_repeat_changes_nothing(rt: HostRuntime) -> Result<(), Fail> {
     let alloc = rt.alloc();
-    let (start, started) = (start(SEVEN, 1), acknowledge(SEVEN, 3, 1, 1));
-    let (stop, stopped) = (stop(SEVEN, 2), acknowledge(SEVEN, 4, 1, 2));
-    let mut done = [
-        Sent(0, &start),
-        Received(1, &start),
-        Sent(1, &started),
-        Sent(0, &stop),
-        Received(1, &stop),
-        Sent(1, &stopped),
-        Received(1, &start),
-        Sent(1, &started),
-        Told(1, 7, Stopped),
-    ];
     let steps = [
         (0, N),
         (1, 0),
@@ -195,11 +218,10 @@ fn a_repeat_changes_nothing(rt: HostRuntime) -> Result<(), Fail> {
         (7, 1),
         (8, N),
     ];
-    let log = recorded(alloc, two(alloc, &[(7, Stopped)])?, &done)?;
+    let log = answered_again(alloc, Stopped)?;
     let checked = yes(alloc, &log, &steps)?;
     assert!(rt; are(&checked, 1, &[(7, Stopped)]) && checked.pair(7) == Some(1));
-    done[8] = Told(1, 7, Running);
-    let log = recorded(alloc, two(alloc, &[(7, Stopped)])?, &done)?;
+    let log = answered_again(alloc, Running)?;
     assert_eq!(rt; no(alloc, &log, &steps)?, bad(8, Cause::WrongState));
     Ok(())
 }
@@ -398,34 +420,42 @@ fn what_waits_for_each_other_never_happens(rt: HostRuntime) -> Result<(), Fail> 
     Ok(())
 }
 
-#[test]
-fn a_history_with_a_copy_is_followed_step_by_step(rt: HostRuntime) -> Result<(), Fail> {
-    let alloc = rt.alloc();
+/// Entity 7 is created, told to be in a state, and the request comes again and gets an answer with
+/// this response.
+fn asked_again(
+    alloc: Global,
+    opening: &[(u16, EntityState)],
+    told: EntityState,
+    response: u8,
+) -> Result<Recording, Fail> {
     let create = create(SEVEN, 1);
     let able = acknowledge(SEVEN, 1, 1, 1);
-    let unable = acknowledge(SEVEN, 1, 2, 1);
-    let mut done = [
+    let again = acknowledge(SEVEN, 1, response, 1);
+    let done = [
         Received(1, &create),
         Sent(1, &able),
-        Told(1, 7, Stopped),
+        Told(1, 7, told),
         Received(1, &create),
-        Sent(1, &able),
+        Sent(1, &again),
         Sent(0, &create),
         Received(0, &able),
     ];
+    recorded(alloc, two(alloc, opening)?, &done)
+}
+
+#[test]
+fn a_history_with_a_copy_is_followed_step_by_step(rt: HostRuntime) -> Result<(), Fail> {
+    let alloc = rt.alloc();
     let steps = [(5, N), (0, 5), (1, 0), (2, N), (3, 5), (4, 0), (6, 1)];
-    let log = recorded(alloc, two(alloc, &[])?, &done)?;
+    let log = asked_again(alloc, &[], Stopped, 1)?;
     assert!(rt; are(&yes(alloc, &log, &steps)?, 1, &[(7, Stopped)]));
     let sooner = [(5, N), (0, 5), (1, 0), (6, 1), (2, N), (3, 5), (4, 0)];
     assert!(rt; are(&yes(alloc, &log, &sooner)?, 1, &[(7, Stopped)]));
-    let log = recorded(alloc, two(alloc, &[(7, Running)])?, &done)?;
+    let log = asked_again(alloc, &[(7, Running)], Stopped, 1)?;
     assert_eq!(rt; no(alloc, &log, &steps)?, bad(2, Cause::Impossible));
-    done[2] = Told(1, 7, Running);
-    let log = recorded(alloc, two(alloc, &[])?, &done)?;
+    let log = asked_again(alloc, &[], Running, 1)?;
     assert_eq!(rt; no(alloc, &log, &steps)?, bad(3, Cause::WrongState));
-    done[2] = Told(1, 7, Stopped);
-    done[4] = Sent(1, &unable);
-    let log = recorded(alloc, two(alloc, &[])?, &done)?;
+    let log = asked_again(alloc, &[], Stopped, 2)?;
     assert_eq!(rt; no(alloc, &log, &steps)?, bad(5, Cause::ChangedAnswer));
     Ok(())
 }

@@ -1,6 +1,6 @@
-use Rattle.std.proofs.Common.{◌≡◌, ℕ, ◌+◌, ◌≤◌, take, cond, Bool, true, false, ap, ◌∙◌, arith}
+use Rattle.std.proofs.Common.{◌≡◌, ℕ, ◌≤◌, cond, Bool, true, false, ap, ◌∙◌, arith}
 use Rattle.exercise_recording.specs.Held.{shown}
-use Rattle.exercise_recording.specs.Account.{is_other, others_among}
+use Rattle.exercise_recording.specs.Account.{is_other}
 use Rattle.exercise_recording.proofs.Accounts.{others-more}
 use Rattle.exercise_check.proofs.account.others.Goals as goal
 

@@ -1,4 +1,4 @@
-use Rattle.std.proofs.Common.{rules, ◌≡◌, [], None, slice_index_or, length, ap, ◌∙◌, arith}
+use Rattle.std.proofs.Common.{rules, [], None, slice_index_or, ap, ◌∙◌, arith}
 use Rattle.std.proofs.lemmas.Grind.{common_steps}
 use Rattle.exercise_recording.proofs.Accounts.{states-all, pairs-all, changes-all}
 use Rattle.exercise_recording.proofs.Sentences.{explained_holds}

@@ -1,4 +1,4 @@
-use Rattle.std.proofs.Common.{◌≡◌, arith, ◌∙◌}
+use Rattle.std.proofs.Common.{arith, ◌∙◌}
 use Rattle.exercise_recording.specs.History.{log_of, station_at}
 use Rattle.exercise_recording.proofs.Changes.{present_below-all}
 use Rattle.exercise_check.proofs.entities.entities.Goals as goal

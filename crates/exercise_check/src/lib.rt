@@ -8,6 +8,8 @@
 //! question. [`read_certificate`] answers the certificate whose text was read or the first field
 //! that is bad, missing or past the limit, [`write_certificate`] writes that text, and
 //! [`text_and_reading_agree`] and [`refusals_hold`] are the laws that tie them.
+//!
+//! What the crate of the search needs to judge an event after steps stands under [`steps`].
 #![tactic(auto)]
 
 mod account;
@@ -22,7 +24,7 @@ mod judging;
 mod laws;
 mod station_log;
 mod step_laws;
-mod steps;
+pub mod steps;
 
 pub use certificate::{Certificate, NO_LINK, Step};
 pub use certificate_fault::{CertificateFault, CertificateFormatFault, CertificateWriterFault};

@@ -31,7 +31,7 @@ fn station_of(entry: &EntryView<'_>) -> usize
 
 /// Whether an entry is one of a station.
 #[tactic(auto, unfolding(exercise_recording::specs::Place::own_event))]
-pub(crate) fn is_own<L: ExerciseLog>(log: &L, station: usize, entry: usize) -> bool
+pub fn is_own<L: ExerciseLog>(log: &L, station: usize, entry: usize) -> bool
     requires { entry < length (L.recording log.now).entries }
     ensures { result ≡ is_some (own_event (L.recording log.now) station entry) }
 {
@@ -40,7 +40,7 @@ pub(crate) fn is_own<L: ExerciseLog>(log: &L, station: usize, entry: usize) -> b
 
 /// How many of a station's events stand in the order that steps name.
 #[tactic(auto, using(crate::proofs::Orders::order_steps))]
-fn events_in<L: ExerciseLog>(log: &L, steps: &[Step], station: usize) -> usize
+pub fn events_in<L: ExerciseLog>(log: &L, steps: &[Step], station: usize) -> usize
     requires { ArePlaced (L.recording log.now) steps.now }
     ensures { result ≡ length (log_at station (order_of (L.recording log.now) steps.now)) }
 {
@@ -124,7 +124,7 @@ fn get_cause<L: ExerciseLog>(log: &L, before: &[Step], datagram: &[u8], pdu: &Pd
 
 /// The first cause against the event of an entry after these steps.
 #[tactic(auto, unfolding(exercise_recording::specs::Cause::cause_of))]
-fn cause_of<L: ExerciseLog>(
+pub fn cause_of<L: ExerciseLog>(
     alloc: Global,
     log: &L,
     before: &[Step],
@@ -182,7 +182,7 @@ pub(crate) fn pair_of_sent<L: ExerciseLog>(
 
 /// The entry that a step is linked with after these steps.
 #[tactic(auto, unfolding(crate::specs::Order::link_of))]
-fn link_of<L: ExerciseLog>(
+pub fn link_of<L: ExerciseLog>(
     alloc: Global,
     log: &L,
     before: &[Step],

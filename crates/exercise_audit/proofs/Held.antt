@@ -122,9 +122,6 @@ unexplained r limits steps good stuck less k explains =
     let all = stuck_explains r (order_of r steps) k stuck explains in
     less (sym sound.count ∙ same_count (length r.stations) (order_of r steps) (past r.entries) sound.stations (past_within r limits) all.logs ∙ length-past r.entries)
 
-pub blocks_none : (r : PlainRecording) (h : History) → AreBlocks r h 0 []
-blocks_none r h = refl
-
 pub blocks_done : (r : PlainRecording) (h : History) (s : ℕ) (blocks : List Block) → AreBlocks r h s blocks → IsDone r h s → AreBlocks r h (s + 1) blocks
 blocks_done r h s blocks before done = rw add-one (inl (done, before))
 

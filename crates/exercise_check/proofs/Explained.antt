@@ -7,10 +7,10 @@ use Rattle.std.proofs.lemmas.List.{take_more, take_all}
 use Rattle.std.proofs.lemmas.Bool.{lt-ltb}
 use Rattle.exercise_recording.specs.Entry.{Entry}
 use Rattle.exercise_recording.specs.Recording.{PlainRecording, IsRecording}
-use Rattle.exercise_recording.specs.History.{History, event_of, past, log_at, log_of}
+use Rattle.exercise_recording.specs.History.{History, event_of, past, log_of}
 use Rattle.exercise_recording.specs.Setting.{setting_of}
 use Rattle.exercise_recording.specs.Run.{IsRun, Explains, CoversPrefixes}
-use Rattle.exercise_recording.proofs.Counting.{entry_station, within, all_events, fewer_events, same_count, past_within, length-past}
+use Rattle.exercise_recording.proofs.Counting.{entry_station, within, all_events, fewer_events, past_within, length-past}
 use Rattle.exercise_check.specs.declared.certificate.Step.{Step}
 use Rattle.exercise_check.specs.Order.{order_of}
 use Rattle.exercise_check.specs.Goodness.{no_step, GoodBelow, IsGood}
@@ -74,12 +74,3 @@ good_few r limits steps good =
     let sound = good_sound r limits steps good in
     let covers = good_covers r limits steps good in
     omega (arith, sound.count, length-past r.entries, fewer_events (length r.stations) (order_of r steps) (past r.entries) sound.stations (past_within r limits) covers.logs)
-
--- good steps that record all logs are a good certificate
-pub good_whole : (r : PlainRecording) → IsRecording r → (steps : List Step) → GoodBelow r steps (length steps) → ((s : ℕ) → log_at s (order_of r steps) ≡ log_at s (past r.entries)) → IsGood r steps
-good_whole r limits steps good whole =
-    let sound = good_sound r limits steps good in
-    record {
-      count = sym sound.count ∙ same_count (length r.stations) (order_of r steps) (past r.entries) sound.stations (past_within r limits) whole ∙ length-past r.entries;
-      good = good;
-    }

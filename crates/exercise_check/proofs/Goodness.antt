@@ -3,7 +3,7 @@ use Rattle.std.proofs.Common.{◌≡◌, ℕ, zero, suc, ◌+◌, ◌<◌, ◌�
 use Rattle.std.specs.Prelude.{slice_get, slice_index_or, option_and_then, nat_eq, ◌==◌, if◌then◌else◌}
 use Rattle.std.specs.Option.{option_map_or, option_or}
 use Rattle.std.proofs.Math.Numerals.{add-one}
-use Rattle.std.proofs.lemmas.List.{take_more, take-take, get_or-take, length-take-le, length_push, take-append-le, get_or_append_left, take_at, get_or_at}
+use Rattle.std.proofs.lemmas.List.{take_more, length_push, take-append-le, get_or_append_left, take_at, get_or_at}
 use Rattle.std.proofs.lemmas.List.Elements.{All-from_get_or}
 use Rattle.std.proofs.lemmas.Bool.{eqb-true, eq-eqb, cases_lt}
 use Rattle.std.proofs.lemmas.Option.{slice_get_within}
@@ -78,13 +78,6 @@ steps_cover r steps (suc n) within good s =
       | Some v ↦ λ own. next v own
     ] refl) in
     subst (λ xs. IsBeginning (log_at s (order_of r xs)) whole) (sym (ap (λ k. take k steps) (sym (add-one n)) ∙ take_more steps n no_step (omega arith))) more
-
--- the first steps of a list, as a list
-pub GoodBelow-take : (r : PlainRecording) (steps : List Step) (n : ℕ) → n ≤ length steps → GoodBelow r steps n → GoodBelow r (take n steps) (length (take n steps))
-GoodBelow-take r steps n within good k l =
-    let l' : k < n = subst (λ m. k < m) (length-take-le n steps within) l in
-    ap (λ xs. step_cause r xs (slice_index_or (take n steps) k no_step)) (take-take k n steps (omega arith))
-    ∙ ap (step_cause r (take k steps)) (get_or-take n steps k no_step l') ∙ good k l'
 
 pub are_placed : (r : PlainRecording) (steps : List Step) → GoodBelow r steps (length steps) → ArePlaced r steps
 are_placed r steps good = All-from_get_or (λ (step : Step). step.place < length r.entries) steps no_step (λ i l. slice_get_within r.entries _ _ (good_step r (take i steps) (slice_index_or steps i no_step) (good i l)).1.at)

@@ -3,11 +3,12 @@
 #![tactic(auto)]
 
 use siman_console::{
-    Task, pdu_command, pdu_from, read_words, show_command, unopened_file, unread_words,
-    usage_command,
+    Task, check_command, pdu_command, pdu_from, read_words, show_command, unopened_file,
+    unread_words, usage_command,
 };
 use std::alloc::{AllocError, Global};
 use std::fs::File;
+use std::io::Write;
 use std::process::ExitCode;
 use std::{env, io};
 
@@ -17,6 +18,25 @@ fn texts<'a>(alloc: Global, words: &'a [String]) -> Result<Vec<&'a str>, AllocEr
         texts.push(word.as_str())?;
     }
     Ok(texts)
+}
+
+/// Opens both files in the order of the words before any of them is read.
+fn check<W: Write, E: Write>(
+    rt: &HostRuntime,
+    alloc: Global,
+    recording: &str,
+    certificate: &str,
+    out: &mut W,
+    errors: &mut E,
+) -> u8 {
+    let recorded = match File::open(rt, recording) {
+        Ok(file) => file,
+        Err(error) => return unopened_file(recording, &error, errors),
+    };
+    match File::open(rt, certificate) {
+        Ok(file) => check_command(alloc, recorded, file, out, errors),
+        Err(error) => unopened_file(certificate, &error, errors),
+    }
 }
 
 fn run(rt: &HostRuntime, alloc: Global) -> io::Result<u8> {
@@ -30,6 +50,9 @@ fn run(rt: &HostRuntime, alloc: Global) -> io::Result<u8> {
             Ok(file) => show_command(alloc, file, &mut out, &mut errors),
             Err(error) => unopened_file(name, &error, &mut errors),
         },
+        Ok(Task::Check(recording, certificate)) => {
+            check(rt, alloc, recording, certificate, &mut out, &mut errors)
+        }
         Err(error) => usage_command(&error, &mut out, &mut errors),
     })
 }

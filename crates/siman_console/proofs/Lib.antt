@@ -1,4 +1,8 @@
 pub mod Endings
 pub mod Fetches
 pub mod HexTexts
+pub mod Passings
 pub mod Readings
+pub mod Shown
+pub mod Texts
+pub mod Verdicts

@@ -5,3 +5,6 @@ pub mod HexText
 pub mod CommandFault
 pub mod Answer
 pub mod ShowFault
+pub mod Report
+pub mod Check
+pub mod Show

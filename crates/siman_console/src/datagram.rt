@@ -9,7 +9,7 @@ use crate::answer::Answer;
 use crate::fault::CommandFault;
 use crate::hex_text::{LONGEST, hex_bytes};
 use crate::input::read_text;
-use crate::output::put;
+use exercise_recording::output::put;
 use std::alloc::Global;
 use std::io::{Read, Write};
 

@@ -3,30 +3,35 @@
 //!
 //! It opens no file and ends no process. The program and the tests call the same functions:
 //! [`read_words`] and [`usage_command`] for the words of a command line, [`pdu_command`] and
-//! [`pdu_from`] for datagrams in hex text, [`show_command`] for recordings. Their contracts give the status and the bytes on the
-//! writer of the answer; the writer of faults gets bytes only where the status is 2 or 3.
+//! [`pdu_from`] for datagrams in hex text, [`show_command`] for recordings, [`check_command`] for a
+//! recording and its certificate. Their contracts give the status and the bytes on the writer of
+//! the answer; the writer of faults gets bytes only where the status is 2 or 3.
 #![tactic(auto)]
 
 mod answer;
+mod check;
 mod clock_time;
 mod datagram;
 mod entity;
 mod entry_lines;
 mod fault;
+mod files_fault;
 mod head;
 mod hex_text;
 mod input;
 mod kind;
-mod output;
 mod records;
 mod refusal;
+mod report;
 mod show;
 mod show_fault;
 mod state;
 mod words;
 
 pub use answer::answers_follow_the_grammar;
+pub use check::{LARGEST_CERTIFICATE, check_command, check_files};
 pub use datagram::{pdu_command, pdu_from};
+pub use files_fault::FilesFault;
 pub use show::{LARGEST_RECORDING, show_command};
 pub use words::{Task, read_words, unopened_file, unread_words, usage_command};
 

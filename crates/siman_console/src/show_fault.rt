@@ -1,6 +1,8 @@
 //! Why a recording was not shown, or not the whole of it.
 
 ghost use Rattle.std.specs.Prelude.{◌≡◌};
+ghost use Rattle.siman_console.specs.declared.show_fault.ShowFault.TheVariants.{Memory};
+ghost use Rattle.siman_console.specs.Show.{of_recording};
 ghost use Rattle.siman_console.specs.ShowFault.{show_fault_status};
 
 use exercise_recording::RecordingFault;
@@ -10,7 +12,7 @@ use thiserror::Error;
 /// Why a recording was not shown, or not the whole of it. Its `Display` is the line of the fault.
 #[derive(Clone, Copy, Debug, PartialEq, Eq, Error)]
 pub enum ShowFault {
-    /// It could not be read.
+    /// It could not be read; never for want of memory.
     #[error("recording: {0}")]
     Recording(RecordingFault),
     /// The lines could not be written whole.
@@ -33,7 +35,20 @@ impl ShowFault {
     }
 }
 
+impl From<RecordingFault> for ShowFault {
+    ghost from_gives = { λ fault e. e ≡ of_recording fault };
+
+    fn from(fault: RecordingFault) -> ShowFault {
+        match fault {
+            RecordingFault::Memory => ShowFault::Memory,
+            RecordingFault::Format(_) | RecordingFault::Read => ShowFault::Recording(fault),
+        }
+    }
+}
+
 impl From<AllocError> for ShowFault {
+    ghost from_gives = { λ _ e. e ≡ Memory };
+
     fn from(_e: AllocError) -> ShowFault {
         ShowFault::Memory
     }

@@ -21,6 +21,8 @@ pub enum Task<'a> {
     Pdu(&'a str),
     /// `show REC`: show the recording of this file.
     Show(&'a str),
+    /// `check REC CERT`: judge the recording of the first file by the certificate of the second.
+    Check(&'a str, &'a str),
 }
 
 fn pdu<'a>(alloc: Global) -> Result<Command<'a>, Error> {
@@ -47,6 +49,23 @@ fn show<'a>(alloc: Global) -> Result<Command<'a>, Error> {
     )
 }
 
+fn check<'a>(alloc: Global) -> Result<Command<'a>, Error> {
+    let recording = Arg::new(alloc, "REC")
+        .required(true)
+        .action(ArgAction::Set)
+        .help("The file of the recording");
+    let certificate = Arg::new(alloc, "CERT")
+        .required(true)
+        .action(ArgAction::Set)
+        .help("The file of the certificate");
+    Ok(
+        Command::new(alloc, "check")
+            .about("Checks whether a certificate explains a recording, and reports what it says")
+            .arg(recording)?
+            .arg(certificate)?,
+    )
+}
+
 fn siman<'a>(alloc: Global) -> Result<Command<'a>, Error> {
     Ok(
         Command::new(alloc, "siman")
@@ -54,7 +73,8 @@ fn siman<'a>(alloc: Global) -> Result<Command<'a>, Error> {
                 "Shows Simulation Management PDUs of DIS (IEEE 1278.1-2012). With no command, the hex text of a datagram is read from standard input",
             )
             .subcommand(pdu(alloc)?)?
-            .subcommand(show(alloc)?)?,
+            .subcommand(show(alloc)?)?
+            .subcommand(check(alloc)?)?,
     )
 }
 
@@ -65,7 +85,11 @@ pub fn read_words<'a>(alloc: Global, words: &'a [&'a str]) -> Result<Task<'a>, E
     match matches.subcommand() {
         None => Ok(Task::Input),
         Some(("pdu", found)) => Ok(Task::Pdu(found.get_str("HEX").unwrap_or(""))),
-        Some((_, found)) => Ok(Task::Show(found.get_str("REC").unwrap_or(""))),
+        Some(("show", found)) => Ok(Task::Show(found.get_str("REC").unwrap_or(""))),
+        Some((_, found)) => Ok(Task::Check(
+            found.get_str("REC").unwrap_or(""),
+            found.get_str("CERT").unwrap_or(""),
+        )),
     }
 }
 

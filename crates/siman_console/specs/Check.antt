@@ -1,0 +1,115 @@
+-- What `check` says of a recording and a certificate, and how it ends.
+use Rattle.std.specs.Prelude.{◌≡◌, ◌≤◌, ◌⊎◌, ℕ, List, Bool, true, false, Option, Result, Ok, Err}
+use Rattle.std.specs.Io.KnownBytes.{Appends, Keeps}
+use Rattle.exercise_recording.specs.declared.cause.Cause.{Cause}
+use Rattle.exercise_recording.specs.declared.format_fault.FormatFault.{FormatFault}
+use Rattle.exercise_recording.specs.declared.format_fault.RecordingFault.{RecordingFault}
+use Rattle.exercise_recording.specs.declared.format_fault.RecordingFault.TheVariants as recordings
+use Rattle.exercise_recording.specs.Recording.{PlainRecording}
+use Rattle.exercise_recording.specs.Headline.{Holds}
+use Rattle.exercise_recording.specs.Writing.{WritesPart}
+use Rattle.exercise_check.specs.declared.certificate.Step.{Step}
+use Rattle.exercise_check.specs.declared.certificate_fault.CertificateFormatFault.{CertificateFormatFault}
+use Rattle.exercise_check.specs.declared.certificate_fault.CertificateFault.{CertificateFault}
+use Rattle.exercise_check.specs.declared.certificate_fault.CertificateFault.TheVariants as certificates
+use Rattle.exercise_check.specs.declared.checker.CheckFault.TheVariants.{Bad}
+use Rattle.exercise_check.specs.Order.{order_of}
+use Rattle.exercise_check.specs.Goodness.{IsGood, Refuses}
+use Rattle.siman_console.specs.declared.files_fault.FilesFault.{FilesFault}
+use Rattle.siman_console.specs.declared.files_fault.FilesFault.TheVariants.{Recording, Certificate, Write, Memory}
+use Rattle.siman_console.specs.Report.{report_text, no_line}
+
+-- what reading a recording gives, and what reading a certificate gives: its steps
+abbrev pub Recorded : Type 0
+Recorded = Result PlainRecording FormatFault
+
+abbrev pub Certified : Type 0
+Certified = Result (List Step) CertificateFormatFault
+
+-- WHAT A YES SAYS
+pub record SaysYes (recorded : Recorded) (certified : Certified) (old new : Option (List ℕ)) : Type 0 where
+  -- the first file is this recording
+  pub recording : PlainRecording
+  pub read : recorded ≡ Ok recording
+  -- the second file is the certificate of these steps
+  pub steps : List Step
+  pub certificate : certified ≡ Ok steps
+  -- it has a step for each entry, and each step is good
+  pub good : IsGood recording steps
+  -- the order that it names is a run that explains the recording: the headline's sentences hold of it
+  pub holds : Holds recording (order_of recording steps)
+  -- the report of the recording is out, behind what was there
+  pub out : Appends old new (report_text recording)
+
+-- WHAT A NO SAYS
+pub record SaysNo (recorded : Recorded) (certified : Certified) (old new : Option (List ℕ)) : Type 0 where
+  pub recording : PlainRecording
+  pub read : recorded ≡ Ok recording
+  pub steps : List Step
+  pub certificate : certified ≡ Ok steps
+  -- this step is the first bad one, and this cause the first that holds there; or the count differs
+  pub step : ℕ
+  pub cause : Cause
+  pub refused : Refuses recording steps (Bad step cause)
+  -- so the certificate is not good
+  pub bad : ¬ IsGood recording steps
+  -- its line is out, behind what was there
+  pub out : Appends old new (no_line step cause)
+
+-- the text that is to go out for a recording and the steps of a certificate
+abbrev pub IsDue : PlainRecording → List Step → List ℕ → Type 0
+IsDue r steps text = (IsGood r steps × (text ≡ report_text r)) ⊎ ((k : ℕ) × (cause : Cause) × Refuses r steps (Bad k cause) × (text ≡ no_line k cause))
+
+-- WHAT A FAILED WRITE LEAVES: of the text that was to go out a prefix
+pub record SaysPart (recorded : Recorded) (certified : Certified) (old new : Option (List ℕ)) : Type 0 where
+  pub recording : PlainRecording
+  pub read : recorded ≡ Ok recording
+  pub steps : List Step
+  pub certificate : certified ≡ Ok steps
+  pub text : List ℕ
+  pub due : IsDue recording steps text
+  pub part : WritesPart old new text
+
+-- A recording and a certificate were judged: a yes, a no, or the first file that is none; a failed read may come in place of either file, want of memory at any time.
+abbrev pub Judges : Recorded → Certified → Result Bool FilesFault → Option (List ℕ) → Option (List ℕ) → Type 0
+Judges recorded certified (Ok true) old new = SaysYes recorded certified old new
+Judges recorded certified (Ok false) old new = SaysNo recorded certified old new
+Judges recorded certified (Err (Recording (recordings.Format fault))) old new = (recorded ≡ Err fault) × Keeps old new
+Judges recorded certified (Err (Recording recordings.Read)) old new = Keeps old new
+Judges recorded certified (Err (Recording recordings.Memory)) old new = ⊥
+Judges recorded certified (Err (Certificate (certificates.Format fault))) old new = ((r : PlainRecording) × (recorded ≡ Ok r)) × (certified ≡ Err fault) × Keeps old new
+Judges recorded certified (Err (Certificate certificates.Read)) old new = ((r : PlainRecording) × (recorded ≡ Ok r)) × Keeps old new
+Judges recorded certified (Err (Certificate certificates.Memory)) old new = ⊥
+Judges recorded certified (Err Write) old new = SaysPart recorded certified old new
+Judges recorded certified (Err Memory) old new = Keeps old new
+
+-- how the fault of a file is told
+abbrev pub of_recording : RecordingFault → FilesFault
+of_recording (recordings.Format fault) = Recording (recordings.Format fault)
+of_recording recordings.Read = Recording recordings.Read
+of_recording recordings.Memory = Memory
+
+abbrev pub of_certificate : CertificateFault → FilesFault
+of_certificate (certificates.Format fault) = Certificate (certificates.Format fault)
+of_certificate certificates.Read = Certificate certificates.Read
+of_certificate certificates.Memory = Memory
+
+-- the statuses: 0 yes, 1 no, 2 a fault, 3 want of memory
+abbrev pub files_fault_status : FilesFault → ℕ
+files_fault_status (Recording fault) = 2
+files_fault_status (Certificate fault) = 2
+files_fault_status Write = 2
+files_fault_status Memory = 3
+
+abbrev pub check_status : Result Bool FilesFault → ℕ
+check_status (Ok true) = 0
+check_status (Ok false) = 1
+check_status (Err fault) = files_fault_status fault
+
+-- HOW `check` ENDS, with this status
+pub record EndsCheck (recorded : Recorded) (certified : Certified) (status : ℕ) (old new : Option (List ℕ)) : Type 0 where
+  pub status_is : status ≤ 3
+  pub yes : status ≡ 0 → SaysYes recorded certified old new
+  pub no : status ≡ 1 → SaysNo recorded certified old new
+  pub faulty : status ≡ 2 → (fault : FilesFault) × (files_fault_status fault ≡ 2) × Judges recorded certified (Err fault) old new
+  pub none : status ≡ 3 → Keeps old new

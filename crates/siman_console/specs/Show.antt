@@ -1,0 +1,105 @@
+-- What `show` prints of a recording, and how it ends.
+use Rattle.std.specs.Prelude.{◌≡◌, ◌⊎◌, ℕ, List, [], ◌++◌, length, slice_get, codes, decimal, Option, Some, None, Result, Ok, Err}
+use Rattle.std.specs.List.{flat_map}
+use Rattle.std.specs.Option.{option_map_or}
+use Rattle.std.specs.Io.KnownBytes.{Appends, Keeps}
+use Rattle.dis_records.specs.declared.entity_state.EntityState.{EntityState}
+use Rattle.siman_pdus.specs.declared.pdu.Pdu.{Pdu}
+use Rattle.exercise_recording.specs.declared.format_fault.FormatFault.{FormatFault}
+use Rattle.exercise_recording.specs.declared.format_fault.RecordingFault.{RecordingFault}
+use Rattle.exercise_recording.specs.declared.format_fault.RecordingFault.TheVariants as recordings
+use Rattle.exercise_recording.specs.Station.{StationData}
+use Rattle.exercise_recording.specs.Entry.{Entry, Sent, Received, Told}
+use Rattle.exercise_recording.specs.Recording.{PlainRecording}
+use Rattle.exercise_recording.specs.History.{station_at}
+use Rattle.exercise_recording.specs.Meaning.{meaning}
+use Rattle.exercise_recording.specs.Writing.{WritesPart}
+use Rattle.siman_console.specs.declared.show_fault.ShowFault.{ShowFault}
+use Rattle.siman_console.specs.declared.show_fault.ShowFault.TheVariants.{Recording, Output, Memory}
+use Rattle.siman_console.specs.Head.{head_text}
+use Rattle.siman_console.specs.Records.{line_end}
+use Rattle.siman_console.specs.Report.{state_text, texts_below}
+use Rattle.siman_console.specs.ShowFault.{show_fault_status}
+
+-- exercise=X stations=N records=N
+abbrev pub counts_line : PlainRecording → List ℕ
+counts_line r = codes "exercise=" ++ decimal r.exercise ++ codes " stations=" ++ decimal (length r.stations) ++ codes " records=" ++ decimal (length r.entries) ++ line_end
+
+-- station INDEX ADDRESS
+abbrev pub station_line : ℕ → StationData → List ℕ
+station_line s o = codes "station " ++ decimal s ++ codes " " ++ decimal o.address.site ++ codes ":" ++ decimal o.address.application ++ line_end
+
+-- opening INDEX ENTITY STATE
+abbrev pub opening_line : ℕ → ℕ × EntityState → List ℕ
+opening_line s opened = codes "opening " ++ decimal s ++ codes " " ++ decimal opened.0 ++ codes " " ++ state_text opened.1 ++ line_end
+
+-- the line of a station, and one for each entity that it opens with
+abbrev pub station_lines : ℕ → StationData → List ℕ
+station_lines s o = station_line s o ++ flat_map (opening_line s) o.opening
+
+-- the head of the PDU that a datagram means, or other bytes=N
+abbrev pub meant_text : List ℕ → Option Pdu → List ℕ
+meant_text b None = codes "other bytes=" ++ decimal (length b)
+meant_text b (Some pdu) = head_text pdu
+
+abbrev pub datagram_line : ℕ → List ℕ → List ℕ
+datagram_line x b = meant_text b (meaning x b) ++ line_end
+
+-- ENTRY sent INDEX stamp=N HEAD, ENTRY received INDEX stamp=N HEAD or ENTRY told INDEX ENTITY STATE
+abbrev pub entry_line : ℕ → ℕ → Entry → List ℕ
+entry_line x i (Sent s stamp b) = decimal i ++ codes " sent " ++ decimal s ++ codes " stamp=" ++ decimal stamp ++ codes " " ++ datagram_line x b
+entry_line x i (Received s stamp b) = decimal i ++ codes " received " ++ decimal s ++ codes " stamp=" ++ decimal stamp ++ codes " " ++ datagram_line x b
+entry_line x i (Told s e y) = decimal i ++ codes " told " ++ decimal s ++ codes " " ++ decimal e ++ codes " " ++ state_text y ++ line_end
+
+-- what is shown of a station, and of an entry, by its number
+abbrev pub station_shown : PlainRecording → ℕ → List ℕ
+station_shown r s = station_lines s (station_at r s)
+
+abbrev pub entry_shown : PlainRecording → ℕ → List ℕ
+entry_shown r i = option_map_or (entry_line r.exercise i) (slice_get r.entries i) []
+
+-- THE TEXT OF A RECORDING: its head, its stations with what they open with, and its entries, both by rising numbers
+abbrev pub show_text : PlainRecording → List ℕ
+show_text r = counts_line r ++ texts_below (station_shown r) (length r.stations) ++ texts_below (entry_shown r) (length r.entries)
+
+-- Of a text all is out behind what was there but what is still held, which is its end.
+abbrev pub IsPassedOn : Option (List ℕ) → Option (List ℕ) → (held text : List ℕ) → Type 0
+IsPassedOn old new held text = (out : List ℕ) × Appends old new out × (out ++ held ≡ text)
+
+-- Lines were passed on, or of their text a prefix is out.
+abbrev pub PassesOn : Result (Unit {0}) ShowFault → Option (List ℕ) → Option (List ℕ) → (held text : List ℕ) → Type 0
+PassesOn (Ok x) old new held text = IsPassedOn old new held text
+PassesOn (Err (Recording fault)) old new held text = ⊥
+PassesOn (Err Output) old new held text = WritesPart old new text
+PassesOn (Err Memory) old new held text = WritesPart old new text
+
+-- the recording that was read is out whole, or a prefix of its text
+abbrev pub ShowsWhole : Result PlainRecording FormatFault → Option (List ℕ) → Option (List ℕ) → Type 0
+ShowsWhole recorded old new = (r : PlainRecording) × (recorded ≡ Ok r) × Appends old new (show_text r)
+
+abbrev pub ShowsPart : Result PlainRecording FormatFault → Option (List ℕ) → Option (List ℕ) → Type 0
+ShowsPart recorded old new = (r : PlainRecording) × (recorded ≡ Ok r) × WritesPart old new (show_text r)
+
+-- A recording was shown, or there was none to show; a failed read may come in its place, want of memory before it and while it is shown.
+abbrev pub Shows : Result PlainRecording FormatFault → Result (Unit {0}) ShowFault → Option (List ℕ) → Option (List ℕ) → Type 0
+Shows recorded (Ok x) old new = ShowsWhole recorded old new
+Shows recorded (Err (Recording (recordings.Format fault))) old new = (recorded ≡ Err fault) × Keeps old new
+Shows recorded (Err (Recording recordings.Read)) old new = Keeps old new
+Shows recorded (Err (Recording recordings.Memory)) old new = ⊥
+Shows recorded (Err Output) old new = ShowsPart recorded old new
+Shows recorded (Err Memory) old new = Keeps old new ⊎ ShowsPart recorded old new
+
+-- how a recording's fault is told
+abbrev pub of_recording : RecordingFault → ShowFault
+of_recording (recordings.Format fault) = Recording (recordings.Format fault)
+of_recording recordings.Read = Recording recordings.Read
+of_recording recordings.Memory = Memory
+
+-- HOW `show` ENDS, with this status
+pub record EndsShow (recorded : Result PlainRecording FormatFault) (status : ℕ) (old new : Option (List ℕ)) : Type 0 where
+  -- the text of the recording is out, behind what was there
+  pub whole : status ≡ 0 → ShowsWhole recorded old new
+  -- a fault of the recording, with nothing out, or a failed write, with a prefix out
+  pub faulty : status ≡ 2 → (fault : ShowFault) × (show_fault_status fault ≡ 2) × Shows recorded (Err fault) old new
+  -- want of memory, with nothing or a prefix out
+  pub none : status ≡ 3 → Shows recorded (Err Memory) old new

@@ -1,0 +1,107 @@
+//! The command `check`: a recording, judged by a certificate.
+
+ghost use Rattle.std.specs.Prelude.{◌≡◌, ◌≤◌, IfSome, OnOk, Ok};
+ghost use Rattle.std.specs.Io.KnownBytes.{Keeps};
+ghost use Rattle.exercise_recording.specs.Reading.{recording_at};
+ghost use Rattle.exercise_check.specs.Certificate.{certificate_at};
+ghost use Rattle.siman_console.specs.Check.{Recorded, Certified, Judges, check_status, EndsCheck};
+
+use crate::files_fault::FilesFault;
+use crate::report::{no_line, report_text};
+use crate::show::LARGEST_RECORDING;
+use exercise_check::{Certificate, CheckFault, check, read_certificate};
+use exercise_recording::output::put;
+use exercise_recording::{ExerciseLog, read_recording};
+use std::alloc::Global;
+use std::io::{Read, Write};
+
+/// The most steps of a certificate that is read.
+pub const LARGEST_CERTIFICATE: u32 = 1_048_576;
+
+/// Judges the recording that the first reader has by the certificate that the second one has, and
+/// writes what is to be said: true is a yes with the report of the recording, false a no with the
+/// line of its first bad step. The recording is read first, whole, then the certificate; the answer
+/// is made whole before any of it is written.
+///
+/// A recording that is none, has more than 268,435,456 bytes or can't be read gives Recording, a
+/// certificate that is none, has more than 1,048,576 steps or can't be read Certificate, want of
+/// memory Memory, all with nothing out. After Write a prefix of the answer is out.
+pub fn check_files<R: Read + Drop, C: Read + Drop, W: Write>(
+    alloc: Global,
+    recording: R,
+    certificate: C,
+    out: &mut W,
+) -> Result<bool, FilesFault>
+    ensures known { IfSome (R.remaining recording) (λ r. IfSome (C.remaining certificate) (λ c. Judges (recording_at 268435456 r) (certificate_at 1048576 c) result (W.contents out.old) (W.contents out.new))) }
+    // Whatever it read, it judged that.
+    ensures some { (recorded : Recorded) × (certified : Certified) × Judges recorded certified result (W.contents out.old) (W.contents out.new) }
+{
+    let log = read_recording(alloc, recording, LARGEST_RECORDING)?;
+    let certificate = read_certificate(alloc, certificate, LARGEST_CERTIFICATE)?;
+    judge(alloc, &log, &certificate, out)
+}
+
+/// As [`check_files`], and tells a fault on `errors`: status 0 is a yes, 1 a no, 2 a fault with its
+/// line (`recording: NAME at N`, `recording: read`, `certificate: NAME at N`, `certificate: read`
+/// with nothing on `out`; `output: write` with a prefix of the answer there), 3 want of memory
+/// (`memory`) with nothing on `out`.
+pub fn check_command<R: Read + Drop, C: Read + Drop, W: Write, E: Write>(
+    alloc: Global,
+    recording: R,
+    certificate: C,
+    out: &mut W,
+    errors: &mut E,
+) -> u8
+    ensures known { IfSome (R.remaining recording) (λ r. IfSome (C.remaining certificate) (λ c. EndsCheck (recording_at 268435456 r) (certificate_at 1048576 c) result (W.contents out.old) (W.contents out.new))) }
+    // Whatever it read, it ended as that asks for.
+    ensures ends { (recorded : Recorded) × (certified : Certified) × EndsCheck recorded certified result (W.contents out.old) (W.contents out.new) }
+    ensures silent { result ≤ 1 → Keeps (E.contents errors.old) (E.contents errors.new) }
+{
+    let told = check_files(alloc, recording, certificate, out);
+    end(told, errors)
+}
+
+/// Writes what is to be said of a log and a certificate.
+#[tactic(auto, using(crate::proofs::Verdicts::not_good))]
+fn judge<L: ExerciseLog, W: Write>(
+    alloc: Global,
+    log: &L,
+    certificate: &Certificate,
+    out: &mut W,
+) -> Result<bool, FilesFault>
+    ensures { Judges (Ok (L.recording log.now)) (Ok certificate.now.steps.items) result (W.contents out.old) (W.contents out.new) }
+{
+    match check(alloc, log, certificate) {
+        Ok(checked) => {
+            let text = report_text(alloc, log, &checked)?;
+            match put(out, text.as_bytes()) {
+                Ok(()) => Ok(true),
+                Err(_) => Err(FilesFault::Write),
+            }
+        }
+        Err(CheckFault::Bad { step, cause }) => {
+            let text = no_line(alloc, step, cause)?;
+            match put(out, text.as_bytes()) {
+                Ok(()) => Ok(false),
+                Err(_) => Err(FilesFault::Write),
+            }
+        }
+        Err(CheckFault::Memory) => Err(FilesFault::Memory),
+    }
+}
+
+/// The status that the command ends with, after it told its fault.
+fn end<E: Write>(told: Result<bool, FilesFault>, errors: &mut E) -> u8
+    ensures status { result ≡ check_status told }
+    ensures silent { OnOk told (Keeps (E.contents errors.old) (E.contents errors.new)) }
+{
+    match told {
+        Ok(true) => 0,
+        Ok(false) => 1,
+        Err(fault) => {
+            // A fault that can't be written has nowhere to be told.
+            let _ = writeln!(errors, "{fault}");
+            fault.status()
+        }
+    }
+}

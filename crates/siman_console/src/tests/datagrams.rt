@@ -1,0 +1,79 @@
+//! Datagrams of exercise 1, byte by byte; the manager is 1:1, and identifiers are below 256.
+
+/// Site, application and entity number.
+pub(crate) type Id = [u8; 6];
+
+pub(crate) const MANAGER: Id = [0, 1, 0, 1, 0, 0];
+
+/// Entity 7 of 2:3.
+pub(crate) const SEVEN: Id = [0, 2, 0, 3, 0, 7];
+
+/// No entity in particular of 2:3.
+pub(crate) const NONE: Id = [0, 2, 0, 3, 0, 0];
+
+/// A Create Entity, from the manager.
+pub(crate) fn create(to: Id, request: u8) -> [u8; 28] {
+    let [s, t, a, b, e, f] = to;
+    [
+        7, 1, 11, 5, 0, 0, 0, 0, 0, 28, 0, 0, 0, 1, 0, 1, 0, 0, s, t, a, b, e, f, 0, 0, 0, request,
+    ]
+}
+
+/// The same with another timestamp.
+pub(crate) fn create_later(to: Id, request: u8) -> [u8; 28] {
+    let [s, t, a, b, e, f] = to;
+    [
+        7, 1, 11, 5, 0, 0, 0, 20, 0, 28, 0, 0, 0, 1, 0, 1, 0, 0, s, t, a, b, e, f, 0, 0, 0, request,
+    ]
+}
+
+/// A Start/Resume, from the manager.
+pub(crate) fn start(to: Id, request: u8) -> [u8; 44] {
+    let [s, t, a, b, e, f] = to;
+    [
+        7, 1, 13, 5, 0, 0, 0, 0, 0, 44, 0, 0, 0, 1, 0, 1, 0, 0, s, t, a, b, e, f, 0, 0, 0, 0, 0, 0,
+        0, 0, 0, 0, 0, 0, 0, 0, 0, 0, 0, 0, 0, request,
+    ]
+}
+
+/// A Stop/Freeze, from the manager.
+pub(crate) fn stop(to: Id, request: u8) -> [u8; 40] {
+    let [s, t, a, b, e, f] = to;
+    [
+        7, 1, 14, 5, 0, 0, 0, 0, 0, 40, 0, 0, 0, 1, 0, 1, 0, 0, s, t, a, b, e, f, 0, 0, 0, 0, 0, 0,
+        0, 0, 0, 0, 0, 0, 0, 0, 0, request,
+    ]
+}
+
+/// An Acknowledge, to the manager.
+pub(crate) fn acknowledge(from: Id, flag: u8, response: u8, request: u8) -> [u8; 32] {
+    let [s, t, a, b, e, f] = from;
+    [
+        7, 1, 15, 5, 0, 0, 0, 0, 0, 32, 0, 0, s, t, a, b, e, f, 0, 1, 0, 1, 0, 0, 0, flag, 0,
+        response, 0, 0, 0, request,
+    ]
+}
+
+/// A Data Query for nothing, from the manager.
+pub(crate) const QUERY: [u8; 40] = [
+    7, 1, 18, 5, 0, 0, 0, 0, 0, 40, 0, 0, 0, 1, 0, 1, 0, 0, 0, 2, 0, 3, 0, 0, 0, 0, 0, 1, 0, 0, 0,
+    0, 0, 0, 0, 0, 0, 0, 0, 0,
+];
+
+/// A Data with nothing, to the manager.
+pub(crate) const DATA: [u8; 40] = [
+    7, 1, 20, 5, 0, 0, 0, 0, 0, 40, 0, 0, 0, 2, 0, 3, 0, 0, 0, 1, 0, 1, 0, 0, 0, 0, 0, 1, 0, 0, 0,
+    0, 0, 0, 0, 0, 0, 0, 0, 0,
+];
+
+/// A Comment without records, to the manager.
+pub(crate) fn comment(from: Id) -> [u8; 32] {
+    let [s, t, a, b, e, f] = from;
+    [
+        7, 1, 22, 5, 0, 0, 0, 0, 0, 32, 0, 0, s, t, a, b, e, f, 0, 1, 0, 1, 0, 0, 0, 0, 0, 0, 0, 0,
+        0, 0,
+    ]
+}
+
+/// The head of an Entity State: PDU type 1 of protocol family 1.
+pub(crate) const ENTITY_STATE: [u8; 12] = [7, 1, 1, 1, 0, 0, 0, 0, 0, 12, 0, 0];

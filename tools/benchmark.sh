@@ -1,6 +1,6 @@
 #!/usr/bin/env bash
 # Times the decoder and the encoder over one datagram of each kind, beside a plain loop over the same bytes, and a tick
-# of the manager over settled orders.
+# of the manager over settled orders; then takes of an application over kept requests, and a Stop to all its entities.
 # It works on a copy of the repository in a temporary folder, so that the benchmark is no crate of the gate; its source
 # has the ending .txt here, since the gate refuses code that no crate holds.
 set -eu
@@ -14,7 +14,9 @@ rt new crates/benchmark start_io >&2
 rm -rf crates/benchmark/BUILD.bazel BUILD.bazel crates/benchmark/src crates/benchmark/proofs crates/benchmark/specs
 rm -f crates/benchmark/stdin crates/benchmark/stdout
 mkdir -p crates/benchmark/src
-cp "$top/tools/benchmark/main.txt" crates/benchmark/src/main.rt
-echo 'benchmark: dis_records siman_pdus siman_manager hex' >> crates.txt
+echo 'benchmark: dis_records siman_pdus exercise_recording siman_manager siman_application hex' >> crates.txt
 cd crates/benchmark
-rt run < "$top/tools/benchmark/datagrams.hex"
+for part in main application; do
+    cp "$top/tools/benchmark/$part.txt" src/main.rt
+    rt run < "$top/tools/benchmark/datagrams.hex"
+done

@@ -1,0 +1,15 @@
+pub mod Numbers
+pub mod Changes
+pub mod Found
+pub mod Cut
+pub mod Told
+pub mod Places
+pub mod Answered
+pub mod Spelled
+pub mod Played
+pub mod Right
+pub mod Turns
+pub mod Acks
+pub mod After
+pub mod Stands
+pub mod Logs

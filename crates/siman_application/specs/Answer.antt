@@ -1,0 +1,167 @@
+-- The answer to a request, by what the application knows when the request comes first (profile, over IEEE 1278.1-2012, 5.6.5).
+use Rattle.std.specs.Prelude.{ℕ, zero, suc, ◌+◌, ◌-◌, Bool, ◌==◌, ◌&&◌, ◌||◌, not, nat_le, nat_lt, [], length, map, take, Option, Some, None, if◌then◌else◌}
+use Rattle.std.specs.List.{list_any}
+use Rattle.dis_records.specs.declared.datum.FixedDatum.{FixedDatum}
+use Rattle.dis_records.specs.declared.entity_state.EntityState.{EntityState}
+use Rattle.dis_records.specs.declared.kind.Kind.{Kind}
+use Rattle.dis_records.specs.Datum.{Datum}
+use Rattle.dis_records.specs.Entity.{is_open}
+use Rattle.siman_pdus.specs.declared.pdu.Body.{Body}
+use Rattle.siman_pdus.specs.declared.pdu.Body.TheVariants.{CreateEntity, RemoveEntity, StartResume, StopFreeze, Acknowledge, ActionRequest, ActionResponse, DataQuery, SetData, DataPdu, EventReport, Comment}
+use Rattle.siman_pdus.specs.declared.pdu.Pdu.{Pdu}
+use Rattle.siman_pdus.specs.DatumLists.{DatumLists, IdLists}
+use Rattle.siman_pdus.specs.Spelling.{body_kind, pdu_size}
+use Rattle.exercise_recording.specs.Station.{is_entity, is_absent}
+use Rattle.exercise_recording.specs.Change.{able, unable}
+use Rattle.exercise_recording.specs.Place.{first_below}
+use Rattle.siman_application.specs.Outfit.{Outfit}
+use Rattle.siman_application.specs.Records.{fixed_id, variable_id, last_under, stored, found}
+
+-- what an application knows: the state of each entity, and the record that it holds under each datum identifier
+pub record Knowledge : Type 0 where
+  pub states : ℕ → EntityState
+  pub fixed : ℕ → Option FixedDatum
+  pub variable : ℕ → Option Datum
+
+-- Entities.
+
+-- how many of the numbers 1 to n are of entities that are there
+unfoldable pub count_present : (ℕ → EntityState) → ℕ → ℕ
+count_present y zero = 0
+count_present y (suc n) = count_present y n + (if is_absent (y (suc n)) then 0 else 1)
+
+-- fewer than 4,096 entities are there
+abbrev pub has_place : (ℕ → EntityState) → Bool
+has_place y = nat_lt (count_present y 65533) 4096
+
+-- an entity of this number can be created
+abbrev pub is_free : (ℕ → EntityState) → ℕ → Bool
+is_free y e = is_entity e && is_absent (y e)
+
+-- the number that a Create Entity for number n creates, if it does: n, or for 0xFFFE the least that is free
+abbrev pub chosen : (ℕ → EntityState) → ℕ → Option ℕ
+chosen y n =
+    if has_place y
+    then (if n == 0xFFFE then first_below (is_free y) 65534 else (if is_free y n then Some n else None))
+    else None
+
+-- the number names an entity that is there, or no single one
+abbrev pub is_meant : Kind → (ℕ → EntityState) → ℕ → Bool
+is_meant kind y n = is_open kind n || not (is_absent (y n))
+
+-- the originating number of an answer: that of the request, or 0 where that names no single entity
+abbrev pub own_number : Kind → ℕ → ℕ
+own_number kind n = if is_open kind n then 0 else n
+
+-- Answers.
+
+-- the answer to q from entity number m: in the request's version, of the exercise, status 0, to the request's originator
+abbrev pub answer_pdu : Outfit → Pdu → ℕ → ℕ → Body → Pdu
+answer_pdu a q stamp m body = record {
+  version = q.version;
+  exercise = a.exercise;
+  stamp = stamp;
+  status = 0;
+  origin = record { site = a.station.address.site; application = a.station.address.application; entity = m };
+  target = q.origin;
+  body = body;
+}
+
+-- the answer from the number of the request
+abbrev pub plain_answer : Outfit → Pdu → ℕ → Body → Pdu
+plain_answer a q stamp body = answer_pdu a q stamp (own_number (body_kind q.body) q.target.entity) body
+
+-- A Create Entity is acknowledged with flag 1: able, from the number that is created, or unable.
+abbrev pub created : Outfit → Pdu → ℕ → ℕ → Option ℕ → Pdu
+created a q stamp request None = plain_answer a q stamp (Acknowledge 1 unable request)
+created a q stamp request (Some m) = answer_pdu a q stamp m (Acknowledge 1 able request)
+
+-- A Remove Entity (flag 2), Start/Resume (3) or Stop/Freeze (4): able where it is for all entities or for one that is there.
+abbrev pub obeyed : Outfit → (ℕ → EntityState) → Pdu → ℕ → ℕ → ℕ → Pdu
+obeyed a y q stamp flag request =
+    plain_answer a q stamp (Acknowledge flag (if is_meant (body_kind q.body) y q.target.entity then able else unable) request)
+
+-- the request status of an Action Response: 4 (complete) where the action is known, for all entities or for one that is there; else 5 (rejected)
+abbrev pub action_status : Outfit → (ℕ → EntityState) → Pdu → ℕ → ℕ
+action_status a y q action =
+    if list_any (λ known. known == action) a.actions && is_meant (body_kind q.body) y q.target.entity then 4 else 5
+
+abbrev pub no_datums : DatumLists
+no_datums = record { fixed = []; variable = [] }
+
+-- Data.
+
+-- the first k records, the fixed ones before the variable ones
+abbrev pub first_records : ℕ → DatumLists → DatumLists
+first_records k d = record { fixed = take k d.fixed; variable = take (k - length d.fixed) d.variable }
+
+-- the largest number up to n that passes, or 0
+unfoldable pub largest : (ℕ → Bool) → ℕ → ℕ
+largest test zero = 0
+largest test (suc n) = if test (suc n) then suc n else largest test n
+
+abbrev pub record_count : DatumLists → ℕ
+record_count d = length d.fixed + length d.variable
+
+-- the Data that answers q with these records
+abbrev pub data_pdu : Outfit → Pdu → ℕ → ℕ → DatumLists → Pdu
+data_pdu a q stamp request d = plain_answer a q stamp (DataPdu request d)
+
+-- A Data holds the longest beginning of the records with which it has at most 8192 bytes.
+abbrev pub data_answer : Outfit → Pdu → ℕ → ℕ → DatumLists → Pdu
+data_answer a q stamp request d =
+    data_pdu a q stamp request (first_records (largest (λ k. nat_le (pdu_size (data_pdu a q stamp request (first_records k d))) 8192) (record_count d)) d)
+
+-- the records that are held under these identifiers
+abbrev pub held_records : Knowledge → IdLists → DatumLists
+held_records k ids = record { fixed = found k.fixed ids.fixed; variable = found k.variable ids.variable }
+
+-- the records that a Set Data brings
+abbrev pub brought : Body → DatumLists
+brought (CreateEntity request) = no_datums
+brought (RemoveEntity request) = no_datums
+brought (StartResume real sim request) = no_datums
+brought (StopFreeze real reason behaviour request) = no_datums
+brought (Acknowledge flag response request) = no_datums
+brought (ActionRequest request action datums) = no_datums
+brought (ActionResponse request status datums) = no_datums
+brought (DataQuery request interval ids) = no_datums
+brought (SetData request datums) = datums
+brought (DataPdu request datums) = no_datums
+brought (EventReport event datums) = no_datums
+brought (Comment datums) = no_datums
+
+-- what is known after these records were brought: under each identifier that is held, the last of them
+abbrev pub told_of : DatumLists → Knowledge → Knowledge
+told_of d k = record {
+  states = k.states;
+  fixed = λ id. stored (last_under fixed_id id d.fixed) (k.fixed id);
+  variable = λ id. stored (last_under variable_id id d.variable) (k.variable id);
+}
+
+-- the identifiers of records
+abbrev pub ids_of : DatumLists → IdLists
+ids_of d = record { fixed = map fixed_id d.fixed; variable = map variable_id d.variable }
+
+-- THE ANSWER TO A REQUEST q that comes for the first time, with this timestamp; what is no request has none, and stands for itself
+abbrev pub answer_by : Outfit → Knowledge → Pdu → ℕ → Body → Pdu
+answer_by a k q stamp (CreateEntity request) = created a q stamp request (chosen k.states q.target.entity)
+answer_by a k q stamp (RemoveEntity request) = obeyed a k.states q stamp 2 request
+answer_by a k q stamp (StartResume real sim request) = obeyed a k.states q stamp 3 request
+answer_by a k q stamp (StopFreeze real reason behaviour request) = obeyed a k.states q stamp 4 request
+answer_by a k q stamp (Acknowledge flag response request) = q
+answer_by a k q stamp (ActionRequest request action datums) = plain_answer a q stamp (ActionResponse request (action_status a k.states q action) no_datums)
+answer_by a k q stamp (ActionResponse request status datums) = q
+-- the interval is not looked at
+answer_by a k q stamp (DataQuery request interval ids) = data_answer a q stamp request (held_records k ids)
+-- the values are those after all storing
+answer_by a k q stamp (SetData request datums) = data_answer a q stamp request (held_records (told_of datums k) (ids_of datums))
+answer_by a k q stamp (DataPdu request datums) = q
+answer_by a k q stamp (EventReport event datums) = q
+answer_by a k q stamp (Comment datums) = q
+
+abbrev pub answer : Outfit → Knowledge → Pdu → ℕ → Pdu
+answer a k q stamp = answer_by a k q stamp q.body
+
+abbrev pub with_stamp : ℕ → Pdu → Pdu
+with_stamp stamp p = record p { stamp = stamp }

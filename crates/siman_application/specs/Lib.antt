@@ -1,0 +1,12 @@
+pub mod Outfit
+pub mod Distinct
+pub mod Records
+pub mod Answer
+pub mod Play
+pub mod Listed
+pub mod Kept
+pub mod Knows
+pub mod Standing
+pub mod Ranges
+pub mod Lending
+pub mod OwnLog

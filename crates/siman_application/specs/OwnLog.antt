@@ -1,0 +1,125 @@
+-- The log of a station whose application answers, THE LAST EVENT FIRST (profile).
+use Rattle.std.specs.Prelude.{◌≡◌, ℕ, List, [], ◌∷◌, Bool, true, false, Option, Some, None, ◌⊎◌}
+use Rattle.dis_records.specs.declared.entity_state.EntityState.{EntityState}
+use Rattle.siman_pdus.specs.declared.pdu.Pdu.{Pdu}
+use Rattle.siman_pdus.specs.Reading.{reading}
+use Rattle.siman_pdus.specs.Role.{is_request_body}
+use Rattle.siman_pdus.specs.Same.{IsSameOrder}
+use Rattle.siman_pdus.specs.Spelling.{pdu_text}
+use Rattle.exercise_recording.specs.History.{History, Send, Get, Tell}
+use Rattle.exercise_recording.specs.Meaning.{meaning}
+use Rattle.exercise_recording.specs.Exchange.{is_answer_body}
+use Rattle.exercise_recording.specs.Cause.{send_cause}
+use Rattle.siman_application.specs.Outfit.{Outfit}
+use Rattle.siman_application.specs.Distinct.{is_under_key}
+use Rattle.siman_application.specs.Play.{reply}
+use Rattle.siman_application.specs.Ranges.{IsInRange, IsStationId}
+
+-- what a station does in one turn
+pub data Turn : Type 0 where
+  -- it tells the state of an entity
+  Tells : (entity : ℕ) (state : EntityState) → Turn
+  -- its manager half sends a request
+  Orders : (bytes : List ℕ) → Turn
+  -- it gets a datagram that its application does not take
+  Passes : (bytes : List ℕ) → Turn
+  -- it gets a datagram whose PDU its application takes, and sends the reply at once, if there is one
+  Takes : (bytes : List ℕ) (pdu : Pdu) (stamp : ℕ) → Turn
+  -- the same, and the reply is not sent
+  Loses : (bytes : List ℕ) (pdu : Pdu) → Turn
+
+-- the PDUs that the application took in these turns, the last first
+abbrev pub taken_in : List Turn → List Pdu
+taken_in [] = []
+taken_in (Tells e y ∷ ts) = taken_in ts
+taken_in (Orders b ∷ ts) = taken_in ts
+taken_in (Passes b ∷ ts) = taken_in ts
+taken_in (Takes b q stamp ∷ ts) = q ∷ taken_in ts
+taken_in (Loses b q ∷ ts) = q ∷ taken_in ts
+
+-- a log that goes on by a reply, if there is one
+abbrev pub sent_after : ℕ → Option Pdu → History → History
+sent_after s None log = log
+sent_after s (Some p) log = Send s (pdu_text p) ∷ log
+
+-- THE LOG OF THESE TURNS at station s
+abbrev pub log_in : Outfit → ℕ → List Turn → History
+log_in a s [] = []
+log_in a s (Tells e y ∷ ts) = Tell s e y ∷ log_in a s ts
+log_in a s (Orders b ∷ ts) = Send s b ∷ log_in a s ts
+log_in a s (Passes b ∷ ts) = Get s b ∷ log_in a s ts
+log_in a s (Takes b q stamp ∷ ts) = sent_after s (reply a (taken_in ts) q stamp) (Get s b ∷ log_in a s ts)
+log_in a s (Loses b q ∷ ts) = Get s b ∷ log_in a s ts
+
+-- the datagram means a request
+abbrev pub MeansRequest : Outfit → List ℕ → Type 0
+MeansRequest a b = (p : Pdu) × (meaning a.exercise b ≡ Some p) × (is_request_body p.body ≡ true)
+
+-- the text of a reply is read as it, as that of every PDU that can be written
+abbrev pub IsReplyText : Option Pdu → Type 0
+IsReplyText None = Unit {0}
+IsReplyText (Some p) = reading (pdu_text p) ≡ Some p
+
+-- the datagram is read as the PDU, whose numbers are in their ranges
+pub record IsRead (b : List ℕ) (q : Pdu) : Type 0 where
+  pub read : reading b ≡ Some q
+  pub ranges : IsInRange q
+
+-- The turns of a station, where `more` says that the application takes a PDU later on: what it orders is a request, what it takes is read so, and no reply but the last is missing.
+abbrev pub AreTurns : Outfit → Bool → List Turn → Type 0
+AreTurns a more [] = Unit {0}
+AreTurns a more (Tells e y ∷ ts) = AreTurns a more ts
+AreTurns a more (Orders b ∷ ts) = MeansRequest a b × AreTurns a more ts
+AreTurns a more (Passes b ∷ ts) = AreTurns a more ts
+AreTurns a more (Takes b q stamp ∷ ts) = IsRead b q × IsReplyText (reply a (taken_in ts) q stamp) × AreTurns a true ts
+AreTurns a more (Loses b q ∷ ts) = (more ≡ false) × IsRead b q × AreTurns a true ts
+
+-- A LOG THAT SUCH A STATION WRITES in these turns, and the PDUs that its application took
+pub record IsOwnLog (a : Outfit) (s : ℕ) (ts : List Turn) (h : History) (qs : List Pdu) : Type 0 where
+  pub station : IsStationId a
+  pub turns : AreTurns a false ts
+  pub log_is : log_in a s ts ≡ h
+  pub taken_is : taken_in ts ≡ qs
+
+-- no reply is missing
+abbrev pub MissNone : List Turn → Type 0
+MissNone [] = Unit {0}
+MissNone (Tells e y ∷ ts) = MissNone ts
+MissNone (Orders b ∷ ts) = MissNone ts
+MissNone (Passes b ∷ ts) = MissNone ts
+MissNone (Takes b q stamp ∷ ts) = MissNone ts
+MissNone (Loses b q ∷ ts) = ⊥
+
+-- the application took each PDU that came
+abbrev pub TakesAll : List Turn → Type 0
+TakesAll [] = Unit {0}
+TakesAll (Tells e y ∷ ts) = TakesAll ts
+TakesAll (Orders b ∷ ts) = TakesAll ts
+TakesAll (Passes b ∷ ts) = (reading b ≡ None) × TakesAll ts
+TakesAll (Takes b q stamp ∷ ts) = TakesAll ts
+TakesAll (Loses b q ∷ ts) = TakesAll ts
+
+-- a log that gets this datagram
+abbrev pub HasGet : History → List ℕ → Type 0
+HasGet [] b = ⊥
+HasGet (Send s c ∷ log) b = HasGet log b
+HasGet (Get s c ∷ log) b = (c ≡ b) ⊎ HasGet log b
+HasGet (Tell s e y ∷ log) b = HasGet log b
+
+-- no site and application used one request identifier for two orders, as far as a log got them
+abbrev pub AreOneOrder : Outfit → History → Type 0
+AreOneOrder a h =
+    (b c : List ℕ) (p q : Pdu) → HasGet h b → HasGet h c → meaning a.exercise b ≡ Some p → meaning a.exercise c ≡ Some q
+    → is_request_body p.body ≡ true → is_request_body q.body ≡ true → is_under_key q p ≡ true → IsSameOrder p q
+
+-- One of the two: so the first request under a key that a log gets is the order that the application answers.
+abbrev pub IsClear : Outfit → List Turn → History → Type 0
+IsClear a ts h = TakesAll ts ⊎ AreOneOrder a h
+
+-- No answer that the log sends has a cause against it, after the events before it.
+abbrev pub AnswersStand : Outfit → History → Type 0
+AnswersStand a [] = Unit {0}
+AnswersStand a (Send s c ∷ log) =
+    ((p : Pdu) → meaning a.exercise c ≡ Some p → is_answer_body p.body ≡ true → send_cause a.exercise a.station log p ≡ None) × AnswersStand a log
+AnswersStand a (Get s b ∷ log) = AnswersStand a log
+AnswersStand a (Tell s e y ∷ log) = AnswersStand a log

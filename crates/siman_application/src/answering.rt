@@ -1,0 +1,241 @@
+//! Answers to requests that come for the first time.
+
+ghost use Rattle.std.specs.Prelude.{◌≡◌, [], IfOk, IsTrue, ◌==◌, if◌then◌else◌};
+ghost use Rattle.std.specs.Option.{unwrap_or};
+ghost use Rattle.dis_records.specs.Entity.{is_open};
+ghost use Rattle.siman_pdus.specs.Role.{is_request_body};
+ghost use Rattle.siman_pdus.specs.Spelling.{body_kind};
+ghost use Rattle.siman_application.specs.Answer.{own_number, plain_answer, chosen, created, obeyed, is_meant, action_status, no_datums, data_answer, held_records, ids_of, brought, told_of, answer};
+ghost use Rattle.siman_application.specs.Knows.{knows};
+ghost use Rattle.siman_application.specs.Listed.{Entities, states_in};
+
+use crate::entities::Entities;
+use crate::number::names_none;
+use crate::outfit::Outfit;
+use crate::records::{find, ids_of, store};
+use dis_records::Kind;
+use siman_pdus::{ABLE, Body, DatumIds, Datums, Pdu, UNABLE, kind_of};
+use std::alloc::{AllocError, Global};
+
+/// The request status of an action that was done (SISO-REF-010): complete.
+const COMPLETE: u32 = 4;
+
+/// The request status of an action that was not: request rejected.
+const REJECTED: u32 = 5;
+
+/// The acknowledge flags (SISO-REF-010).
+const CREATE: u16 = 1;
+
+const REMOVE: u16 = 2;
+
+const START: u16 = 3;
+
+const STOP: u16 = 4;
+
+/// What a request comes to: its answer, and the datums that are held from then on, where they are
+/// others.
+#[derive(Debug, Drop)]
+pub(crate) struct Outcome {
+    pub answer: Pdu,
+    pub datums: Option<Datums>,
+}
+
+/// The answer from the number of the request, or from 0 where that names no single entity.
+fn plain_answer(outfit: &Outfit, request: &Pdu, stamp: u32, body: Body) -> Pdu
+    ensures { result ≡ plain_answer outfit.now request.now stamp body }
+{
+    let asked = request.target.entity;
+    let number = if names_none(kind_of(&request.body), asked) {
+        0
+    } else {
+        asked
+    };
+    outfit.answer(request, stamp, number, body)
+}
+
+/// The answer to a Create Entity: able, from the number that is created, or unable.
+fn answer_creation(outfit: &Outfit, entities: &Entities, request: &Pdu, stamp: u32, id: u32) -> Pdu
+    ensures { result ≡ created outfit.now request.now stamp id (chosen (states_in entities.now) request.now.target.entity) }
+{
+    match entities.choose(request.target.entity) {
+        Some(number) => {
+            let body = Body::Acknowledge {
+                flag: CREATE,
+                response: ABLE,
+                request: id,
+            };
+            outfit.answer(request, stamp, number, body)
+        }
+        None => {
+            let body = Body::Acknowledge {
+                flag: CREATE,
+                response: UNABLE,
+                request: id,
+            };
+            plain_answer(outfit, request, stamp, body)
+        }
+    }
+}
+
+/// The answer to a Remove Entity, Start/Resume or Stop/Freeze: able where it is for all entities or
+/// for one that is there.
+fn answer_order(
+    outfit: &Outfit,
+    entities: &Entities,
+    request: &Pdu,
+    stamp: u32,
+    flag: u16,
+    id: u32,
+) -> Pdu
+    ensures { result ≡ obeyed outfit.now (states_in entities.now) request.now stamp flag id }
+{
+    let is_able = entities.is_meant(kind_of(&request.body), request.target.entity);
+    let response = if is_able { ABLE } else { UNABLE };
+    let body = Body::Acknowledge {
+        flag,
+        response,
+        request: id,
+    };
+    plain_answer(outfit, request, stamp, body)
+}
+
+/// The request status of an action: complete where it is known, for all entities or for one that
+/// is there.
+fn action_status(outfit: &Outfit, entities: &Entities, request: &Pdu, action: u32) -> u32
+    ensures { result ≡ action_status outfit.now (states_in entities.now) request.now action }
+{
+    if outfit.knows(action) && entities.is_meant(kind_of(&request.body), request.target.entity) {
+        COMPLETE
+    } else {
+        REJECTED
+    }
+}
+
+fn answer_action(
+    alloc: Global,
+    outfit: &Outfit,
+    entities: &Entities,
+    request: &Pdu,
+    stamp: u32,
+    id: u32,
+    action: u32,
+) -> Pdu
+    ensures { result ≡ plain_answer outfit.now request.now stamp (Body.ActionResponse id (action_status outfit.now (states_in entities.now) request.now action) no_datums) }
+{
+    let datums = Datums {
+        fixed: Vec::new(alloc),
+        variable: Vec::new(alloc),
+    };
+    let result = action_status(outfit, entities, request, action);
+    plain_answer(
+        outfit,
+        request,
+        stamp,
+        Body::ActionResponse {
+            request: id,
+            result,
+            datums,
+        },
+    )
+}
+
+/// The Data with the records that are held under these identifiers, as many as fit.
+fn answer_data(
+    alloc: Global,
+    outfit: &Outfit,
+    held: &Datums,
+    request: &Pdu,
+    stamp: u32,
+    id: u32,
+    ids: &DatumIds,
+) -> Result<Pdu, AllocError>
+    ensures { IfOk result (λ pdu. pdu ≡ data_answer outfit.now request.now stamp id (held_records (knows [] held.now) ids.now)) }
+{
+    let datums = find(alloc, held, ids)?;
+    Ok(plain_answer(
+        outfit,
+        request,
+        stamp,
+        Body::DataPdu {
+            request: id,
+            datums,
+        },
+    ))
+}
+
+/// The answer to a Set Data, and the datums that are held from then on.
+fn answer_setting(
+    alloc: Global,
+    outfit: &Outfit,
+    held: &Datums,
+    request: &Pdu,
+    stamp: u32,
+    id: u32,
+    came: &Datums,
+) -> Result<Outcome, AllocError>
+    ensures answer { IfOk result (λ outcome. outcome.answer ≡ data_answer outfit.now request.now stamp id (held_records (told_of came.now (knows [] held.now)) (ids_of came.now))) }
+    ensures datums { IfOk result (λ outcome. (xs : Entities) → knows xs (unwrap_or outcome.datums held.now) ≡ told_of came.now (knows xs held.now)) }
+{
+    let stored = store(alloc, held, came)?;
+    let ids = ids_of(alloc, came)?;
+    let answer = answer_data(alloc, outfit, &stored, request, stamp, id, &ids)?;
+    Ok(Outcome {
+        answer,
+        datums: Some(stored),
+    })
+}
+
+/// The answer to a request that comes for the first time, and the datums that are held from then
+/// on.
+pub(crate) fn answer(
+    alloc: Global,
+    outfit: &Outfit,
+    entities: &Entities,
+    held: &Datums,
+    request: &Pdu,
+    stamp: u32,
+) -> Result<Outcome, AllocError>
+    requires { IsTrue (is_request_body request.now.body) }
+    ensures answer { IfOk result (λ outcome. outcome.answer ≡ answer outfit.now (knows entities.now held.now) request.now stamp) }
+    ensures datums { IfOk result (λ outcome. (xs : Entities) → knows xs (unwrap_or outcome.datums held.now) ≡ told_of (brought request.now.body) (knows xs held.now)) }
+{
+    let answer = match &request.body {
+        Body::CreateEntity { request: id } => {
+            answer_creation(outfit, entities, request, stamp, *id)
+        }
+        Body::RemoveEntity { request: id } => {
+            answer_order(outfit, entities, request, stamp, REMOVE, *id)
+        }
+        Body::StartResume { request: id, .. } => {
+            answer_order(outfit, entities, request, stamp, START, *id)
+        }
+        Body::StopFreeze { request: id, .. } => {
+            answer_order(outfit, entities, request, stamp, STOP, *id)
+        }
+        Body::ActionRequest {
+            request: id,
+            action,
+            ..
+        } => { answer_action(alloc, outfit, entities, request, stamp, *id, *action) }
+        Body::DataQuery {
+            request: id,
+            ids,
+            ..
+        } => { answer_data(alloc, outfit, held, request, stamp, *id, ids)? }
+        Body::SetData {
+            request: id,
+            datums,
+        } => {
+            return answer_setting(alloc, outfit, held, request, stamp, *id, datums);
+        }
+        Body::Acknowledge { .. }
+        | Body::ActionResponse { .. }
+        | Body::DataPdu { .. }
+        | Body::EventReport { .. }
+        | Body::Comment { .. } => unreachable!(),
+    };
+    Ok(Outcome {
+        answer,
+        datums: None,
+    })
+}

@@ -1,0 +1,157 @@
+//! The application half of a station.
+
+ghost use Rattle.std.specs.Prelude.{◌≡◌, ◌<◌, ◌↔◌, false, [], length, Err, IsOk, IfOk, IfErr, IfSome, OnOk, OnErr, slice_get};
+ghost use Rattle.std.specs.Option.{option_map, option_copied, option_and_then};
+ghost use Rattle.std.specs.Borrow.{sem};
+ghost use Rattle.siman_application.specs.Lending.{EndsTaken};
+ghost use Rattle.siman_application.specs.Play.{state_over, fixed_after, variable_after, reply_after};
+ghost use Rattle.siman_application.specs.Standing.{Standing, Leaves, came, is_new};
+
+use crate::entities::Entities;
+use crate::entity_list::MOST_ENTITIES;
+use crate::fault::AppFault;
+use crate::kept::KeptTable;
+use crate::outfit::Outfit;
+use crate::records::{value_of, variable_of};
+use crate::taking::take;
+use dis_records::{EntityState, FixedDatum, VariableDatum};
+use exercise_recording::Station;
+use siman_pdus::{Datums, Pdu};
+use std::alloc::{AllocError, Global};
+use std::marker::Model;
+
+/// The application half of a station: its entities and datums, and each distinct request that it
+/// took, with its answer. Contracts see it as what it was begun with and these requests, in order
+/// of arrival.
+///
+/// Only [`begin`](Application::begin) and a [`take`](Application::take) that answers anew take
+/// memory.
+#[derive(Debug, Drop)]
+pub struct Application {
+    alloc: Global,
+    outfit: Outfit,
+    entities: Entities,
+    datums: Datums,
+    kept: KeptTable,
+}
+
+impl Model for Application {
+    ghost use Rattle.siman_application.specs.Standing.{Standing};
+
+    ghost Value = { Standing };
+
+    ghost use Rattle.indexmap.specs.IndexMap.{values};
+    ghost use Rattle.siman_application.specs.Kept.{AreRight};
+
+    ghost view = { λ a. record { outfit = a.outfit; kept = values a.kept } };
+
+    ghost invariant = { λ a. AreRight a.outfit a.kept a.entities a.datums };
+}
+
+/// An equal station.
+fn copy_station(alloc: Global, station: &Station) -> Result<Station, AllocError>
+    ensures { IfOk result (λ copy. copy ≡ station.now) }
+{
+    let opening = Vec::from_slice(alloc, station.opening())?;
+    Ok(Station::new(station.address(), opening).unwrap())
+}
+
+impl Application {
+    /// An application that took nothing yet, for an exercise and a station with its entities. It
+    /// holds these datums, and knows these actions; of a repeated datum identifier the last counts.
+    /// It is refused as [`AppFault::TooMany`] exactly where the station opens with more than 4,096
+    /// entities.
+    pub fn begin(
+        alloc: Global,
+        exercise: u8,
+        station: &Station,
+        fixed: &[FixedDatum],
+        variable: Vec<VariableDatum>,
+        actions: &[u32],
+    ) -> Result<Application, AppFault>
+        ensures too_many { (result ≡ Err AppFault.TooMany) ↔ (4096 < length station.now.opening) }
+        ensures outfit { IfOk result (λ app. app.outfit ≡ record { exercise = exercise; station = station.now; datums = record { fixed = fixed.now; variable = variable.items }; actions = actions.now }) }
+        ensures kept { IfOk result (λ app. app.kept ≡ []) }
+    {
+        if station.opening().len() > MOST_ENTITIES {
+            return Err(AppFault::TooMany);
+        }
+        let entities = Entities::open(alloc, station.opening())?;
+        let station = copy_station(alloc, station)?;
+        let held = Datums {
+            fixed: Vec::from_slice(alloc, fixed)?,
+            variable,
+        };
+        let datums = held.copy(alloc)?;
+        let actions = Vec::from_slice(alloc, actions)?;
+        Ok(Application {
+            alloc,
+            outfit: Outfit {
+                exercise,
+                station,
+                datums: held,
+                actions,
+            },
+            entities,
+            datums,
+            kept: KeptTable::new(alloc),
+        })
+    }
+
+    /// Takes a PDU, and answers what is to go out, with this timestamp: `None` for a PDU of another
+    /// exercise, one that is no request, one that does not address the station, and another order
+    /// under a key (originating site and application, request identifier) that is known; for the
+    /// same order again the kept answer; otherwise an answer that is made and kept (profile, over
+    /// IEEE 1278.1-2012, 5.6.5). After a fault, which only that last case can have, all is as it
+    /// was, and the PDU counts as not taken.
+    pub fn take(&mut self, pdu: &Pdu, stamp: u32) -> Result<Option<&Pdu>, AppFault>
+        ensures* ends { sem 𝓛 (EndsTaken self.entry pdu.now result) }
+        ensures reply { IfOk result (λ answer. option_copied answer ≡ reply_after self.old.outfit (came self.old) pdu.now stamp) }
+        ensures fault { IfErr result (λ fault. fault ≡ AppFault.Memory) }
+        ensures no_memory { is_new self.old pdu.now ≡ false → IsOk result }
+    {
+        match self.take_up(pdu, stamp)? {
+            Some(place) => Ok(Some(&self.kept[place].answer)),
+            None => Ok(None),
+        }
+    }
+
+    fn take_up(&mut self, pdu: &Pdu, stamp: u32) -> Result<Option<usize>, AppFault>
+        ensures leaves { Leaves self.old pdu.now result self.new }
+        ensures reply { IfOk result (λ place. option_and_then (λ i. option_map (λ k. k.answer) (slice_get self.new.kept i)) place ≡ reply_after self.old.outfit (came self.old) pdu.now stamp) }
+        ensures within { IfOk result (λ place. IfSome place (λ i. i < length self.new.kept)) }
+        ensures fault { IfErr result (λ fault. fault ≡ AppFault.Memory) }
+        ensures no_memory { is_new self.old pdu.now ≡ false → IsOk result }
+    {
+        take(
+            self.alloc,
+            &self.outfit,
+            &mut self.kept,
+            &mut self.entities,
+            &mut self.datums,
+            pdu,
+            stamp,
+        )
+    }
+
+    /// The state of an entity.
+    pub fn state(&self, entity: u16) -> EntityState
+        ensures { result ≡ state_over self.now.outfit (came self.now) entity }
+    {
+        self.entities.state(entity)
+    }
+
+    /// The value of a fixed datum that is held.
+    pub fn datum(&self, id: u32) -> Option<u32>
+        ensures { result ≡ option_map (λ d. d.value) (fixed_after self.now.outfit (came self.now) id) }
+    {
+        value_of(&self.datums, id)
+    }
+
+    /// A variable datum that is held.
+    pub fn variable(&self, id: u32) -> Option<&VariableDatum>
+        ensures { option_copied result ≡ variable_after self.now.outfit (came self.now) id }
+    {
+        variable_of(&self.datums, id)
+    }
+}

@@ -1,0 +1,73 @@
+//! What is kept of the requests.
+
+ghost use Rattle.std.specs.Prelude.{◌≡◌, ◌<◌, ◌++◌, [], ◌∷◌, true, None, length};
+ghost use Rattle.indexmap.specs.IndexMap.{values, index_map_len, spare};
+ghost use Rattle.siman_pdus.specs.Role.{is_request_body};
+ghost use Rattle.siman_application.specs.Distinct.{first_under};
+ghost use Rattle.siman_application.specs.Kept.{IsKey, AreKeyed, IsPlace, requests, stamped_at};
+ghost use Rattle.siman_application.specs.declared.kept.KeptRequest.{KeptRequest};
+
+use indexmap::IndexMap;
+use siman_pdus::{Pdu, request_id};
+
+/// Under what a request is kept: who sent it, and its request identifier.
+#[derive(Clone, Copy, Debug, PartialEq, Eq, Hash)]
+pub(crate) struct RequestKey {
+    pub site: u16,
+    pub application: u16,
+    pub request: u32,
+}
+
+/// A request that was answered.
+#[derive(Debug, Drop)]
+pub(crate) struct KeptRequest {
+    pub request: Pdu,
+    /// Its answer, with the timestamp that it was last given.
+    pub answer: Pdu,
+}
+
+/// The requests under their keys, in order of arrival.
+pub(crate) type KeptTable = IndexMap<RequestKey, KeptRequest>;
+
+/// The key of a request.
+pub(crate) fn key_of(pdu: &Pdu) -> RequestKey
+    requires { is_request_body pdu.now.body ≡ true }
+    ensures { IsKey result pdu.now }
+{
+    RequestKey {
+        site: pdu.origin.site,
+        application: pdu.origin.application,
+        request: request_id(pdu).unwrap(),
+    }
+}
+
+/// Where the first request under a key is kept.
+pub(crate) fn place_of(kept: &KeptTable, key: RequestKey, pdu: &Pdu) -> Option<usize>
+    requires keyed { AreKeyed kept.now.entries }
+    requires key { IsKey key pdu.now }
+    ensures { IsPlace pdu.now (values kept.now) result }
+{
+    kept.get_index_of(&key)
+}
+
+/// Keeps a request, the first under its key, with its answer. It goes last; its place.
+pub(crate) fn keep(kept: &mut KeptTable, key: RequestKey, request: Pdu, answer: Pdu) -> usize
+    requires keyed { AreKeyed kept.old.entries }
+    requires key { IsKey key request }
+    requires first { first_under request (requests (values kept.old)) ≡ None }
+    requires room { 0 < spare kept.old }
+    ensures place { result ≡ length (values kept.old) }
+    ensures kept { let one : KeptRequest = record { request = request; answer = answer } in kept.new.entries ≡ kept.old.entries ++ (key, one) ∷ [] }
+{
+    let place = kept.len();
+    let _none = kept.insert(key, KeptRequest { request, answer }).unwrap();
+    place
+}
+
+/// Gives a kept answer another timestamp.
+pub(crate) fn stamp_again(kept: &mut KeptTable, place: usize, stamp: u32)
+    requires { place < index_map_len kept.old }
+    ensures kept { kept.new.entries ≡ stamped_at place stamp kept.old.entries }
+{
+    kept[place].answer.stamp = stamp;
+}

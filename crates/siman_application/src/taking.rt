@@ -1,0 +1,109 @@
+//! Requests as they are taken.
+
+ghost use Rattle.std.specs.Prelude.{◌≡◌, ◌<◌, ◌∷◌, ◌&&◌, true, false, Some, None, Ok, is_none, IsOk, IfOk, IfErr, IfSome, OnOk, OnErr, MatchOption, slice_get, if◌then◌else◌};
+ghost use Rattle.std.specs.Option.{option_map, option_and_then, unwrap_or};
+ghost use Rattle.indexmap.specs.IndexMap.{values, index_map_len};
+ghost use Rattle.siman_pdus.specs.Same.{is_same_order};
+ghost use Rattle.siman_application.specs.Distinct.{is_for, first_under, with_request};
+ghost use Rattle.siman_application.specs.Answer.{answer};
+ghost use Rattle.siman_application.specs.Kept.{AreAnswered, AreKeyed, AreRight, IsKey, IsPlace, requests, requests_before, stamped_at};
+ghost use Rattle.siman_application.specs.Play.{known, reply_after};
+
+use crate::answering::answer;
+use crate::entities::Entities;
+use crate::fault::AppFault;
+use crate::kept::{KeptTable, RequestKey, keep, key_of, place_of, stamp_again};
+use crate::outfit::Outfit;
+use crate::ranges::{look_at, look_at_station};
+use siman_pdus::{Datums, Pdu, same_order};
+use std::alloc::Global;
+
+/// Other datums in the place of these, if there are any.
+fn put_in_place(datums: &mut Datums, others: Option<Datums>)
+    ensures { datums.new ≡ unwrap_or others datums.old }
+{
+    if let Some(others) = others {
+        *datums = others;
+    }
+}
+
+/// Answers a request that is the first under its key, and keeps it. Its place. A fault leaves all
+/// as it was: what may fail comes before the first change.
+fn take_first(
+    alloc: Global,
+    outfit: &Outfit,
+    kept: &mut KeptTable,
+    entities: &mut Entities,
+    datums: &mut Datums,
+    key: RequestKey,
+    pdu: &Pdu,
+    stamp: u32,
+) -> Result<usize, AppFault>
+    requires right { AreRight outfit.now kept.old entities.old datums.old }
+    requires own { is_for outfit.now pdu.now ≡ true }
+    requires key { IsKey key pdu.now }
+    requires first { first_under pdu.now (requests (values kept.old)) ≡ None }
+    ensures right { AreRight outfit.now kept.new entities.new datums.new }
+    ensures err { OnErr result (values kept.new ≡ values kept.old) }
+    ensures fault { IfErr result (λ fault. fault ≡ AppFault.Memory) }
+    ensures came { OnOk result (requests (values kept.new) ≡ pdu.now ∷ requests (values kept.old)) }
+    ensures answer { IfOk result (λ place. option_map (λ k. k.answer) (slice_get (values kept.new) place) ≡ Some (answer outfit.now (known outfit.now (requests (values kept.old))) pdu.now stamp)) }
+    ensures within { IfOk result (λ place. place < index_map_len kept.new) }
+{
+    look_at(pdu);
+    look_at_station(outfit);
+    let outcome = answer(alloc, outfit, entities, datums, pdu, stamp)?;
+    let request = pdu.copy(alloc)?;
+    kept.reserve(1)?;
+    entities.obey(&outcome.answer, pdu)?;
+    let place = keep(kept, key, request, outcome.answer);
+    put_in_place(datums, outcome.datums);
+    Ok(place)
+}
+
+/// The place of the kept answer to a request whose key is known, with another timestamp; none for
+/// another order.
+fn take_again(kept: &mut KeptTable, place: usize, pdu: &Pdu, stamp: u32) -> Option<usize>
+    requires { place < index_map_len kept.old }
+    ensures result { result ≡ option_and_then (λ k. if is_same_order pdu.now k.request then Some place else None) (slice_get (values kept.old) place) }
+    ensures kept { MatchOption result (kept.new.entries ≡ kept.old.entries) (λ place. kept.new.entries ≡ stamped_at place stamp kept.old.entries) }
+{
+    if !same_order(pdu, &kept[place].request) {
+        return None;
+    }
+    stamp_again(kept, place, stamp);
+    Some(place)
+}
+
+/// Takes a PDU: where its answer is kept, if it has one. It takes no memory where it has none, or
+/// one that was kept before.
+pub(crate) fn take(
+    alloc: Global,
+    outfit: &Outfit,
+    kept: &mut KeptTable,
+    entities: &mut Entities,
+    datums: &mut Datums,
+    pdu: &Pdu,
+    stamp: u32,
+) -> Result<Option<usize>, AppFault>
+    requires { AreRight outfit.now kept.old entities.old datums.old }
+    ensures right { AreRight outfit.now kept.new entities.new datums.new }
+    ensures err { OnErr result (values kept.new ≡ values kept.old) }
+    ensures fault { IfErr result (λ fault. fault ≡ AppFault.Memory) }
+    ensures no_memory { (is_for outfit.now pdu.now && is_none (first_under pdu.now (requests (values kept.old)))) ≡ false → IsOk result }
+    ensures came { OnOk result (requests (values kept.new) ≡ with_request outfit.now (requests (values kept.old)) pdu.now) }
+    ensures reply { IfOk result (λ place. option_and_then (λ i. option_map (λ k. k.answer) (slice_get (values kept.new) i)) place ≡ reply_after outfit.now (requests (values kept.old)) pdu.now stamp) }
+    ensures within { IfOk result (λ place. IfSome place (λ i. i < index_map_len kept.new)) }
+{
+    if !outfit.is_for(pdu) {
+        return Ok(None);
+    }
+    let key = key_of(pdu);
+    match place_of(kept, key, pdu) {
+        Some(place) => Ok(take_again(kept, place, pdu, stamp)),
+        None => {
+            let place = take_first(alloc, outfit, kept, entities, datums, key, pdu, stamp)?;
+            Ok(Some(place))
+        }
+    }
+}

@@ -1,126 +1,104 @@
 -- Stations that can't go on.
-use Rattle.std.proofs.Common.{◌≡◌, ◌≢◌, ⊎_elim, inl, inr, ℕ, suc, ◌+◌, ◌<◌, ◌≤◌, List, [], ◌∷◌, ◌++◌, ◌+◌, length, cond, Option, Some, None, true, false, refl, sym, ap, ◌∙◌, subst, arith}
-use Rattle.std.specs.Prelude.{is_some, slice_get, nat_eq, ◌==◌, if◌then◌else◌, option_and_then, IfSome}
+use Rattle.std.proofs.Common.{◌≡◌, ◌≢◌, ⊎_elim, inl, inr, ℕ, zero, suc, ◌+◌, ◌<◌, ◌≤◌, List, [], ◌∷◌, ◌++◌, length, cond, Some, None, refl, sym, ap, ◌∙◌, subst, arith}
+use Rattle.std.specs.Prelude.{slice_get, ◌==◌, if◌then◌else◌, option_and_then, IfSome}
 use Rattle.std.proofs.Math.Numerals.{add-one}
-use Rattle.std.proofs.lemmas.Bool.{cases_lt, eqb-true}
-use Rattle.exercise_recording.specs.declared.cause.Cause.{Cause}
-use Rattle.exercise_recording.specs.Entry.{Entry}
-use Rattle.exercise_recording.specs.Recording.{PlainRecording, IsRecording}
-use Rattle.exercise_recording.specs.History.{Event, History, event_of, station_of, past, log_at, log_of}
-use Rattle.exercise_recording.specs.Setting.{setting_of}
-use Rattle.exercise_recording.specs.Cause.{cause_of}
-use Rattle.exercise_recording.specs.Place.{log_before, own_event}
-use Rattle.exercise_recording.specs.Run.{IsBeginning, CoversPrefixes, IsStuck, Explains}
-use Rattle.exercise_recording.proofs.Beginnings.{same_beginnings, beginning_length, log_before-next, log_before-beginning}
-use Rattle.exercise_recording.proofs.Changes.{log_before-all}
-use Rattle.exercise_recording.proofs.Confluence.{stuck_explains}
-use Rattle.exercise_recording.proofs.Counting.{no_log, past_within, same_count, length-past}
-use Rattle.exercise_check.specs.declared.certificate.Step.{Step}
-use Rattle.exercise_check.specs.Order.{order_of, link_of, link_number}
-use Rattle.exercise_check.specs.Goodness.{step_cause, GoodBelow, IsReady}
-use Rattle.exercise_check.proofs.Goodness.{is_ready, cause_none}
-use Rattle.exercise_check.proofs.Explained.{good_sound, good_covers}
+use Rattle.std.proofs.lemmas.Bool.{cases_lt, eq-eqb}
+use Rattle.exercise_model.specs.declared.cause.Cause.{Cause}
+use Rattle.exercise_model.specs.Entry.{Entry}
+use Rattle.exercise_model.specs.Recording.{PlainRecording, IsRecording}
+use Rattle.exercise_model.specs.History.{Event, History, event_of, station_of, past, log_at, log_of}
+use Rattle.exercise_model.specs.Cause.{cause_of}
+use Rattle.exercise_model.specs.Place.{log_before, own_event}
+use Rattle.exercise_model.specs.Run.{IsBeginning, CoversPrefixes, IsStuck, Explains}
+use Rattle.exercise_model.proofs.Offered.{same_beginnings, beginning_length, log_before-next, log_before-beginning, stuck_explains, same_prefixes, same_causes, no_log, past_within, same_count, length-past}
+use Rattle.exercise_check.specs.declared.course.Progress.TheVariants.{Taken, Barred}
+use Rattle.exercise_check.specs.Course.{CourseData, IsCourse, IsNext, GoesOn, so_far}
+use Rattle.exercise_check.proofs.Offered.{good_logs, entry_within, from_entry, next_lengths, good_sound, good_covers}
 use Rattle.exercise_audit.specs.declared.blocks.Block.{Block}
 use Rattle.exercise_audit.specs.Audit.{IsHeld, IsDone, IsBlock, IsBlocked, AreBlocks}
 
 -- a station whose whole log happened
-pub held_done : (r : PlainRecording) (h : History) (s : ℕ) → length (log_before r s (length r.entries)) ≤ length (log_at s h) → IsHeld r h s
-held_done r h s le v next e =
-    absurd (omega (arith, beginning_length _ _ next, ap length (log_before-all r s)))
+pub held_done : (r : PlainRecording) (h : History) (s : ℕ) → log_at s h ≡ log_of r s → IsHeld r h s
+held_done r h s done v next e = absurd (omega (arith, beginning_length _ _ next, ap length done))
 
--- a station whose next event has a fault
-pub held_cause : (r : PlainRecording) (h : History) (s i : ℕ) (w : Event) (cause : Cause) → own_event r s i ≡ Some w → length (log_before r s i) ≡ length (log_at s h) → cause_of (setting_of r) h w ≡ Some cause → IsHeld r h s
+-- a station whose next event has a cause against it
+held_cause : (r : PlainRecording) (h : History) (s i : ℕ) (w : Event) (cause : Cause) → own_event r s i ≡ Some w → length (log_before r s i) ≡ length (log_at s h) → cause_of r.setting h w ≡ Some cause → IsHeld r h s
 held_cause r h s i w cause own lengths bad v next e =
     let same : v ∷ log_at s h ≡ w ∷ log_before r s i = same_beginnings _ _ (log_of r s) next (log_before-next r s i w own) (ap suc (sym lengths)) in
     let heads : v ≡ w = cc in
-    let none : cause_of (setting_of r) h w ≡ None = subst (λ x. cause_of (setting_of r) h x ≡ None) heads e in
+    let none : cause_of r.setting h w ≡ None = subst (λ x. cause_of r.setting h x ≡ None) heads e in
     cc
 
 -- where each station is held, the run is stuck
-pub stuck_from_held : (r : PlainRecording) → IsRecording r → (h : History) → CoversPrefixes r h → ((s : ℕ) → s < length r.stations → IsHeld r h s) → IsStuck r h
+stuck_from_held : (r : PlainRecording) → IsRecording r → (h : History) → CoversPrefixes r h → ((s : ℕ) → s < length r.setting.stations → IsHeld r h s) → IsStuck r h
 unfolding log_of
 stuck_from_held r limits h covers held = record {
   covers = covers;
   stuck = λ v next. ⊎_elim
-      (λ (below : station_of v < length r.stations). held (station_of v) below v next)
-      (λ (above : length r.stations ≤ station_of v) (e : cause_of (setting_of r) h v ≡ None).
-      absurd (omega (arith, beginning_length _ _ next, no_log (length r.stations) (past r.entries) (station_of v) (past_within r limits) above)))
-      (cases_lt (station_of v) (length r.stations));
+      (λ (below : station_of v < length r.setting.stations). held (station_of v) below v next)
+      (λ (above : length r.setting.stations ≤ station_of v) (e : cause_of r.setting h v ≡ None).
+      absurd (omega (arith, beginning_length _ _ next, no_log (length r.setting.stations) (past r.entries) (station_of v) (past_within r limits) above)))
+      (cases_lt (station_of v) (length r.setting.stations));
 }
 
--- the entry of an own event
-own_entry : (r : PlainRecording) (s i : ℕ) → is_some (own_event r s i) ≡ true → (e : Entry) × (slice_get r.entries i ≡ Some e) × (station_of (event_of e) ≡ s) × (own_event r s i ≡ Some (event_of e))
+-- the event of an entry of station s, as its own
+own_from : (r : PlainRecording) (s i : ℕ) (e : Entry) → slice_get r.entries i ≡ Some e → station_of (event_of e) ≡ s → own_event r s i ≡ Some (event_of e)
 unfolding own_event
-own_entry r s i =
-    elim (slice_get r.entries i) as (λ o. slice_get r.entries i ≡ o → is_some (option_and_then (λ e. if station_of (event_of e) == s then Some (event_of e) else None) o) ≡ true → (e : Entry) × (slice_get r.entries i ≡ Some e) × (station_of (event_of e) ≡ s) × (option_and_then (λ e. if station_of (event_of e) == s then Some (event_of e) else None) (slice_get r.entries i) ≡ Some (event_of e))) [
-      | None ↦ λ _ h. absurd (cc)
-      | Some e ↦ λ at. elim (nat_eq (station_of (event_of e)) s) as (λ b. nat_eq (station_of (event_of e)) s ≡ b → is_some (cond b (Some (event_of e)) None) ≡ true → (e : Entry) × (slice_get r.entries i ≡ Some e) × (station_of (event_of e) ≡ s) × (option_and_then (λ e. if station_of (event_of e) == s then Some (event_of e) else None) (slice_get r.entries i) ≡ Some (event_of e))) [
-        | false ↦ λ _ h. absurd (cc)
-        | true ↦ λ same _. (e, at, eqb-true _ _ same, ap (option_and_then (λ e. if station_of (event_of e) == s then Some (event_of e) else None)) at ∙ ap (λ b. cond b (Some (event_of e)) None) same)
-      ] refl
-    ] refl
+own_from r s i e at here =
+    ap (option_and_then (λ e. if station_of (event_of e) == s then Some (event_of e) else None)) at ∙ ap (λ b. cond b (Some (event_of e)) None) (eq-eqb _ _ here)
 
-at_entry : {X : Type 0} (o : Option X) (x : X) (P : X → Type 0) → o ≡ Some x → P x → IfSome o P
-at_entry o x P e p = subst (λ o. IfSome o P) (sym e) p
+-- what is known of the next entry of a station
+pub record NextOf (c : CourseData) (s i : ℕ) : Type 0 where
+  pub entry : Entry
+  pub at : slice_get c.recording.entries i ≡ Some entry
+  pub own : own_event c.recording s i ≡ Some (event_of entry)
+  pub lengths : length (log_before c.recording s i) ≡ length (log_at s (so_far c))
 
-from_entry : {X : Type 0} (o : Option X) (x : X) (P : X → Type 0) → o ≡ Some x → IfSome o P → P x
-from_entry o x P e p = subst (λ o. IfSome o P) e p
-
--- the next entry can be judged
-pub next_ready : (r : PlainRecording) (steps : List Step) (s i : ℕ) → GoodBelow r steps (length steps) → is_some (own_event r s i) ≡ true → length (log_before r s i) ≡ length (log_at s (order_of r steps)) → IfSome (slice_get r.entries i) (λ e. IsReady r steps i (event_of e))
-next_ready r steps s i good own lengths =
-    let o = own_entry r s i own in
-    at_entry _ o.0 (λ e. IsReady r steps i (event_of e)) o.1 (is_ready r steps i (event_of o.0) good (subst (λ t. length (log_at t (order_of r steps)) ≡ length (log_before r t i)) (sym o.2) (sym lengths)))
-
--- and where it has a fault, its station is held
-pub next_held : (r : PlainRecording) (h : History) (s i : ℕ) (found : Option Cause) → is_some (own_event r s i) ≡ true → length (log_before r s i) ≡ length (log_at s h) → IfSome (slice_get r.entries i) (λ e. found ≡ cause_of (setting_of r) h (event_of e)) → is_some found ≡ true → IsHeld r h s
-next_held r h s i None own lengths is bad = absurd (cc)
-next_held r h s i (Some cause) own lengths is bad =
-    let o = own_entry r s i own in
-    held_cause r h s i (event_of o.0) cause o.3 lengths (sym (from_entry _ o.0 (λ e. Some cause ≡ cause_of (setting_of r) h (event_of e)) o.1 is))
-
--- and where it has none, it makes a good step
-pub next_good : (r : PlainRecording) (steps : List Step) (s i number : ℕ) (found : Option Cause) (link : Option ℕ) → is_some (own_event r s i) ≡ true → length (log_before r s i) ≡ length (log_at s (order_of r steps)) → IfSome (slice_get r.entries i) (λ e. found ≡ cause_of (setting_of r) (order_of r steps) (event_of e)) → is_some found ≡ false → IfSome (slice_get r.entries i) (λ e. link ≡ link_of r steps i (event_of e)) → number ≡ link_number link → step_cause r steps (record { place = i; link = number }) ≡ None
-next_good r steps s i number (Some cause) link own lengths is good linked same = absurd (cc)
-next_good r steps s i number None link own lengths is good linked same =
-    let o = own_entry r s i own in
-    cause_none r steps (record { place = i; link = number }) o.0 (record {
-      at = o.1;
-      next = subst (λ t. length (log_at t (order_of r steps)) ≡ length (log_before r t i)) (sym o.2) (sym lengths);
-      allowed = sym (from_entry _ o.0 (λ e. None ≡ cause_of (setting_of r) (order_of r steps) (event_of e)) o.1 is);
-      link = same ∙ ap link_number (from_entry _ o.0 (λ e. link ≡ link_of r steps i (event_of e)) o.1 linked);
-    })
-
--- a station is done where its log has no more events
-pub done_from_length : (r : PlainRecording) (h : History) (s : ℕ) → IsBeginning (log_at s h) (log_of r s) → length (log_before r s (length r.entries)) ≤ length (log_at s h) → IsDone r h s
-done_from_length r h s covers le =
-    same_beginnings _ _ (log_of r s) covers ([], refl) (omega (arith, beginning_length _ _ covers, ap length (log_before-all r s)))
-
--- a held station's next event has a fault
-pub held_has_cause : (r : PlainRecording) (h : History) (s i : ℕ) → IsBeginning (log_at s h) (log_of r s) → IsHeld r h s → is_some (own_event r s i) ≡ true → length (log_before r s i) ≡ length (log_at s h) → IfSome (slice_get r.entries i) (λ e. None ≡ cause_of (setting_of r) h (event_of e)) → ⊥
-held_has_cause r h s i covers held own lengths is =
-    let o = own_entry r s i own in
-    let next = log_before-next r s i (event_of o.0) o.3 in
-    let same : log_before r s i ≡ log_at s h = same_beginnings _ _ (log_of r s) (log_before-beginning r s i) covers lengths in
-    held (event_of o.0) (subst (λ log. IsBeginning (event_of o.0 ∷ log) (log_of r s)) same next) (sym (from_entry _ o.0 (λ e. None ≡ cause_of (setting_of r) h (event_of e)) o.1 is))
-
-pub block_from : (r : PlainRecording) (h : History) (s i : ℕ) (cause : Cause) → is_some (own_event r s i) ≡ true → length (log_before r s i) ≡ length (log_at s h) → IfSome (slice_get r.entries i) (λ e. Some cause ≡ cause_of (setting_of r) h (event_of e)) → IsBlock r h s (record { station = s; entry = i; cause = cause })
-block_from r h s i cause own lengths is =
-    let o = own_entry r s i own in
+pub next_of : (c : CourseData) (s i : ℕ) → i < length c.recording.entries → IfSome (slice_get c.recording.entries i) (λ e. station_of (event_of e) ≡ s) → IsNext c i → NextOf c s i
+next_of c s i within here next =
+    let r = c.recording in
+    let e = entry_within r.entries i within in
+    let at_s = from_entry _ e.0 (λ e. station_of (event_of e) ≡ s) e.1 here in
+    let lengths = next_lengths r c.steps i (event_of e.0) (from_entry _ e.0 _ e.1 next) in
     record {
-      station = refl;
-      event = event_of o.0;
-      next = record { own = o.3; place = lengths };
-      cause = sym (from_entry _ o.0 (λ e. Some cause ≡ cause_of (setting_of r) h (event_of e)) o.1 is);
+      entry = e.0;
+      at = e.1;
+      own = own_from r s i e.0 e.1 at_s;
+      lengths = subst (λ t. length (log_before r t i) ≡ length (log_at t (so_far c))) at_s (sym lengths);
     }
 
--- where not all was order_of, and nothing can go on, no run explains
-pub unexplained : (r : PlainRecording) → IsRecording r → (steps : List Step) → GoodBelow r steps (length steps) → IsStuck r (order_of r steps) → length steps ≢ length r.entries → (k : History) → Explains r k → ⊥
+-- a station that is barred is held
+pub barred_held : (old new : CourseData) (s i : ℕ) (cause : Cause) → NextOf old s i → IfSome (slice_get old.recording.entries i) (GoesOn old new i (Barred cause)) → IsHeld old.recording (so_far old) s × (new ≡ old)
+barred_held old new s i cause n goes =
+    let bars = from_entry _ n.entry (GoesOn old new i (Barred cause)) n.at goes in
+    (held_cause old.recording (so_far old) s i (event_of n.entry) cause n.own n.lengths bars.cause_is, bars.new_is)
+
+-- and this is its block
+pub barred_block : (old new : CourseData) (s i : ℕ) (cause : Cause) → NextOf old s i → IfSome (slice_get old.recording.entries i) (GoesOn old new i (Barred cause)) → IsBlock old.recording (so_far old) s (record { station = s; entry = i; cause = cause })
+barred_block old new s i cause n goes = record {
+  station = refl;
+  event = event_of n.entry;
+  next = record { own = n.own; place = n.lengths };
+  cause = (from_entry _ n.entry (GoesOn old new i (Barred cause)) n.at goes).cause_is;
+}
+
+-- a station that is held takes no entry
+pub held_takes_none : (old new : CourseData) (s i link : ℕ) → IsCourse old → IsHeld old.recording (so_far old) s → NextOf old s i → IfSome (slice_get old.recording.entries i) (GoesOn old new i (Taken link)) → ⊥
+held_takes_none old new s i link course held n goes =
+    let r = old.recording in
+    let takes = from_entry _ n.entry (GoesOn old new i (Taken link)) n.at goes in
+    let covers = good_logs r old.steps course.good s in
+    let same : log_before r s i ≡ log_at s (so_far old) = same_beginnings _ _ (log_of r s) (log_before-beginning r s i) covers n.lengths in
+    held (event_of n.entry) (subst (λ log. IsBeginning (event_of n.entry ∷ log) (log_of r s)) same (log_before-next r s i (event_of n.entry) n.own)) takes.allowed
+
+-- where not all was taken, and nothing can go on, no run explains
+unexplained : (c : CourseData) → IsCourse c → IsStuck c.recording (so_far c) → length c.steps ≢ length c.recording.entries → (k : History) → Explains c.recording k → ⊥
 unfolding log_of
-unexplained r limits steps good stuck less k explains =
-    let sound = good_sound r limits steps good in
-    let all = stuck_explains r (order_of r steps) k stuck explains in
-    less (sym sound.count ∙ same_count (length r.stations) (order_of r steps) (past r.entries) sound.stations (past_within r limits) all.logs ∙ length-past r.entries)
+unexplained c course stuck less k explains =
+    let r = c.recording in
+    let sound = good_sound r course.limits c.steps course.good in
+    let all = stuck_explains r (so_far c) k stuck explains in
+    less (sym sound.count ∙ same_count (length r.setting.stations) (so_far c) (past r.entries) sound.stations (past_within r course.limits) all.logs ∙ length-past r.entries)
 
 pub blocks_done : (r : PlainRecording) (h : History) (s : ℕ) (blocks : List Block) → AreBlocks r h s blocks → IsDone r h s → AreBlocks r h (s + 1) blocks
 blocks_done r h s blocks before done = rw add-one (inl (done, before))
@@ -128,8 +106,32 @@ blocks_done r h s blocks before done = rw add-one (inl (done, before))
 pub blocks_push : (r : PlainRecording) (h : History) (s : ℕ) (blocks : List Block) (b : Block) → AreBlocks r h s blocks → IsBlock r h s b → AreBlocks r h (s + 1) (blocks ++ b ∷ [])
 blocks_push r h s blocks b before block = rw add-one (inr (blocks, b, refl, before, block))
 
+-- two runs that can't go on have the same blocks
+same_block : (r : PlainRecording) (h k : History) → IsStuck r h → IsStuck r k → (s : ℕ) (b : Block) → IsBlock r h s b → IsBlock r k s b
+same_block r h k one other s b is = record {
+  station = is.station;
+  event = is.event;
+  next = record { own = is.next.own; place = is.next.place ∙ ap length (same_prefixes r h k one other s) };
+  cause = sym (same_causes r.setting h k (same_prefixes r h k one other) is.event) ∙ is.cause;
+}
+
+same_blocks : (r : PlainRecording) (h k : History) → IsStuck r h → IsStuck r k → (n : ℕ) (blocks : List Block) → AreBlocks r h n blocks → AreBlocks r k n blocks
+same_blocks r h k one other zero blocks are = are
+same_blocks r h k one other (suc s) blocks are =
+    ⊎_elim
+    (λ (here : IsDone r h s × AreBlocks r h s blocks). inl (sym (same_prefixes r h k one other s) ∙ here.0, same_blocks r h k one other s blocks here.1))
+    (λ (here : (others : List Block) × (b : Block) × (blocks ≡ others ++ b ∷ []) × AreBlocks r h s others × IsBlock r h s b).
+    inr (here.0, here.1, here.2, same_blocks r h k one other s here.0 here.3, same_block r h k one other s here.1 here.4))
+    are
+
 -- where each station is held, an audit says so
-pub blocked_from_held : (r : PlainRecording) → IsRecording r → (steps : List Step) → GoodBelow r steps (length steps) → ((s : ℕ) → s < length r.stations → IsHeld r (order_of r steps) s) → length steps ≢ length r.entries → (blocks : List Block) → AreBlocks r (order_of r steps) (length r.stations) blocks → IsBlocked r blocks
-blocked_from_held r limits steps good held less blocks are =
-    let stuck = stuck_from_held r limits (order_of r steps) (good_covers r limits steps good) held in
-    record { unexplained = unexplained r limits steps good stuck less; end = order_of r steps; stuck = stuck; blocks_are = are }
+pub blocked_from_held : (c : CourseData) → IsCourse c → ((s : ℕ) → s < length c.recording.setting.stations → IsHeld c.recording (so_far c) s) → length c.steps ≢ length c.recording.entries
+    → (blocks : List Block) → AreBlocks c.recording (so_far c) (length c.recording.setting.stations) blocks → IsBlocked c.recording blocks
+blocked_from_held c course held less blocks are =
+    let r = c.recording in
+    let stuck = stuck_from_held r course.limits (so_far c) (good_covers r course.limits c.steps course.good) held in
+    record {
+      unexplained = unexplained c course stuck less;
+      some_end = (so_far c, stuck);
+      blocks_are = λ k other. same_blocks r (so_far c) k stuck other (length r.setting.stations) blocks are;
+    }

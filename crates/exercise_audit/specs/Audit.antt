@@ -1,11 +1,10 @@
 -- What a search for an order says (profile).
 use Rattle.std.specs.Prelude.{◌≡◌, ◌≢◌, ◌⊎◌, ℕ, zero, suc, List, [], ◌∷◌, ◌++◌, length, Some, None}
-use Rattle.exercise_recording.specs.Recording.{PlainRecording}
-use Rattle.exercise_recording.specs.History.{Event, History, log_at, log_of}
-use Rattle.exercise_recording.specs.Setting.{setting_of}
-use Rattle.exercise_recording.specs.Cause.{cause_of}
-use Rattle.exercise_recording.specs.Place.{log_before, own_event}
-use Rattle.exercise_recording.specs.Run.{Explains, IsBeginning, IsStuck}
+use Rattle.exercise_model.specs.Recording.{PlainRecording}
+use Rattle.exercise_model.specs.History.{Event, History, log_at, log_of}
+use Rattle.exercise_model.specs.Cause.{cause_of}
+use Rattle.exercise_model.specs.Place.{log_before, own_event}
+use Rattle.exercise_model.specs.Run.{Explains, IsBeginning, IsStuck}
 use Rattle.exercise_check.specs.Goodness.{IsGood}
 use Rattle.exercise_audit.specs.declared.blocks.Block.{Block}
 use Rattle.exercise_audit.specs.declared.blocks.Audit.{Audit}
@@ -25,7 +24,7 @@ pub record IsBlock (r : PlainRecording) (h : History) (s : ℕ) (b : Block) : Ty
   pub station : b.station ≡ s
   pub event : Event
   pub next : IsNextEntry r h s b.entry event
-  pub cause : cause_of (setting_of r) h event ≡ Some b.cause
+  pub cause : cause_of r.setting h event ≡ Some b.cause
 
 -- the blocks of the first n stations after h, in their order: one for each station that is not done
 abbrev pub AreBlocks : PlainRecording → History → ℕ → List Block → Type 0
@@ -34,12 +33,11 @@ AreBlocks r h (suc s) blocks =
     (IsDone r h s × AreBlocks r h s blocks)
     ⊎ ((others : List Block) × (b : Block) × (blocks ≡ others ++ b ∷ []) × AreBlocks r h s others × IsBlock r h s b)
 
--- NO RUN EXPLAINS the recording, and the blocks are those of a run that can't go on
+-- NO RUN EXPLAINS the recording, some run can't go on, and the blocks are those of every run that can't
 pub record IsBlocked (r : PlainRecording) (blocks : List Block) : Type 0 where
   pub unexplained : (k : History) → Explains r k → ⊥
-  pub end : History
-  pub stuck : IsStuck r end
-  pub blocks_are : AreBlocks r end (length r.stations) blocks
+  pub some_end : (end : History) × IsStuck r end
+  pub blocks_are : (end : History) → IsStuck r end → AreBlocks r end (length r.setting.stations) blocks
 
 abbrev pub IsAuditOf : PlainRecording → Audit → Type 0
 IsAuditOf r (Explained certificate) = IsGood r certificate.steps.items
@@ -47,4 +45,4 @@ IsAuditOf r (Blocked blocks) = IsBlocked r blocks.items
 
 -- no next event of the station is allowed after h
 abbrev pub IsHeld : PlainRecording → History → ℕ → Type 0
-IsHeld r h s = (v : Event) → IsBeginning (v ∷ log_at s h) (log_of r s) → cause_of (setting_of r) h v ≢ None
+IsHeld r h s = (v : Event) → IsBeginning (v ∷ log_at s h) (log_of r s) → cause_of r.setting h v ≢ None

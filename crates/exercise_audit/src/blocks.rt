@@ -1,7 +1,7 @@
 //! What a search for an order found.
 
 use exercise_check::Certificate;
-use exercise_recording::Cause;
+use exercise_model::Cause;
 
 /// The next entry of a station that can't go on, and why.
 #[derive(Clone, Copy, Debug, PartialEq, Eq)]

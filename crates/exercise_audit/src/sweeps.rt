@@ -1,89 +1,49 @@
 //! The search: it sweeps over the stations until a whole sweep adds no step.
 
-ghost use Rattle.std.specs.Prelude.{◌≡◌, ◌<◌, ◌≤◌, length, IfSome, IfNone, IfOk, None, true, is_some, ℕ, false, ◌^◌};
-ghost use Rattle.exercise_recording.specs.History.{log_at};
-ghost use Rattle.exercise_recording.specs.Place.{log_before, own_event};
-ghost use Rattle.exercise_check.specs.Order.{order_of, link_number};
-ghost use Rattle.exercise_check.specs.Goodness.{step_cause, ArePlaced, GoodBelow};
+ghost use Rattle.std.specs.Prelude.{◌≡◌, ◌<◌, length, IfSome, IfNone, IfOk, true, false, ℕ};
+ghost use Rattle.exercise_check.specs.Course.{so_far};
 ghost use Rattle.exercise_audit.specs.Audit.{IsAuditOf, IsHeld, IsBlock, IsDone, AreBlocks};
 
 use crate::blocks::{Audit, Block};
-use exercise_check::steps::{cause_of, events_in, is_own, link_of};
-use exercise_check::{Certificate, NO_LINK, Step};
-use exercise_recording::ExerciseLog;
+use exercise_check::{Course, Progress};
+use exercise_model::ExerciseLog;
 use std::alloc::{AllocError, Global};
 
-/// The first entry of a station that no step names yet.
-#[tactic(auto, using(exercise_check::proofs::Orders::order_steps))]
-fn next_entry<L: ExerciseLog>(log: &L, steps: &[Step], station: usize) -> Option<usize>
-    requires { ArePlaced (L.recording log.now) steps.now }
-    ensures within { IfSome result (λ i. i < length (L.recording log.now).entries) }
-    ensures own { let r = L.recording log.now in IfSome result (λ i. is_some (own_event r station i) ≡ true) }
-    ensures place { let r = L.recording log.now in IfSome result (λ i. length (log_before r station i) ≡ length (log_at station (order_of r steps.now))) }
-    ensures none { let r = L.recording log.now in IfNone result (length (log_before r station (length r.entries)) ≤ length (log_at station (order_of r steps.now))) }
-{
-    let done = events_in(log, steps, station);
-    let mut seen = 0;
-    for i in 0..log.entry_count() {
-        if is_own(log, station, i) {
-            if seen == done {
-                return Some(i);
-            }
-            seen += 1;
-        }
-    }
-    None
-}
-
-/// The number that stands for a link in a certificate.
-fn number(link: Option<usize>) -> u32
-    requires { IfSome link (λ e. e < 2 ^ 32) }
-    ensures { result ≡ link_number link }
-{
-    match link {
-        Some(entry) => entry as u32,
-        None => NO_LINK,
-    }
-}
-
-/// The step that a station can take after these; none where it is held.
-fn next_step<L: ExerciseLog>(
+/// Lets a station go on by its next entry, if it has one and may, and answers whether it did.
+fn let_go_on<L: ExerciseLog>(
     alloc: Global,
-    log: &L,
-    steps: &[Step],
+    course: &mut Course<'_, L>,
     station: usize,
-) -> Result<Option<Step>, AllocError>
-    requires { GoodBelow (L.recording log.now) steps.now (length steps.now) }
-    ensures good { IfOk result (λ found. IfSome found (λ step. step_cause (L.recording log.now) steps.now step ≡ None)) }
-    ensures held { let r = L.recording log.now in IfOk result (λ found. IfNone found (IsHeld r (order_of r steps.now) station)) }
+) -> Result<bool, AllocError>
+    ensures recording { course.new.recording ≡ course.old.recording }
+    ensures longer { IfOk result (λ more. more ≡ true → length course.old.steps < length course.new.steps) }
+    ensures held { IfOk result (λ more. more ≡ false → IsHeld course.old.recording (so_far course.old) station) }
+    ensures same { IfOk result (λ more. more ≡ false → course.new ≡ course.old) }
 {
-    let _ = log.entry_count();
-    let Some(place) = next_entry(log, steps, station) else {
-        return Ok(None);
+    // To count the steps shows that each of them is good.
+    let _steps = course.len();
+    let Some(entry) = course.next_entry(station) else {
+        return Ok(false);
     };
-    let cause = cause_of(alloc, log, steps, place)?;
-    if cause.is_some() {
-        return Ok(None);
+    match course.go_on(alloc, entry)? {
+        Progress::Taken(_) => Ok(true),
+        Progress::Barred(_) => Ok(false),
     }
-    let link = number(link_of(alloc, log, steps, place)?);
-    Ok(Some(Step {
-        place: place as u32,
-        link,
-    }))
 }
 
 /// Lets each station take one step, if it can, and answers whether one did.
-fn sweep<L: ExerciseLog>(alloc: Global, log: &L, steps: &mut Vec<Step>) -> Result<bool, AllocError>
-    requires { GoodBelow (L.recording log.now) steps.old.items (length steps.old.items) }
-    ensures good { GoodBelow (L.recording log.now) steps.new.items (length steps.new.items) }
-    ensures longer { IfOk result (λ more. more ≡ true → length steps.old.items < length steps.new.items) }
-    ensures stuck { let r = L.recording log.now in IfOk result (λ more. more ≡ false → (s : ℕ) → s < length r.stations → IsHeld r (order_of r steps.new.items) s) }
+fn sweep<L: ExerciseLog>(
+    alloc: Global,
+    course: &mut Course<'_, L>,
+    stations: usize,
+) -> Result<bool, AllocError>
+    ensures recording { course.new.recording ≡ course.old.recording }
+    ensures longer { IfOk result (λ more. more ≡ true → length course.old.steps < length course.new.steps) }
+    ensures stuck { IfOk result (λ more. more ≡ false → (s : ℕ) → s < stations → IsHeld course.new.recording (so_far course.new) s) }
 {
     let mut more = false;
-    for station in 0..log.station_count() {
-        let found = next_step(alloc, log, steps.as_slice(), station)?;
-        if let Some(step) = found {
-            steps.push(step)?;
+    for station in 0..stations {
+        if let_go_on(alloc, course, station)? {
             more = true;
         }
     }
@@ -93,38 +53,42 @@ fn sweep<L: ExerciseLog>(alloc: Global, log: &L, steps: &mut Vec<Step>) -> Resul
 /// What stands in the way of a station that is held.
 fn block_at<L: ExerciseLog>(
     alloc: Global,
-    log: &L,
-    steps: &[Step],
+    course: &mut Course<'_, L>,
     station: usize,
 ) -> Result<Option<Block>, AllocError>
-    requires good { GoodBelow (L.recording log.now) steps.now (length steps.now) }
-    requires held { let r = L.recording log.now in IsHeld r (order_of r steps.now) station }
-    ensures block { let r = L.recording log.now in IfOk result (λ found. IfSome found (IsBlock r (order_of r steps.now) station)) }
-    ensures done { let r = L.recording log.now in IfOk result (λ found. IfNone found (IsDone r (order_of r steps.now) station)) }
+    requires { IsHeld course.old.recording (so_far course.old) station }
+    ensures block { IfOk result (λ found. IfSome found (IsBlock course.old.recording (so_far course.old) station)) }
+    ensures done { IfOk result (λ found. IfNone found (IsDone course.old.recording (so_far course.old) station)) }
+    ensures same { course.new ≡ course.old }
 {
-    let Some(entry) = next_entry(log, steps, station) else {
+    // To count the steps shows that each of them is good.
+    let _steps = course.len();
+    let Some(entry) = course.next_entry(station) else {
         return Ok(None);
     };
-    let found = cause_of(alloc, log, steps, entry)?;
-    let Some(cause) = found else {
-        return Ok(None);
-    };
-    Ok(Some(Block {
-        station,
-        entry,
-        cause,
-    }))
+    match course.go_on(alloc, entry)? {
+        Progress::Barred(cause) => Ok(Some(Block {
+            station,
+            entry,
+            cause,
+        })),
+        // A station that is held can't go on.
+        Progress::Taken(_) => Ok(None),
+    }
 }
 
 /// What stands in the way of each station that is not done.
-fn blocks<L: ExerciseLog>(alloc: Global, log: &L, steps: &[Step]) -> Result<Vec<Block>, AllocError>
-    requires good { GoodBelow (L.recording log.now) steps.now (length steps.now) }
-    requires held { let r = L.recording log.now in (s : ℕ) → s < length r.stations → IsHeld r (order_of r steps.now) s }
-    ensures { let r = L.recording log.now in IfOk result (λ blocks. AreBlocks r (order_of r steps.now) (length r.stations) blocks.items) }
+fn blocks<L: ExerciseLog>(
+    alloc: Global,
+    course: &mut Course<'_, L>,
+    stations: usize,
+) -> Result<Vec<Block>, AllocError>
+    requires { (s : ℕ) → s < stations → IsHeld course.old.recording (so_far course.old) s }
+    ensures { IfOk result (λ blocks. AreBlocks course.old.recording (so_far course.old) stations blocks.items) }
 {
     let mut blocks = Vec::new(alloc);
-    for station in 0..log.station_count() {
-        let found = block_at(alloc, log, steps, station)?;
+    for station in 0..stations {
+        let found = block_at(alloc, course, station)?;
         if let Some(block) = found {
             blocks.push(block)?;
         }
@@ -139,16 +103,16 @@ fn blocks<L: ExerciseLog>(alloc: Global, log: &L, steps: &[Step]) -> Result<Vec<
 pub fn audit<L: ExerciseLog>(alloc: Global, log: &L) -> Result<Audit, AllocError>
     ensures { IfOk result (IsAuditOf (L.recording log.now)) }
 {
-    let count = log.entry_count();
-    let mut steps = Vec::new(alloc);
+    let (count, stations) = (log.entry_count(), log.station_count());
+    let mut course = Course::begin(alloc, log)?;
     loop {
-        if !sweep(alloc, log, &mut steps)? {
+        if !sweep(alloc, &mut course, stations)? {
             break;
         }
     }
-    if steps.len() == count {
-        Ok(Audit::Explained(Certificate { steps }))
+    if course.len() == count {
+        Ok(Audit::Explained(course.into_certificate()))
     } else {
-        Ok(Audit::Blocked(blocks(alloc, log, steps.as_slice())?))
+        Ok(Audit::Blocked(blocks(alloc, &mut course, stations)?))
     }
 }

@@ -3,7 +3,7 @@
 use crate::{Audit, Block, audit};
 use dis_records::{Address, EntityState};
 use exercise_check::{NO_LINK, Step, check};
-use exercise_recording::{Cause, LogEntry, Recording, Station};
+use exercise_model::{Cause, LogEntry, Recording, Station};
 use std::alloc::Global;
 use std::test::Fail;
 

@@ -5,16 +5,16 @@ use Rattle.std.specs.Option.{option_map_or, option_or}
 use Rattle.std.specs.List.{list_all}
 use Rattle.std.proofs.lemmas.Bool.{and_parts}
 use Rattle.siman_pdus.specs.declared.pdu.Pdu.{Pdu}
-use Rattle.exercise_recording.specs.declared.cause.Cause.{Cause}
-use Rattle.exercise_recording.specs.declared.cause.Cause.TheVariants.{CountDiffers, NoSuchRecord, OutOfOrder, BadLink, WrongSender, ReusedIdentifier, NoRequest, WrongAnswer, ChangedAnswer, Impossible, Stranger, NeverSent, WrongState}
-use Rattle.exercise_recording.specs.Station.{StationData}
-use Rattle.exercise_recording.specs.Recording.{PlainRecording}
-use Rattle.exercise_recording.specs.History.{Event, Send, Get, Tell, History, event_of}
-use Rattle.exercise_recording.specs.Setting.{Setting, setting_of, station_in}
-use Rattle.exercise_recording.specs.Meaning.{meaning}
-use Rattle.exercise_recording.specs.History.{log_at}
-use Rattle.exercise_recording.specs.Cause.{first_cause, send_rows, send_cause, get_rows, get_cause, tell_rows, cause_of}
-use Rattle.exercise_recording.specs.State.{state_after}
+use Rattle.exercise_model.specs.declared.cause.Cause.{Cause}
+use Rattle.exercise_model.specs.declared.cause.Cause.TheVariants.{CountDiffers, NoSuchRecord, OutOfOrder, BadLink, WrongSender, ReusedIdentifier, NoRequest, WrongAnswer, ChangedAnswer, Impossible, Stranger, NeverSent, WrongState}
+use Rattle.exercise_model.specs.Station.{StationData}
+use Rattle.exercise_model.specs.Recording.{PlainRecording}
+use Rattle.exercise_model.specs.History.{Event, Send, Get, Tell, History, event_of}
+use Rattle.exercise_model.specs.Setting.{SettingData, station_in}
+use Rattle.exercise_model.specs.Meaning.{meaning}
+use Rattle.exercise_model.specs.History.{log_at}
+use Rattle.exercise_model.specs.Cause.{first_cause, send_rows, send_cause, get_rows, get_cause, tell_rows, cause_of}
+use Rattle.exercise_model.specs.State.{state_after}
 use Rattle.exercise_check.specs.declared.certificate.Step.{Step}
 use Rattle.exercise_check.specs.Order.{order_of, is_next, link_of, link_number}
 use Rattle.exercise_check.specs.Goodness.{link_cause, event_cause, step_cause}
@@ -54,7 +54,7 @@ send_other : (x : ℕ) (o : StationData) (log : History) (p : Pdu) → Other (se
 unfolding send_cause is_count
 send_other x o log p = first_other (send_rows x o log p) refl
 
-get_other : (w : Setting) (h : History) (b : List ℕ) (p : Pdu) → Other (get_cause w h b p)
+get_other : (w : SettingData) (h : History) (b : List ℕ) (p : Pdu) → Other (get_cause w h b p)
 unfolding get_cause is_count
 get_other w h b p = first_other (get_rows w h b p) refl
 
@@ -62,7 +62,7 @@ then_other : (f : Pdu → Option Cause) → ((p : Pdu) → Other (f p)) → (o :
 then_other f h None = refl
 then_other f h (Some p) = h p
 
-event_other : (w : Setting) (h : History) (v : Event) → Other (cause_of w h v)
+event_other : (w : SettingData) (h : History) (v : Event) → Other (cause_of w h v)
 unfolding cause_of is_count
 event_other w h (Send s b) = then_other (send_cause w.exercise (station_in w s) (log_at s h)) (send_other w.exercise (station_in w s) (log_at s h)) (meaning w.exercise b)
 event_other w h (Get s b) = then_other (get_cause w h b) (get_other w h b) (meaning w.exercise b)
@@ -81,8 +81,8 @@ unfolding step_cause is_count
 step_other r before step =
     elim (slice_get r.entries step.place) as (λ o. Other (option_map_or (λ e. event_cause r before step (event_of e)) o (Some NoSuchRecord))) [
       | None ↦ refl
-      | Some e ↦ elim (is_next r before step.place (event_of e)) as (λ b. Other (cond b (option_or (cause_of (setting_of r) (order_of r before) (event_of e)) (link_cause step.link (link_of r before step.place (event_of e)))) (Some OutOfOrder))) [
-        | true ↦ or_other _ _ (event_other (setting_of r) (order_of r before) (event_of e)) (link_other step.link (link_of r before step.place (event_of e)))
+      | Some e ↦ elim (is_next r before step.place (event_of e)) as (λ b. Other (cond b (option_or (cause_of r.setting (order_of r before) (event_of e)) (link_cause step.link (link_of r before step.place (event_of e)))) (Some OutOfOrder))) [
+        | true ↦ or_other _ _ (event_other r.setting (order_of r before) (event_of e)) (link_other step.link (link_of r before step.place (event_of e)))
         | false ↦ refl
       ]
     ]

@@ -5,12 +5,11 @@ use Rattle.std.specs.Option.{option_map_or}
 use Rattle.std.proofs.Math.Numerals.{add-one}
 use Rattle.std.proofs.lemmas.List.{take_more, take_all}
 use Rattle.std.proofs.lemmas.Bool.{lt-ltb}
-use Rattle.exercise_recording.specs.Entry.{Entry}
-use Rattle.exercise_recording.specs.Recording.{PlainRecording, IsRecording}
-use Rattle.exercise_recording.specs.History.{History, event_of, past, log_of}
-use Rattle.exercise_recording.specs.Setting.{setting_of}
-use Rattle.exercise_recording.specs.Run.{IsRun, Explains, CoversPrefixes}
-use Rattle.exercise_recording.proofs.Counting.{entry_station, within, all_events, fewer_events, past_within, length-past}
+use Rattle.exercise_model.specs.Entry.{Entry}
+use Rattle.exercise_model.specs.Recording.{PlainRecording, IsRecording}
+use Rattle.exercise_model.specs.History.{History, event_of, past, log_of}
+use Rattle.exercise_model.specs.Run.{IsRun, Explains, CoversPrefixes}
+use Rattle.exercise_model.proofs.Offered.{entry_station, within, all_events, fewer_events, past_within, length-past}
 use Rattle.exercise_check.specs.declared.certificate.Step.{Step}
 use Rattle.exercise_check.specs.Order.{order_of}
 use Rattle.exercise_check.specs.Goodness.{no_step, GoodBelow, IsGood}
@@ -26,9 +25,9 @@ order_of_next r steps n e within at =
 
 -- what good steps record: a run, with an event for each, at stations that there are
 pub record IsSound (r : PlainRecording) (h : History) (n : ℕ) : Type 0 where
-  pub run : IsRun (setting_of r) h
+  pub run : IsRun r.setting h
   pub count : length h ≡ n
-  pub stations : within (length r.stations) h ≡ true
+  pub stations : within (length r.setting.stations) h ≡ true
 
 sound_none : (r : PlainRecording) → IsSound r (order_of r []) 0
 sound_none r = subst (λ h. IsSound r h 0) (sym (order_of-none r)) (record { run = tt; count = refl; stations = refl })
@@ -41,7 +40,7 @@ sound_steps r limits steps (suc n) le good =
     subst (λ h. IsSound r h (suc n)) (sym (order_of_next r steps n here.0 (omega arith) here.1.at)) (record {
       run = (before.run, here.1.allowed);
       count = ap suc before.count;
-      stations = ap (λ b. b && within (length r.stations) (order_of r (take n steps))) (lt-ltb _ _ (entry_station (length r.stations) r.entries _ here.0 limits.each_entry here.1.at)) ∙ before.stations;
+      stations = ap (λ b. b && within (length r.setting.stations) (order_of r (take n steps))) (lt-ltb _ _ (entry_station (length r.setting.stations) r.entries _ here.0 limits.each_entry here.1.at)) ∙ before.stations;
     })
 
 -- good steps record a run that covers prefixes
@@ -64,7 +63,7 @@ good_explains r limits steps good =
     let covers = good_covers r limits steps good.good in
     record {
       run = covers.run;
-      logs = all_events (length r.stations) (order_of r steps) (past r.entries) sound.stations (past_within r limits) covers.logs (sound.count ∙ good.count ∙ sym (length-past r.entries));
+      logs = all_events (length r.setting.stations) (order_of r steps) (past r.entries) sound.stations (past_within r limits) covers.logs (sound.count ∙ good.count ∙ sym (length-past r.entries));
     }
 
 -- good steps are no more than entries
@@ -73,4 +72,4 @@ unfolding log_of
 good_few r limits steps good =
     let sound = good_sound r limits steps good in
     let covers = good_covers r limits steps good in
-    omega (arith, sound.count, length-past r.entries, fewer_events (length r.stations) (order_of r steps) (past r.entries) sound.stations (past_within r limits) covers.logs)
+    omega (arith, sound.count, length-past r.entries, fewer_events (length r.setting.stations) (order_of r steps) (past r.entries) sound.stations (past_within r limits) covers.logs)

@@ -7,15 +7,14 @@ use Rattle.std.proofs.lemmas.List.{take_more, length_push, take-append-le, get_o
 use Rattle.std.proofs.lemmas.List.Elements.{All-from_get_or}
 use Rattle.std.proofs.lemmas.Bool.{eqb-true, eq-eqb, cases_lt}
 use Rattle.std.proofs.lemmas.Option.{slice_get_within}
-use Rattle.exercise_recording.specs.declared.cause.Cause.TheVariants.{NoSuchRecord, OutOfOrder, BadLink}
-use Rattle.exercise_recording.specs.Entry.{Entry}
-use Rattle.exercise_recording.specs.Recording.{PlainRecording}
-use Rattle.exercise_recording.specs.History.{Event, History, event_of, station_of, past, log_at, log_of}
-use Rattle.exercise_recording.specs.Setting.{setting_of}
-use Rattle.exercise_recording.specs.Cause.{cause_of}
-use Rattle.exercise_recording.specs.Place.{log_before, own_event}
-use Rattle.exercise_recording.specs.Run.{IsBeginning}
-use Rattle.exercise_recording.proofs.Beginnings.{same_beginnings, log_before-beginning, log_before-next}
+use Rattle.exercise_model.specs.declared.cause.Cause.TheVariants.{NoSuchRecord, OutOfOrder, BadLink}
+use Rattle.exercise_model.specs.Entry.{Entry}
+use Rattle.exercise_model.specs.Recording.{PlainRecording}
+use Rattle.exercise_model.specs.History.{Event, History, event_of, station_of, past, log_at, log_of}
+use Rattle.exercise_model.specs.Cause.{cause_of}
+use Rattle.exercise_model.specs.Place.{log_before, own_event}
+use Rattle.exercise_model.specs.Run.{IsBeginning}
+use Rattle.exercise_model.proofs.Offered.{same_beginnings, log_before-beginning, log_before-next}
 use Rattle.exercise_check.specs.declared.certificate.Step.{Step}
 use Rattle.exercise_check.specs.Order.{order_of, is_next, link_of, link_number}
 use Rattle.exercise_check.specs.Goodness.{event_cause, step_cause, IsGoodStep, no_step, GoodBelow, ArePlaced, IsReady}
@@ -28,9 +27,9 @@ good_event r before step e at =
     let v = event_of e in
     elim (nat_eq (length (log_at (station_of v) (order_of r before))) (length (log_before r (station_of v) step.place))) as (λ t.
     nat_eq (length (log_at (station_of v) (order_of r before))) (length (log_before r (station_of v) step.place)) ≡ t
-    → cond t (option_or (cause_of (setting_of r) (order_of r before) v) (cond (nat_eq step.link (link_number (link_of r before step.place v))) None (Some BadLink))) (Some OutOfOrder) ≡ None → IsGoodStep r before step e) [
+    → cond t (option_or (cause_of r.setting (order_of r before) v) (cond (nat_eq step.link (link_number (link_of r before step.place v))) None (Some BadLink))) (Some OutOfOrder) ≡ None → IsGoodStep r before step e) [
       | false ↦ λ _ h. absurd (cc)
-      | true ↦ λ next. elim (cause_of (setting_of r) (order_of r before) v) as (λ o. cause_of (setting_of r) (order_of r before) v ≡ o → option_or o (cond (nat_eq step.link (link_number (link_of r before step.place v))) None (Some BadLink)) ≡ None → IsGoodStep r before step e) [
+      | true ↦ λ next. elim (cause_of r.setting (order_of r before) v) as (λ o. cause_of r.setting (order_of r before) v ≡ o → option_or o (cond (nat_eq step.link (link_number (link_of r before step.place v))) None (Some BadLink)) ≡ None → IsGoodStep r before step e) [
         | Some cause ↦ λ _ h. absurd (cc)
         | None ↦ λ allowed. elim (nat_eq step.link (link_number (link_of r before step.place v))) as (λ t. nat_eq step.link (link_number (link_of r before step.place v)) ≡ t → cond t None (Some BadLink) ≡ None → IsGoodStep r before step e) [
           | false ↦ λ _ h. absurd (cc)
@@ -98,7 +97,7 @@ pub cause_none : (r : PlainRecording) (before : List Step) (step : Step) (e : En
 unfolding step_cause is_next
 cause_none r before step e good =
     ap (λ o. option_map_or (λ e. event_cause r before step (event_of e)) o (Some NoSuchRecord)) good.at
-    ∙ ap (λ b. cond b (option_or (cause_of (setting_of r) (order_of r before) (event_of e)) (cond (nat_eq step.link (link_number (link_of r before step.place (event_of e)))) None (Some BadLink))) (Some OutOfOrder)) (eq-eqb _ _ good.next)
+    ∙ ap (λ b. cond b (option_or (cause_of r.setting (order_of r before) (event_of e)) (cond (nat_eq step.link (link_number (link_of r before step.place (event_of e)))) None (Some BadLink))) (Some OutOfOrder)) (eq-eqb _ _ good.next)
     ∙ ap (λ o. option_or o (cond (nat_eq step.link (link_number (link_of r before step.place (event_of e)))) None (Some BadLink))) good.allowed
     ∙ ap (λ b. cond b None (Some BadLink)) (eq-eqb _ _ good.link)
 

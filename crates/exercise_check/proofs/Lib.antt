@@ -1,7 +1,10 @@
-pub mod Sent
-pub mod Orders
-pub mod Goodness
-pub mod Explained
-pub mod Causes
-pub mod Texts
-pub mod Refusals
+mod Sent
+mod Orders
+mod Goodness
+mod Courses
+mod Links
+mod Explained
+mod Causes
+mod Texts
+mod Refusals
+pub mod Offered

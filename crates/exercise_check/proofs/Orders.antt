@@ -7,12 +7,12 @@ use Rattle.std.proofs.Math.Numerals.{add-one}
 use Rattle.std.proofs.Math.Nat.{add-zero}
 use Rattle.std.proofs.lemmas.List.{take_more, drop_more, drop_all}
 use Rattle.std.proofs.lemmas.List.Folds.{list_any-append}
-use Rattle.exercise_recording.specs.Entry.{Entry}
-use Rattle.exercise_recording.specs.Recording.{PlainRecording}
-use Rattle.exercise_recording.specs.History.{Event, History, event_of, station_of, past, log_at}
-use Rattle.exercise_recording.specs.Cause.{sends, was_sent}
-use Rattle.exercise_recording.specs.Place.{log_before, own_event}
-use Rattle.exercise_recording.proofs.Onward.{past-snoc, past-append, log_before-more, log_before-none}
+use Rattle.exercise_model.specs.Entry.{Entry}
+use Rattle.exercise_model.specs.Recording.{PlainRecording}
+use Rattle.exercise_model.specs.History.{Event, History, event_of, station_of, past, log_at}
+use Rattle.exercise_model.specs.Cause.{sends, was_sent}
+use Rattle.exercise_model.specs.Place.{log_before, own_event}
+use Rattle.exercise_model.proofs.Offered.{past-snoc, past-append, log_before-more, log_before-none}
 use Rattle.exercise_check.specs.declared.certificate.Step.{Step}
 use Rattle.exercise_check.specs.Order.{chosen, order_of, first_sender}
 use Rattle.exercise_check.specs.Goodness.{no_step}

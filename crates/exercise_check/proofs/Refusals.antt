@@ -1,30 +1,18 @@
 -- Bytes that are refused are no certificate within the limit.
 use Rattle.std.proofs.Common.{◌≡◌, ℕ, zero, suc, ◌+◌, ◌*◌, ◌^◌, ◌<◌, ◌≤◌, Bool, true, false, cond, eqb, ltb, List, ◌∷◌, ◌++◌, length, take, Result, Ok, Err, refl, sym, ap, subst, ◌∙◌, inl, inr, arith}
-use Rattle.std.specs.Prelude.{◌⊎◌, nat_le, codes, bytes_eq}
+use Rattle.std.specs.Prelude.{nat_le, codes, bytes_eq}
 use Rattle.std.specs.List.{flat_map}
 use Rattle.std.specs.Int.{w32, to_be_bytes, from_be_bytes}
 use Rattle.std.proofs.lemmas.Bool.{ltb-true, leb-true, leb-false, eqb-false, le-ltb}
 use Rattle.std.proofs.lemmas.List.{take_at, length-append}
-use Rattle.exercise_recording.specs.Fields.{Input, Names, ◌>>=◌, judged}
-use Rattle.exercise_recording.specs.Fields as fields
-use Rattle.exercise_recording.proofs.Fields.{IsBytes, Takes, takes_then, field_takes, number_takes, where_is, wide32}
+use Rattle.byte_files.specs.Fields.{Input, IsBytes, Names, ◌>>=◌, judged}
+use Rattle.byte_files.specs.Fields as fields
+use Rattle.byte_files.proofs.Offered.{bind_err, judged_err, ok_err, Takes, takes_then, field_takes, number_takes, where_is, wide32}
 use Rattle.exercise_check.specs.declared.certificate.Step.{Step}
 use Rattle.exercise_check.specs.declared.certificate_fault.CertificateFormatFault.{CertificateFormatFault}
 use Rattle.exercise_check.specs.declared.certificate_fault.CertificateFormatFault.TheVariants as faults
 use Rattle.exercise_check.specs.Certificate.{step_text, head_text, certificate_text, names, field_at, number_at, magic_at, count_at, step_at, steps_at, ended, whole_at, certificate_at, count_of, IsRefused}
 use Rattle.exercise_check.proofs.Texts.{step_takes, steps_take, magic_takes}
-
--- a step failed, or the next one did
-bind_err : {A B F : Type 0} (r : Result A F) (f : A → Result B F) (d : F) → (r >>= f) ≡ Err d → (r ≡ Err d) ⊎ ((x : A) × (r ≡ Ok x) × (f x ≡ Err d))
-bind_err (Ok x) f d e = inr (x, refl, e)
-bind_err (Err c) f d e = inl (let same : c ≡ d = cc in ap (λ z. Err z) same)
-
-judged_err : {A F : Type 0} (b : Bool) (c : F) (x : A) (d : F) → judged b c x ≡ Err d → (b ≡ false) × (c ≡ d)
-judged_err true c x d e = absurd cc
-judged_err false c x d e = (refl, cc)
-
-ok_err : {A F : Type 0} (r : Result A F) (x : A) (d : F) → r ≡ Ok x → r ≡ Err d → ⊥
-ok_err r x d is e = cc
 
 -- a part that is not empty makes the whole longer
 elim_some : (rest text whole at : ℕ) → (rest ≡ 0 → ⊥) → whole ≡ text + rest → text ≡ at → at < whole

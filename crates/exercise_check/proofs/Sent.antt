@@ -3,12 +3,12 @@ use Rattle.std.proofs.Common.{◌≡◌, ℕ, Option, Some, None, false, refl}
 use Rattle.std.specs.Prelude.{option_and_then}
 use Rattle.std.specs.Option.{option_map_or}
 use Rattle.siman_pdus.specs.declared.pdu.Pdu.{Pdu}
-use Rattle.exercise_recording.specs.declared.acknowledge.AcknowledgeKey.{AcknowledgeKey}
-use Rattle.exercise_recording.specs.Station.{StationData}
-use Rattle.exercise_recording.specs.History.{Event, Send, Get, Tell, History}
-use Rattle.exercise_recording.specs.Change.{responds_under, sends_under}
-use Rattle.exercise_recording.specs.State.{change_by, change_made}
-use Rattle.exercise_recording.specs.Cause.{is_other_order, sends_other}
+use Rattle.exercise_model.specs.declared.acknowledge.AcknowledgeKey.{AcknowledgeKey}
+use Rattle.exercise_model.specs.Station.{StationData}
+use Rattle.exercise_model.specs.History.{Event, Send, Get, Tell, History}
+use Rattle.exercise_model.specs.Change.{responds_under, sends_under}
+use Rattle.exercise_model.specs.State.{change_by, change_made}
+use Rattle.exercise_model.specs.Cause.{is_other_order, sends_other}
 use Rattle.exercise_check.specs.Sent.{meant_by_send}
 
 pub sends_under-sent : (x response : ℕ) (k : AcknowledgeKey) (o : Option Event) → option_map_or (sends_under x response k) o false ≡ option_map_or (responds_under response k) (option_and_then (meant_by_send x) o) false

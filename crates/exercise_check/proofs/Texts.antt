@@ -5,9 +5,8 @@ use Rattle.std.specs.List.{flat_map, list_all}
 use Rattle.std.specs.Int.{w32, to_be_bytes}
 use Rattle.std.proofs.lemmas.Bool.{and_parts, eqb-true, lt-ltb, ltb-true, leb-true, le-leb}
 use Rattle.std.proofs.lemmas.List.{nil_from_length, length-append}
-use Rattle.exercise_recording.specs.Fields.{Input, ◌>>=◌, judged}
-use Rattle.exercise_recording.proofs.Fields.{IsBytes, bind_ok, judged_ok, ok_is, Takes, takes_nothing, takes_then, bytes_same, field_takes, number_takes, where_is, front, Reads, reads_nothing, reads_then, reads_last, field_reads, number_reads, where_reads, wide32}
-use Rattle.exercise_recording.proofs.Repeats.{first_then}
+use Rattle.byte_files.specs.Fields.{Input, IsBytes, ◌>>=◌, judged}
+use Rattle.byte_files.proofs.Offered.{bind_ok, judged_ok, ok_is, Takes, takes_nothing, takes_then, bytes_same, field_takes, number_takes, where_is, front, Reads, reads_nothing, reads_then, reads_last, field_reads, number_reads, where_reads, wide32, first_then}
 use Rattle.exercise_check.specs.declared.certificate.Step.{Step}
 use Rattle.exercise_check.specs.declared.certificate_fault.CertificateFormatFault.{CertificateFormatFault}
 use Rattle.exercise_check.specs.declared.certificate_fault.CertificateFormatFault.TheVariants as faults

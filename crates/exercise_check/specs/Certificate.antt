@@ -2,10 +2,10 @@
 use Rattle.std.specs.Prelude.{◌≡◌, ◌≤◌, ◌<◌, ℕ, zero, suc, ◌+◌, ◌*◌, List, [], ◌∷◌, ◌++◌, length, take, drop, Bool, false, ◌&&◌, nat_lt, nat_le, Option, Some, None, Result, Ok, bytes_eq, codes}
 use Rattle.std.specs.List.{flat_map}
 use Rattle.std.specs.Int.{Width, w32, to_be_bytes, from_be_bytes}
-use Rattle.exercise_recording.specs.declared.source.FieldFault.{FieldFault}
-use Rattle.exercise_recording.specs.declared.source.FieldFault.TheVariants as fields_faults
-use Rattle.exercise_recording.specs.Fields.{Input, Names, ◌>>=◌, judged}
-use Rattle.exercise_recording.specs.Fields as fields
+use Rattle.byte_files.specs.declared.source.FieldFault.{FieldFault}
+use Rattle.byte_files.specs.declared.source.FieldFault.TheVariants as fields_faults
+use Rattle.byte_files.specs.Fields.{Input, Names, ◌>>=◌, judged}
+use Rattle.byte_files.specs.Fields as fields
 use Rattle.exercise_check.specs.declared.certificate.Step.{Step}
 use Rattle.exercise_check.specs.declared.certificate.Certificate.{Certificate}
 use Rattle.exercise_check.specs.declared.certificate_fault.CertificateFormatFault.{CertificateFormatFault}

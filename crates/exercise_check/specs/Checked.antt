@@ -1,8 +1,8 @@
 -- What a recording says, once a certificate explains it.
 use Rattle.std.specs.Prelude.{◌≡◌, ℕ, List, [], Option, None, slice_index_or}
 use Rattle.dis_records.specs.declared.entity_state.EntityState.{EntityState}
-use Rattle.exercise_recording.specs.Recording.{PlainRecording}
-use Rattle.exercise_recording.specs.Account.{pair_of, change_behind, others_of, states_of}
+use Rattle.exercise_model.specs.Recording.{PlainRecording}
+use Rattle.exercise_model.specs.Account.{pair_of, change_behind, others_of, states_of}
 
 -- for each station, by rising indices, its entities that are not Absent at the end, by rising numbers, with their states; for each entry the entry of the request that it takes up, and of the change behind it; and how many datagrams are "other"
 pub record CheckedData : Type 0 where

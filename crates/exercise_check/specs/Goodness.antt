@@ -1,14 +1,13 @@
 -- Good steps, good certificates, and what a refusal says (profile).
 use Rattle.std.specs.Prelude.{◌≡◌, ◌≢◌, ◌<◌, ◌⊎◌, ⊤, ℕ, List, length, take, slice_get, slice_index_or, Option, Some, None, All, ◌==◌, if◌then◌else◌}
 use Rattle.std.specs.Option.{option_map_or, option_or}
-use Rattle.exercise_recording.specs.declared.cause.Cause.{Cause}
-use Rattle.exercise_recording.specs.declared.cause.Cause.TheVariants.{CountDiffers, NoSuchRecord, OutOfOrder, BadLink}
-use Rattle.exercise_recording.specs.Entry.{Entry}
-use Rattle.exercise_recording.specs.Recording.{PlainRecording}
-use Rattle.exercise_recording.specs.History.{Event, event_of, station_of, log_at}
-use Rattle.exercise_recording.specs.Setting.{setting_of}
-use Rattle.exercise_recording.specs.Cause.{cause_of}
-use Rattle.exercise_recording.specs.Place.{log_before}
+use Rattle.exercise_model.specs.declared.cause.Cause.{Cause}
+use Rattle.exercise_model.specs.declared.cause.Cause.TheVariants.{CountDiffers, NoSuchRecord, OutOfOrder, BadLink}
+use Rattle.exercise_model.specs.Entry.{Entry}
+use Rattle.exercise_model.specs.Recording.{PlainRecording}
+use Rattle.exercise_model.specs.History.{Event, event_of, station_of, log_at}
+use Rattle.exercise_model.specs.Cause.{cause_of}
+use Rattle.exercise_model.specs.Place.{log_before}
 use Rattle.exercise_check.specs.declared.certificate.Step.{Step}
 use Rattle.exercise_check.specs.declared.checker.CheckFault.{CheckFault}
 use Rattle.exercise_check.specs.declared.checker.CheckFault.TheVariants.{Bad, Memory}
@@ -22,7 +21,7 @@ link_cause given link = if given == link_number link then None else Some BadLink
 abbrev pub event_cause : PlainRecording → List Step → Step → Event → Option Cause
 event_cause r before step v =
     if is_next r before step.place v
-    then option_or (cause_of (setting_of r) (order_of r before) v) (link_cause step.link (link_of r before step.place v))
+    then option_or (cause_of r.setting (order_of r before) v) (link_cause step.link (link_of r before step.place v))
     else Some OutOfOrder
 
 -- the first cause against a step after the steps before it: there is no entry of its place, or one of the above
@@ -33,7 +32,7 @@ step_cause r before step = option_map_or (λ e. event_cause r before step (event
 pub record IsGoodStep (r : PlainRecording) (before : List Step) (step : Step) (e : Entry) : Type 0 where
   pub at : slice_get r.entries step.place ≡ Some e
   pub next : length (log_at (station_of (event_of e)) (order_of r before)) ≡ length (log_before r (station_of (event_of e)) step.place)
-  pub allowed : cause_of (setting_of r) (order_of r before) (event_of e) ≡ None
+  pub allowed : cause_of r.setting (order_of r before) (event_of e) ≡ None
   pub link : step.link ≡ link_number (link_of r before step.place (event_of e))
 
 abbrev pub no_step : Step

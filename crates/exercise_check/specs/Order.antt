@@ -2,13 +2,13 @@
 use Rattle.std.specs.Prelude.{ℕ, List, [], ◌∷◌, ◌++◌, length, slice_get, Option, Some, None, option_and_then, unwrap_or, ◌==◌, Bool, false, if◌then◌else◌}
 use Rattle.std.specs.Option.{option_map_or, option_to_list}
 use Rattle.siman_pdus.specs.declared.pdu.Pdu.{Pdu}
-use Rattle.exercise_recording.specs.Entry.{Entry}
-use Rattle.exercise_recording.specs.Recording.{PlainRecording}
-use Rattle.exercise_recording.specs.History.{Event, Send, Get, Tell, History, event_of, station_of, past, log_at}
-use Rattle.exercise_recording.specs.Meaning.{meaning}
-use Rattle.exercise_recording.specs.Cause.{sends}
-use Rattle.exercise_recording.specs.Place.{log_before}
-use Rattle.exercise_recording.specs.Account.{pair_of_sent}
+use Rattle.exercise_model.specs.Entry.{Entry}
+use Rattle.exercise_model.specs.Recording.{PlainRecording}
+use Rattle.exercise_model.specs.History.{Event, Send, Get, Tell, History, event_of, station_of, past, log_at}
+use Rattle.exercise_model.specs.Meaning.{meaning}
+use Rattle.exercise_model.specs.Cause.{sends}
+use Rattle.exercise_model.specs.Place.{log_before}
+use Rattle.exercise_model.specs.Account.{pair_of_sent}
 use Rattle.exercise_check.specs.declared.certificate.Step.{Step}
 
 -- the entries that steps name, in the order of the steps
@@ -32,8 +32,8 @@ first_sender entries b (step ∷ steps) =
 
 -- THE LINK OF A STEP: for an answer that is sent the entry of the request that it takes up, for a datagram that is received and means something the entry of the first Send before with the same bytes, for all else none
 unfoldable pub link_of : PlainRecording → List Step → ℕ → Event → Option ℕ
-link_of r before place (Send s b) = option_and_then (pair_of_sent r s place) (meaning r.exercise b)
-link_of r before place (Get s b) = option_and_then (λ (p : Pdu). first_sender r.entries b before) (meaning r.exercise b)
+link_of r before place (Send s b) = option_and_then (pair_of_sent r s place) (meaning r.setting.exercise b)
+link_of r before place (Get s b) = option_and_then (λ (p : Pdu). first_sender r.entries b before) (meaning r.setting.exercise b)
 link_of r before place (Tell s e y) = None
 
 -- how a link is written: none as 0xFFFFFFFF

@@ -2,14 +2,16 @@
 //! question.
 
 ghost use Rattle.std.specs.Prelude.{◌≡◌, ◌<◌, ◌≤◌, ◌+◌, length, map, take, slice_get, IfOk, IfSome, if◌then◌else◌};
-ghost use Rattle.exercise_recording.specs.Held.{shown};
-ghost use Rattle.exercise_recording.specs.Account.{pair_of, sender_of, sends_able, first_able, change_under, change_behind_pdu, change_behind, is_other, others_among, others_of, entities_of, values_below};
+ghost use Rattle.exercise_model.specs.Held.{shown};
+ghost use Rattle.exercise_check.specs.Checked.{TellsAccount};
+ghost use Rattle.exercise_model.specs.Account.{pair_of, sender_of, sends_able, first_able, change_under, change_behind_pdu, change_behind, is_other, others_among, others_of, entities_of, values_below};
 
-use crate::entities::entities;
-use crate::station_log::acknowledges;
-use crate::steps::pair_of_sent;
+use crate::change::acknowledges;
+use crate::checked::Checked;
+use crate::link::pair_of_sent;
+use crate::state::entities;
 use dis_records::EntityState;
-use exercise_recording::{
+use exercise_model::{
     AcknowledgeKey, EntryView, ExerciseLog, is_from, key_of, meaning_of, responds,
 };
 use siman_pdus::{ABLE, Pdu};
@@ -27,7 +29,7 @@ fn number(entry: Option<usize>) -> Option<u32>
 }
 
 /// The entry of the request that an entry's answer takes up, where it is an answer that was sent.
-#[tactic(auto, unfolding(exercise_recording::specs::Account::pair_of))]
+#[tactic(auto, unfolding(exercise_model::specs::Account::pair_of))]
 fn pair_of<L: ExerciseLog>(
     alloc: Global,
     log: &L,
@@ -47,7 +49,7 @@ fn pair_of<L: ExerciseLog>(
 }
 
 /// The recorded station that a PDU comes from.
-#[tactic(auto, unfolding(exercise_recording::specs::Account::sender_of), using(exercise_recording::proofs::Accounts::account_steps))]
+#[tactic(auto, unfolding(exercise_model::specs::Account::sender_of), using(exercise_model::proofs::Offered::account_steps))]
 fn sender_of<L: ExerciseLog>(log: &L, pdu: &Pdu) -> Option<usize>
     ensures { result ≡ sender_of (L.recording log.now) pdu.now }
 {
@@ -61,7 +63,7 @@ fn sender_of<L: ExerciseLog>(log: &L, pdu: &Pdu) -> Option<usize>
 }
 
 /// The entry of the first Able that a station sends under a key.
-#[tactic(auto, unfolding(exercise_recording::specs::Account::first_able), using(exercise_recording::proofs::Accounts::account_steps))]
+#[tactic(auto, unfolding(exercise_model::specs::Account::first_able), using(exercise_model::proofs::Offered::account_steps))]
 fn first_able<L: ExerciseLog>(
     alloc: Global,
     log: &L,
@@ -100,7 +102,7 @@ fn change_behind_pdu<L: ExerciseLog>(
 }
 
 /// The change behind an entry, where it is an Able Acknowledge that was received.
-#[tactic(auto, unfolding(exercise_recording::specs::Account::change_behind))]
+#[tactic(auto, unfolding(exercise_model::specs::Account::change_behind))]
 fn change_behind<L: ExerciseLog>(
     alloc: Global,
     log: &L,
@@ -135,8 +137,8 @@ fn count_other(alloc: Global, exercise: u8, entry: &EntryView<'_>) -> Result<u32
 }
 
 /// How many datagrams are "other".
-#[tactic(auto, unfolding(exercise_recording::specs::Account::others_of))]
-pub(crate) fn others<L: ExerciseLog>(alloc: Global, log: &L) -> Result<u32, AllocError>
+#[tactic(auto, unfolding(exercise_model::specs::Account::others_of))]
+fn others<L: ExerciseLog>(alloc: Global, log: &L) -> Result<u32, AllocError>
     ensures { IfOk result (λ others. others ≡ others_of (L.recording log.now)) }
 {
     let mut others = 0;
@@ -147,8 +149,8 @@ pub(crate) fn others<L: ExerciseLog>(alloc: Global, log: &L) -> Result<u32, Allo
 }
 
 /// The pair of each entry.
-#[tactic(auto, using(exercise_recording::proofs::Accounts::account_steps))]
-pub(crate) fn pairs<L: ExerciseLog>(alloc: Global, log: &L) -> Result<Vec<Option<u32>>, AllocError>
+#[tactic(auto, using(exercise_model::proofs::Offered::account_steps))]
+fn pairs<L: ExerciseLog>(alloc: Global, log: &L) -> Result<Vec<Option<u32>>, AllocError>
     ensures { let r = L.recording log.now in IfOk result (λ pairs. pairs.items ≡ values_below (pair_of r) (length r.entries)) }
 {
     let mut pairs = Vec::new(alloc);
@@ -159,11 +161,8 @@ pub(crate) fn pairs<L: ExerciseLog>(alloc: Global, log: &L) -> Result<Vec<Option
 }
 
 /// The change behind each entry.
-#[tactic(auto, using(exercise_recording::proofs::Accounts::account_steps))]
-pub(crate) fn changes<L: ExerciseLog>(
-    alloc: Global,
-    log: &L,
-) -> Result<Vec<Option<u32>>, AllocError>
+#[tactic(auto, using(exercise_model::proofs::Offered::account_steps))]
+fn changes<L: ExerciseLog>(alloc: Global, log: &L) -> Result<Vec<Option<u32>>, AllocError>
     ensures { let r = L.recording log.now in IfOk result (λ changes. changes.items ≡ values_below (change_behind r) (length r.entries)) }
 {
     let mut changes = Vec::new(alloc);
@@ -174,16 +173,26 @@ pub(crate) fn changes<L: ExerciseLog>(
 }
 
 /// The entities of each station that are not Absent after its log.
-#[tactic(auto, using(exercise_recording::proofs::Accounts::account_steps))]
-pub(crate) fn states<L: ExerciseLog>(
+#[tactic(auto, using(exercise_model::proofs::Offered::account_steps))]
+fn states<L: ExerciseLog>(
     alloc: Global,
     log: &L,
 ) -> Result<Vec<Vec<(u16, EntityState)>>, AllocError>
-    ensures { let r = L.recording log.now in IfOk result (λ states. map (λ v. v.items) states.items ≡ values_below (entities_of r) (length r.stations)) }
+    ensures { let r = L.recording log.now in IfOk result (λ states. map (λ v. v.items) states.items ≡ values_below (entities_of r) (length r.setting.stations)) }
 {
     let mut states = Vec::new(alloc);
     for station in 0..log.station_count() {
         states.push(entities(alloc, log, station)?)?;
     }
     Ok(states)
+}
+
+/// What a recording says.
+pub(crate) fn account<L: ExerciseLog>(alloc: Global, log: &L) -> Result<Checked, AllocError>
+    ensures { IfOk result (λ checked. TellsAccount (L.recording log.now) checked) }
+{
+    let pairs = pairs(alloc, log)?;
+    let causes = changes(alloc, log)?;
+    let others = others(alloc, log)?;
+    Ok(Checked::of(states(alloc, log)?, pairs, causes, others))
 }

@@ -4,7 +4,7 @@ ghost use Rattle.std.specs.Prelude.{◌≡◌};
 ghost use Rattle.exercise_check.specs.Certificate.{said};
 ghost use Rattle.exercise_check.specs.declared.certificate_fault.CertificateFault.TheVariants.{Memory};
 
-use exercise_recording::source::FieldFault;
+use byte_files::FieldFault;
 use std::alloc::{AllocError, AllocFailed};
 use thiserror::Error;
 

@@ -2,12 +2,12 @@
 
 ghost use Rattle.std.specs.Prelude.{◌≡◌, ◌≤◌, length};
 ghost use Rattle.std.specs.List.{flat_map};
-ghost use Rattle.exercise_recording.specs.Writing.{Writes};
+ghost use Rattle.byte_files.specs.Writing.{Writes};
 ghost use Rattle.exercise_check.specs.Certificate.{step_text, head_text, certificate_text};
 
 use crate::certificate::{Certificate, Step};
 use crate::certificate_fault::CertificateWriterFault;
-use exercise_recording::output::{WriteFailed, put};
+use byte_files::{WriteFailed, put};
 use std::io::Write;
 
 /// The first bytes of a certificate: the format's name and version.

@@ -1,17 +1,17 @@
-//! The checker: the plain program of the definitions.
+//! The checker: it folds a course over the steps of a certificate.
 
-ghost use Rattle.std.specs.Prelude.{◌≡◌, ◌≢◌, length, OnOk, IfOk, IfErr, Err};
-ghost use Rattle.exercise_recording.specs.Run.{Explains};
-ghost use Rattle.exercise_recording.specs.Headline.{Holds};
+ghost use Rattle.std.specs.Prelude.{◌≡◌, ◌≢◌, length, OnOk, IfOk, IfNone, IfErr, Err};
+ghost use Rattle.exercise_model.specs.Run.{Explains};
+ghost use Rattle.exercise_model.specs.Headline.{Holds};
 ghost use Rattle.exercise_check.specs.Order.{order_of};
-ghost use Rattle.exercise_check.specs.Goodness.{IsGood, Refuses};
+ghost use Rattle.exercise_check.specs.Goodness.{step_cause, IsGood, Refuses};
+ghost use Rattle.exercise_check.specs.Course.{begun, with_step};
 ghost use Rattle.exercise_check.specs.Checked.{TellsAccount};
 
-use crate::account::{changes, others, pairs, states};
 use crate::certificate::{Certificate, Step};
 use crate::checked::Checked;
-use crate::steps::step_cause;
-use exercise_recording::{Cause, ExerciseLog};
+use crate::course::{Course, Progress};
+use exercise_model::{Cause, ExerciseLog};
 use std::alloc::{AllocError, Global};
 use thiserror::Error;
 
@@ -38,14 +38,48 @@ impl From<AllocError> for CheckFault {
     }
 }
 
-/// Judges steps one after the other, up to the first that is bad.
-fn judge<L: ExerciseLog>(alloc: Global, log: &L, steps: &[Step]) -> Result<(), CheckFault>
-    requires { length steps.now ≡ length (L.recording log.now).entries }
-    ensures ok { OnOk result (IsGood (L.recording log.now) steps.now) }
-    ensures bad { IfErr result (Refuses (L.recording log.now) steps.now) }
+/// Goes on by a step, or tells the first cause against it.
+fn take_step<L: ExerciseLog>(
+    alloc: Global,
+    course: &mut Course<'_, L>,
+    entries: usize,
+    step: Step,
+) -> Result<Option<Cause>, AllocError>
+    requires { entries ≡ length course.old.recording.entries }
+    ensures good { IfOk result (λ cause. IfNone cause (course.new ≡ with_step course.old step)) }
+    ensures cause { IfOk result (λ cause. cause ≡ step_cause course.old.recording course.old.steps step) }
+    ensures recording { course.new.recording ≡ course.old.recording }
+{
+    let place = step.place as usize;
+    if place >= entries {
+        return Ok(Some(Cause::NoSuchRecord));
+    }
+    if !course.is_next(place) {
+        return Ok(Some(Cause::OutOfOrder));
+    }
+    match course.go_on(alloc, place)? {
+        Progress::Barred(cause) => Ok(Some(cause)),
+        Progress::Taken(link) if link == step.link => Ok(None),
+        Progress::Taken(_) => Ok(Some(Cause::BadLink)),
+    }
+}
+
+/// Goes on by steps one after the other, up to the first that is bad.
+fn take_steps<L: ExerciseLog>(
+    alloc: Global,
+    course: &mut Course<'_, L>,
+    entries: usize,
+    steps: &[Step],
+) -> Result<(), CheckFault>
+    requires begun { course.old ≡ begun course.old.recording }
+    requires entries { entries ≡ length course.old.recording.entries }
+    requires count { length steps.now ≡ length course.old.recording.entries }
+    ensures ok { OnOk result (IsGood course.old.recording steps.now) }
+    ensures bad { IfErr result (Refuses course.old.recording steps.now) }
+    ensures recording { course.new.recording ≡ course.old.recording }
 {
     for i in 0..steps.len() {
-        if let Some(cause) = step_cause(alloc, log, &steps[..i], steps[i])? {
+        if let Some(cause) = take_step(alloc, course, entries, steps[i])? {
             return Err(CheckFault::Bad { step: i, cause });
         }
     }
@@ -71,15 +105,14 @@ pub fn check<L: ExerciseLog>(
     ensures count { length certificate.now.steps.items ≢ length (L.recording log.now).entries → result ≡ Err (CheckFault.Bad 0 Cause.CountDiffers) }
 {
     let steps = certificate.steps.as_slice();
-    if steps.len() != log.entry_count() {
+    let entries = log.entry_count();
+    if steps.len() != entries {
         return Err(CheckFault::Bad {
             step: 0,
             cause: Cause::CountDiffers,
         });
     }
-    judge(alloc, log, steps)?;
-    let pairs = pairs(alloc, log)?;
-    let causes = changes(alloc, log)?;
-    let others = others(alloc, log)?;
-    Ok(Checked::of(states(alloc, log)?, pairs, causes, others))
+    let mut course = Course::begin(alloc, log)?;
+    take_steps(alloc, &mut course, entries, steps)?;
+    Ok(course.account(alloc)?)
 }

@@ -3,28 +3,29 @@
 //!
 //! [`check`] trusts nothing but a log and a certificate: a yes is a run that explains the recording,
 //! and a no names the first bad step and the first cause that holds there;
-//! [`good_steps_have_no_cause`] ties the causes to good steps. Its body is the plain
-//! program of the definitions, which looks through the log and the earlier steps anew at each
-//! question. [`read_certificate`] answers the certificate whose text was read or the first field
-//! that is bad, missing or past the limit, [`write_certificate`] writes that text, and
+//! [`good_steps_have_no_cause`] ties the causes to good steps. It folds a [`Course`]: the steps taken
+//! so far over a log, which judges the next event of a station by them; the search of the crate
+//! above sweeps with it. [`read_certificate`] answers the certificate whose text was read or the
+//! first field that is bad, missing or past the limit, [`write_certificate`] writes that text, and
 //! [`text_and_reading_agree`] and [`refusals_hold`] are the laws that tie them.
-//!
-//! What the crate of the search needs to judge an event after steps stands under [`steps`].
 #![tactic(auto)]
 
 mod account;
+mod cause;
 mod certificate;
 mod certificate_fault;
 mod certificate_reading;
 mod certificate_text;
+mod change;
 mod checked;
 mod checker;
-mod entities;
-mod judging;
+mod course;
+mod exchange;
 mod laws;
-mod station_log;
+mod link;
+mod order;
+mod state;
 mod step_laws;
-pub mod steps;
 
 pub use certificate::{Certificate, NO_LINK, Step};
 pub use certificate_fault::{CertificateFault, CertificateFormatFault, CertificateWriterFault};
@@ -32,6 +33,7 @@ pub use certificate_reading::read_certificate;
 pub use certificate_text::write_certificate;
 pub use checked::Checked;
 pub use checker::{CheckFault, check};
+pub use course::{Course, Progress};
 pub use laws::{refusals_hold, text_and_reading_agree};
 pub use step_laws::good_steps_have_no_cause;
 

@@ -1,43 +1,31 @@
 -- Which Acknowledges a log of turns sends.
 use Rattle.std.proofs.Common.{◌≡◌, ℕ, List, [], ◌∷◌, refl, ap, sym, ◌∙◌, subst}
-use Rattle.std.specs.Prelude.{Bool, true, false, ◌==◌, ◌&&◌, ◌||◌, not, option_and_then, Option, Some, None, if◌then◌else◌}
+use Rattle.std.specs.Prelude.{Bool, true, false, ◌&&◌, ◌||◌, Option, Some, None, if◌then◌else◌}
 use Rattle.std.specs.Option.{option_or, option_map_or}
 use Rattle.dis_records.specs.declared.entity_state.EntityState.{EntityState}
 use Rattle.siman_pdus.specs.declared.pdu.Body.{Body}
 use Rattle.siman_pdus.specs.declared.pdu.Body.TheVariants.{CreateEntity, RemoveEntity, StartResume, StopFreeze, Acknowledge, ActionRequest, ActionResponse, DataQuery, SetData, DataPdu, EventReport, Comment}
 use Rattle.siman_pdus.specs.declared.pdu.Pdu.{Pdu}
 use Rattle.siman_pdus.specs.Answers.{same_id}
-use Rattle.siman_pdus.specs.Reading.{reading}
-use Rattle.siman_pdus.specs.Role.{role_of, is_request_body}
+use Rattle.siman_pdus.specs.Role.{is_request_body}
 use Rattle.siman_pdus.specs.Spelling.{pdu_text}
-use Rattle.exercise_recording.specs.declared.acknowledge.AcknowledgeKey.{AcknowledgeKey}
-use Rattle.exercise_recording.specs.History.{History, Send, Get, Tell}
-use Rattle.exercise_recording.specs.Meaning.{is_outside, meant, meaning}
-use Rattle.exercise_recording.specs.Change.{key_of, responds_under, response_of, same_key, was_acknowledged}
+use Rattle.exercise_model.specs.declared.acknowledge.AcknowledgeKey.{AcknowledgeKey}
+use Rattle.exercise_model.specs.History.{History, Send, Get, Tell}
+use Rattle.exercise_model.specs.Meaning.{meaning}
+use Rattle.exercise_model.specs.Change.{key_of, responds_under, response_of, same_key, was_acknowledged}
 use Rattle.siman_application.specs.Outfit.{Outfit}
 use Rattle.siman_application.specs.Distinct.{Placed, is_for, is_under_key, first_under, distinct}
 use Rattle.siman_application.specs.Answer.{Knowledge, answer}
 use Rattle.siman_application.specs.Play.{known, reply}
-use Rattle.siman_application.specs.OwnLog.{Turn, Tells, Orders, Passes, Takes, Loses, taken_in, sent_after, log_in, IsReplyText, AreTurns}
-use Rattle.siman_application.proofs.Answered.{for_parts, is_answer, answer_stamped, equal_self, outside}
+use Rattle.siman_application.specs.OwnLog.{Turn, Tells, Orders, Passes, Takes, Loses, taken_in, sent_after, log_in}
+use Rattle.siman_application.proofs.Answered.{for_parts, is_answer, answer_stamped, outside}
 use Rattle.siman_application.proofs.Played.{IsKeyOf, other_key}
-use Rattle.siman_application.proofs.Spelled.{answer_inside}
-use Rattle.siman_application.proofs.Turns.{same_key_of, first_same, first_more, first_has, GoesTo, answer_at, Course, Foreign, Fresh, Same, Other, course, for_at}
+use Rattle.siman_application.proofs.Replies.{for_at}
+use Rattle.siman_application.proofs.Meanings.{answer_means}
+use Rattle.siman_application.proofs.Meant.{IsReplyText, AreMeant}
+use Rattle.siman_application.proofs.Turns.{same_key_of, first_same, first_more, first_has, GoesTo, answer_at, Course, Foreign, Fresh, Same, Other, course}
 
 -- Replies.
-
-pub read_means : (x : ℕ) (b : List ℕ) (p : Pdu) → reading b ≡ Some p → (p.exercise == x) ≡ true → is_outside (role_of p.body) ≡ false → meaning x b ≡ Some p
-unfolding meaning
-read_means x b p e exercise inside =
-    ap (option_and_then (meant x)) e
-    ∙ ap (λ (v : Bool). if v && not (is_outside (role_of p.body)) then Some p else None) exercise
-    ∙ ap (λ (v : Bool). if not v then Some p else None) inside
-
--- the text of an answer means it
-pub answer_meant : (a : Outfit) (k : Knowledge) (d : Pdu) (stamp : ℕ) → is_for a d ≡ true → IsReplyText (Some (answer a k d stamp)) → meaning a.exercise (pdu_text (answer a k d stamp)) ≡ Some (answer a k d stamp)
-answer_meant a k d stamp own text =
-    read_means a.exercise (pdu_text (answer a k d stamp)) (answer a k d stamp) text
-    (ap (λ (n : ℕ). n == a.exercise) (is_answer a k d stamp own).exercise ∙ equal_self a.exercise) (answer_inside a k d stamp d.body (for_parts a d own).request)
 
 pub text_of : (o : Option Pdu) (p : Pdu) → o ≡ Some p → IsReplyText o → IsReplyText (Some p)
 text_of o p e text = subst IsReplyText e text
@@ -140,26 +128,26 @@ acks_taken a r p q s stamp n k b qs log to key text (Other f own first reply_is 
 acks_taken a r p q s stamp n k b qs log to key text (Same f own first reply_is same) rest =
     let kept = for_at a qs q f first in
     ap (λ (o : Option Pdu). was_acknowledged a.exercise n k (sent_after s o (Get s b ∷ log))) reply_is
-    ∙ ack_send a.exercise n k s (pdu_text (answer_at a f stamp)) (answer_at a f stamp) (Get s b ∷ log) (answer_meant a (known a f.before) f.request stamp kept (text_of (reply a qs q stamp) (answer_at a f stamp) reply_is text))
+    ∙ ack_send a.exercise n k s (pdu_text (answer_at a f stamp)) (answer_at a f stamp) (Get s b ∷ log) (answer_means a (known a f.before) f.request stamp kept (text_of (reply a qs q stamp) (answer_at a f stamp) reply_is text))
     ∙ ap (λ (v : Bool). responds_under n k (answer_at a f stamp) || v) (ack_get a.exercise n k s b log ∙ rest)
     ∙ acks_same a r p q (distinct a qs) n stamp k f to key kept first (is_under_key r f.request) refl
     ∙ sym (ap (λ (ds : List Pdu). acked_as a n k (first_under r ds)) same)
 acks_taken a r p q s stamp n k b qs log to key text (Fresh own none reply_is same) rest =
     ap (λ (o : Option Pdu). was_acknowledged a.exercise n k (sent_after s o (Get s b ∷ log))) reply_is
     ∙ ack_send a.exercise n k s (pdu_text (answer a (known a (distinct a qs)) q stamp)) (answer a (known a (distinct a qs)) q stamp) (Get s b ∷ log)
-    (answer_meant a (known a (distinct a qs)) q stamp own (text_of (reply a qs q stamp) (answer a (known a (distinct a qs)) q stamp) reply_is text))
+    (answer_means a (known a (distinct a qs)) q stamp own (text_of (reply a qs q stamp) (answer a (known a (distinct a qs)) q stamp) reply_is text))
     ∙ ap (λ (v : Bool). responds_under n k (answer a (known a (distinct a qs)) q stamp) || v) (ack_get a.exercise n k s b log ∙ rest)
     ∙ acks_fresh a r p q (distinct a qs) n stamp k to key own none (is_under_key r q) refl
     ∙ sym (ap (acked_as a n k) (ap (first_under r) same ∙ first_more r q (distinct a qs)))
 
 -- WHICH ACKNOWLEDGES a log of turns sends under the key of an answer to r: those of the first of the distinct requests under the key of r
-pub acks_turns : (a : Outfit) (s : ℕ) (ts : List Turn) → AreTurns a true ts → (r p : Pdu) → GoesTo r p → (n : ℕ) (k : AcknowledgeKey) → IsKeyOf k p
+pub acks_turns : (a : Outfit) (s : ℕ) (ts : List Turn) → AreMeant a true ts → (r p : Pdu) → GoesTo r p → (n : ℕ) (k : AcknowledgeKey) → IsKeyOf k p
     → was_acknowledged a.exercise n k (log_in a s ts) ≡ acked_as a n k (first_under r (distinct a (taken_in ts)))
 acks_turns a s [] are r p to n k key = ack_start a.exercise n k ∙ sym (ap (acked_as a n k) (none_under r))
 acks_turns a s (Tells e y ∷ ts) are r p to n k key = ack_tell a.exercise n k s e y (log_in a s ts) ∙ acks_turns a s ts are r p to n k key
-acks_turns a s (Orders b ∷ ts) are r p to n k key =
-    ack_send a.exercise n k s b are.0.0 (log_in a s ts) are.0.1 ∙ ap (λ (v : Bool). v || was_acknowledged a.exercise n k (log_in a s ts)) (silent are.0.0 n k are.0.2) ∙ acks_turns a s ts are.1 r p to n k key
+acks_turns a s (Orders o ∷ ts) are r p to n k key =
+    ack_send a.exercise n k s (pdu_text o) o (log_in a s ts) are.0.means ∙ ap (λ (v : Bool). v || was_acknowledged a.exercise n k (log_in a s ts)) (silent o n k are.0.request) ∙ acks_turns a s ts are.1 r p to n k key
 acks_turns a s (Passes b ∷ ts) are r p to n k key = ack_get a.exercise n k s b (log_in a s ts) ∙ acks_turns a s ts are r p to n k key
 acks_turns a s (Takes b q stamp ∷ ts) are r p to n k key =
     acks_taken a r p q s stamp n k b (taken_in ts) (log_in a s ts) to key are.1 (course a (distinct a (taken_in ts)) q stamp) (acks_turns a s ts are.2 r p to n k key)
-acks_turns a s (Loses b q ∷ ts) are r p to n k key = let clash : true ≡ false = are.0 in absurd cc
+acks_turns a s (Loses b q stamp ∷ ts) are r p to n k key = let clash : true ≡ false = are.1 in absurd cc

@@ -1,38 +1,42 @@
 -- The states after a log of turns, and what an answer in it takes up.
 use Rattle.std.proofs.Common.{◌≡◌, ℕ, List, [], ◌∷◌, refl, ap, sym, ◌∙◌, subst}
-use Rattle.std.specs.Prelude.{Bool, true, false, ◌==◌, ◌&&◌, not, Option, Some, None, if◌then◌else◌}
+use Rattle.std.specs.Prelude.{Bool, true, false, ◌==◌, ◌&&◌, ◌||◌, not, Option, Some, None, if◌then◌else◌}
 use Rattle.std.specs.Option.{option_or, option_map_or}
 use Rattle.dis_records.specs.declared.entity_state.EntityState.{EntityState}
 use Rattle.dis_records.specs.Entity.{scope_of}
 use Rattle.siman_pdus.specs.declared.pdu.Pdu.{Pdu}
 use Rattle.siman_pdus.specs.Answers.{same_id, same_pair, is_answer_to}
 use Rattle.siman_pdus.specs.Role.{is_request_body, request_id_of}
+use Rattle.siman_pdus.specs.Ranges.{IsInRange}
 use Rattle.siman_pdus.specs.Same.{IsSameOrder}
 use Rattle.siman_pdus.specs.Spelling.{body_kind, pdu_text}
-use Rattle.exercise_recording.specs.declared.acknowledge.AcknowledgeKey.{AcknowledgeKey}
-use Rattle.exercise_recording.specs.declared.state.Change.{Change}
-use Rattle.exercise_recording.specs.Station.{is_entity}
-use Rattle.exercise_recording.specs.History.{History, Send, Get}
-use Rattle.exercise_recording.specs.Meaning.{meaning}
-use Rattle.exercise_recording.specs.Exchange.{request_taken_up}
-use Rattle.exercise_recording.specs.Change.{able, responds, key_of, responds_under, same_key, was_acknowledged, is_change}
-use Rattle.exercise_recording.specs.State.{changed, change_of, state_after}
-use Rattle.exercise_recording.specs.Answered.{IsFirstAble}
-use Rattle.exercise_recording.proofs.FirstAnswers.{received_keeps, told_keeps, no_change_keeps, others_keep, first_able_changes}
+use Rattle.exercise_model.specs.declared.acknowledge.AcknowledgeKey.{AcknowledgeKey}
+use Rattle.exercise_model.specs.declared.state.Change.{Change}
+use Rattle.exercise_model.specs.Station.{is_entity}
+use Rattle.exercise_model.specs.History.{History, Send, Get}
+use Rattle.exercise_model.specs.Meaning.{meaning}
+use Rattle.exercise_model.specs.Exchange.{request_taken_up}
+use Rattle.exercise_model.specs.Change.{able, responds, key_of, responds_under, same_key, was_acknowledged, is_change}
+use Rattle.exercise_model.specs.State.{changed, change_of, state_after}
+use Rattle.exercise_model.specs.Answered.{IsFirstAble}
+use Rattle.exercise_model.proofs.Offered.{received_keeps, told_keeps, no_change_keeps, others_keep, first_able_changes}
 use Rattle.siman_application.specs.Outfit.{Outfit}
 use Rattle.siman_application.specs.Distinct.{Placed, is_for, is_under_key, first_under, with_request, distinct}
 use Rattle.siman_application.specs.Answer.{Knowledge, answer}
 use Rattle.siman_application.specs.Kept.{AreFor, AreSpelled}
 use Rattle.siman_application.specs.Listed.{IsPossible, after}
 use Rattle.siman_application.specs.Play.{play, known, reply, state_over}
-use Rattle.siman_application.specs.Ranges.{IsInRange, IsStationId}
-use Rattle.siman_application.specs.OwnLog.{Turn, Tells, Orders, Passes, Takes, Loses, taken_in, sent_after, log_in, IsReplyText, IsRead, AreTurns}
+use Rattle.siman_application.specs.Ranges.{IsOutfitInRange}
+use Rattle.siman_application.specs.OwnLog.{Turn, Tells, Orders, Passes, Takes, Loses, taken_in, sent_after, log_in, is_due}
 use Rattle.siman_application.proofs.Answered.{for_parts, is_answer, answer_stamped, equal_self}
 use Rattle.siman_application.proofs.Numbers.{and_both}
 use Rattle.siman_application.proofs.Played.{key_is, request_id, outside_range, stays_by, states_go_on}
 use Rattle.siman_application.proofs.Right.{spelled_more}
-use Rattle.siman_application.proofs.Turns.{same_key_of, first_same, first_more, first_has, GoesTo, answer_at, Course, Foreign, Fresh, Same, Other, course, for_at, AreSettled, TakesUp, up_sent, up_turns, PassedAlike}
-use Rattle.siman_application.proofs.Acks.{answer_meant, text_of, goes, responds_stamped, silent_by, ack_get, acked_as, acks_turns}
+use Rattle.siman_application.proofs.Replies.{for_at}
+use Rattle.siman_application.proofs.Meanings.{answer_means}
+use Rattle.siman_application.proofs.Meant.{IsReplyText, IsTaken, AreMeant}
+use Rattle.siman_application.proofs.Turns.{same_key_of, first_same, first_more, first_has, GoesTo, answer_at, Course, Foreign, Fresh, Same, Other, course, AreSettled, TakesUp, up_sent, up_turns, PassedAlike}
+use Rattle.siman_application.proofs.Acks.{text_of, goes, responds_stamped, silent_by, ack_get, acked_as, acks_turns}
 
 -- The distinct requests are spelled.
 
@@ -41,20 +45,20 @@ pub record AreWhole (a : Outfit) (ds : List Pdu) : Type 0 where
   pub own : AreFor a ds
   pub spelled : AreSpelled a ds
 
-pub whole_taken : (a : Outfit) (q : Pdu) (stamp : ℕ) (ds : List Pdu) → IsStationId a → IsInRange q → Course a ds q stamp → AreWhole a ds → AreWhole a (with_request a ds q)
+pub whole_taken : (a : Outfit) (q : Pdu) (stamp : ℕ) (ds : List Pdu) → IsOutfitInRange a → IsInRange q → Course a ds q stamp → AreWhole a ds → AreWhole a (with_request a ds q)
 whole_taken a q stamp ds station range (Foreign reply_is same out) whole = subst (AreWhole a) (sym same) whole
 whole_taken a q stamp ds station range (Same f own first reply_is same) whole = subst (AreWhole a) (sym same) whole
 whole_taken a q stamp ds station range (Other f own first reply_is same) whole = subst (AreWhole a) (sym same) whole
 whole_taken a q stamp ds station range (Fresh own none reply_is same) whole =
     subst (AreWhole a) (sym same) (record { own = (own, whole.own); spelled = spelled_more a q ds own range station whole.spelled })
 
-pub whole_turns : (a : Outfit) → IsStationId a → (more : Bool) (ts : List Turn) → AreTurns a more ts → AreWhole a (distinct a (taken_in ts))
-whole_turns a station more [] are = record { own = tt; spelled = tt }
-whole_turns a station more (Tells e y ∷ ts) are = whole_turns a station more ts are
-whole_turns a station more (Orders b ∷ ts) are = whole_turns a station more ts are.1
-whole_turns a station more (Passes b ∷ ts) are = whole_turns a station more ts are
-whole_turns a station more (Takes b q stamp ∷ ts) are = whole_taken a q stamp (distinct a (taken_in ts)) station are.0.ranges (course a (distinct a (taken_in ts)) q stamp) (whole_turns a station true ts are.2)
-whole_turns a station more (Loses b q ∷ ts) are = whole_taken a q 0 (distinct a (taken_in ts)) station are.1.ranges (course a (distinct a (taken_in ts)) q 0) (whole_turns a station true ts are.2)
+pub whole_turns : (a : Outfit) → IsOutfitInRange a → (later : Bool) (ts : List Turn) → AreMeant a later ts → AreWhole a (distinct a (taken_in ts))
+whole_turns a station later [] are = record { own = tt; spelled = tt }
+whole_turns a station later (Tells e y ∷ ts) are = whole_turns a station later ts are
+whole_turns a station later (Orders o ∷ ts) are = whole_turns a station later ts are.1
+whole_turns a station later (Passes b ∷ ts) are = whole_turns a station later ts are
+whole_turns a station later (Takes b q stamp ∷ ts) are = whole_taken a q stamp (distinct a (taken_in ts)) station are.0.ranges (course a (distinct a (taken_in ts)) q stamp) (whole_turns a station (later || is_due a ts q stamp) ts are.2)
+whole_turns a station later (Loses b q stamp ∷ ts) are = whole_taken a q stamp (distinct a (taken_in ts)) station are.0.ranges (course a (distinct a (taken_in ts)) q stamp) (whole_turns a station true ts are.2)
 
 -- Changes.
 
@@ -77,7 +81,7 @@ pub responds_itself : (n : ℕ) (k : AcknowledgeKey) (p : Pdu) → responds n p 
 responds_itself n k p r e = ap (λ (b : Bool). b && option_map_or (same_key k) (key_of p) false) r ∙ ap (λ (o : Option AcknowledgeKey). option_map_or (same_key k) o false) e ∙ same_key_self k
 
 -- an answer that comes again is no change
-pub again_no_change : (a : Outfit) (s stamp : ℕ) (b : List ℕ) (q : Pdu) (f : Placed) (ts : List Turn) → AreTurns a true ts → is_for a f.request ≡ true → first_under q (distinct a (taken_in ts)) ≡ Some f
+pub again_no_change : (a : Outfit) (s stamp : ℕ) (b : List ℕ) (q : Pdu) (f : Placed) (ts : List Turn) → AreMeant a true ts → is_for a f.request ≡ true → first_under q (distinct a (taken_in ts)) ≡ Some f
     → is_change a.exercise (answer_at a f stamp) (Get s b ∷ log_in a s ts) ≡ false
 again_no_change a s stamp b q f ts are own first =
     not_change a.exercise (answer_at a f stamp) (Get s b ∷ log_in a s ts)
@@ -87,7 +91,7 @@ again_no_change a s stamp b q f ts are own first =
     ∙ sym (responds_stamped a f stamp able k own) ∙ responds_itself able k (answer_at a f stamp) r e)
 
 -- nothing was acknowledged under the key of an answer to a request that is the first under its key
-pub fresh_acks : (a : Outfit) (s stamp n : ℕ) (b : List ℕ) (q : Pdu) (ts : List Turn) → AreTurns a true ts → is_for a q ≡ true → first_under q (distinct a (taken_in ts)) ≡ None
+pub fresh_acks : (a : Outfit) (s stamp n : ℕ) (b : List ℕ) (q : Pdu) (ts : List Turn) → AreMeant a true ts → is_for a q ≡ true → first_under q (distinct a (taken_in ts)) ≡ None
     → (k : AcknowledgeKey) → key_of (answer a (known a (distinct a (taken_in ts))) q stamp) ≡ Some k → was_acknowledged a.exercise n k (Get s b ∷ log_in a s ts) ≡ false
 fresh_acks a s stamp n b q ts are own none k e =
     let ds = distinct a (taken_in ts) in
@@ -107,12 +111,12 @@ taken_first a r p ts f log None u e t up = absurd cc
 taken_first a r p ts f log (Some g) None e t up = absurd up
 taken_first a r p ts f log (Some g) (Some h) e t up = let same : g ≡ f = cc in record { request = h; taken = t; same = subst (λ (i : Placed). IsSameOrder h i.request) same up }
 
-pub takes_up : (a : Outfit) (s stamp : ℕ) (b : List ℕ) (q r p : Pdu) (f : Placed) (ts : List Turn) → IsRead b q → IsReplyText (reply a (taken_in ts) q stamp) → AreTurns a true ts → (is_for a q ≡ true → PassedAlike a q ts) → AreSettled a ts → GoesTo r p
+pub takes_up : (a : Outfit) (s stamp : ℕ) (b : List ℕ) (q r p : Pdu) (f : Placed) (ts : List Turn) → IsTaken b q → IsReplyText (reply a (taken_in ts) q stamp) → AreMeant a true ts → (is_for a q ≡ true → PassedAlike a q ts) → AreSettled a ts → GoesTo r p
     → first_under r (distinct a (q ∷ taken_in ts)) ≡ Some f → TakenAs a p f.request (Get s b ∷ log_in a s ts)
 takes_up a s stamp b q r p f ts read text are alike settled to first =
     taken_first a r p (Takes b q stamp ∷ ts) f (Get s b ∷ log_in a s ts) (first_under r (distinct a (q ∷ taken_in ts))) (request_taken_up a.exercise a.station.address p (Get s b ∷ log_in a s ts)) first refl
     (subst (TakesUp a r (Takes b q stamp ∷ ts) (first_under r (distinct a (q ∷ taken_in ts)))) (up_sent a p s (reply a (taken_in ts) q stamp) (Get s b ∷ log_in a s ts))
-    (up_turns a s false (Takes b q stamp ∷ ts) (read, text, are) (alike, settled) r p to))
+    (up_turns a s true (Takes b q stamp ∷ ts) (read, text, are) (alike, settled) r p to))
 
 pub under_itself : (q : Pdu) → is_request_body q.body ≡ true → is_under_key q q ≡ true
 under_itself q e =
@@ -137,7 +141,7 @@ change_same p q f same = ap (change_of p) same
 
 -- States.
 
-pub fresh_able : (a : Outfit) (s stamp : ℕ) (b : List ℕ) (q f : Pdu) (ts : List Turn) → AreTurns a true ts → is_for a q ≡ true → first_under q (distinct a (taken_in ts)) ≡ None
+pub fresh_able : (a : Outfit) (s stamp : ℕ) (b : List ℕ) (q f : Pdu) (ts : List Turn) → AreMeant a true ts → is_for a q ≡ true → first_under q (distinct a (taken_in ts)) ≡ None
     → (p : Pdu) → p ≡ answer a (known a (distinct a (taken_in ts))) q stamp → meaning a.exercise (pdu_text p) ≡ Some p → responds able p ≡ true
     → request_taken_up a.exercise a.station.address p (Get s b ∷ log_in a s ts) ≡ Some f → IsSameOrder f q → IsFirstAble a.exercise a.station (Get s b ∷ log_in a s ts) (pdu_text p) f p
 fresh_able a s stamp b q f ts are own none p is m r taken same =
@@ -161,7 +165,7 @@ fresh_state_able a s c q f p log ds first same can rest e false v =
     ∙ stays_by (body_kind q.body) (scope_of (body_kind q.body) q.target.entity p.origin.entity) e (λ e. state_over a ds e) can.possible v)
 
 -- the state that the answer to a first request leaves
-pub fresh_state : (a : Outfit) (s stamp : ℕ) (b : List ℕ) (q f p : Pdu) (ts : List Turn) → AreTurns a true ts → is_for a q ≡ true → first_under q (distinct a (taken_in ts)) ≡ None
+pub fresh_state : (a : Outfit) (s stamp : ℕ) (b : List ℕ) (q f p : Pdu) (ts : List Turn) → AreMeant a true ts → is_for a q ≡ true → first_under q (distinct a (taken_in ts)) ≡ None
     → p ≡ answer a (known a (distinct a (taken_in ts))) q stamp → meaning a.exercise (pdu_text p) ≡ Some p
     → request_taken_up a.exercise a.station.address p (Get s b ∷ log_in a s ts) ≡ Some f → IsSameOrder f q
     → ((e : ℕ) → state_after a.exercise a.station (log_in a s ts) e ≡ state_over a (distinct a (taken_in ts)) e)
@@ -180,9 +184,9 @@ fresh_state a s stamp b q f p ts are own none is m taken same rest e = by (respo
 
 pub known_text : (a : Outfit) (qs : List Pdu) (q : Pdu) (stamp : ℕ) (k : Knowledge) (d : Pdu) → is_for a d ≡ true → reply a qs q stamp ≡ Some (answer a k d stamp) → IsReplyText (reply a qs q stamp)
     → meaning a.exercise (pdu_text (answer a k d stamp)) ≡ Some (answer a k d stamp)
-known_text a qs q stamp k d own is text = answer_meant a k d stamp own (text_of (reply a qs q stamp) (answer a k d stamp) is text)
+known_text a qs q stamp k d own is text = answer_means a k d stamp own (text_of (reply a qs q stamp) (answer a k d stamp) is text)
 
-pub states_taken : (a : Outfit) → IsStationId a → (s stamp : ℕ) (b : List ℕ) (q : Pdu) (ts : List Turn) → IsRead b q → IsReplyText (reply a (taken_in ts) q stamp) → AreTurns a true ts → (is_for a q ≡ true → PassedAlike a q ts) → AreSettled a ts
+pub states_taken : (a : Outfit) → IsOutfitInRange a → (s stamp : ℕ) (b : List ℕ) (q : Pdu) (ts : List Turn) → IsTaken b q → IsReplyText (reply a (taken_in ts) q stamp) → AreMeant a true ts → (is_for a q ≡ true → PassedAlike a q ts) → AreSettled a ts
     → Course a (distinct a (taken_in ts)) q stamp → ((e : ℕ) → state_after a.exercise a.station (log_in a s ts) e ≡ state_over a (distinct a (taken_in ts)) e)
     → (e : ℕ) → state_after a.exercise a.station (sent_after s (reply a (taken_in ts) q stamp) (Get s b ∷ log_in a s ts)) e ≡ state_over a (distinct a (q ∷ taken_in ts)) e
 states_taken a station s stamp b q ts read text are alike settled (Foreign reply_is same out) rest e =
@@ -213,12 +217,12 @@ unfolding play
 state_start a s e = refl
 
 -- THE STATES after a log of turns
-pub states_turns : (a : Outfit) → IsStationId a → (s : ℕ) (ts : List Turn) → AreTurns a true ts → AreSettled a ts → (e : ℕ) → state_after a.exercise a.station (log_in a s ts) e ≡ state_over a (distinct a (taken_in ts)) e
+pub states_turns : (a : Outfit) → IsOutfitInRange a → (s : ℕ) (ts : List Turn) → AreMeant a true ts → AreSettled a ts → (e : ℕ) → state_after a.exercise a.station (log_in a s ts) e ≡ state_over a (distinct a (taken_in ts)) e
 states_turns a station s [] are settled e = state_start a s e
 states_turns a station s (Tells n y ∷ ts) are settled e = told_keeps a.exercise a.station (log_in a s ts) s n y e ∙ states_turns a station s ts are settled e
-states_turns a station s (Orders b ∷ ts) are settled e =
-    others_keep a.exercise a.station (log_in a s ts) s b are.0.0 are.0.1 (silent_by are.0.0.body able are.0.2) e ∙ states_turns a station s ts are.1 settled e
+states_turns a station s (Orders o ∷ ts) are settled e =
+    others_keep a.exercise a.station (log_in a s ts) s (pdu_text o) o are.0.means (silent_by o.body able are.0.request) e ∙ states_turns a station s ts are.1 settled e
 states_turns a station s (Passes b ∷ ts) are settled e = received_keeps a.exercise a.station (log_in a s ts) s b e ∙ states_turns a station s ts are settled e
 states_turns a station s (Takes b q stamp ∷ ts) are settled e =
     states_taken a station s stamp b q ts are.0 are.1 are.2 settled.0 settled.1 (course a (distinct a (taken_in ts)) q stamp) (states_turns a station s ts are.2 settled.1) e
-states_turns a station s (Loses b q ∷ ts) are settled e = let clash : true ≡ false = are.0 in absurd cc
+states_turns a station s (Loses b q stamp ∷ ts) are settled e = let clash : true ≡ false = are.1 in absurd cc

@@ -17,14 +17,14 @@ use Rattle.siman_pdus.specs.DatumLists.{DatumLists}
 use Rattle.siman_pdus.specs.declared.roles.Role.TheVariants as roles
 use Rattle.siman_pdus.specs.Role.{is_acknowledge_flag, is_request_role, is_request_body, request_id_of}
 use Rattle.siman_pdus.specs.Spelling.{body_kind}
-use Rattle.exercise_recording.specs.Station.{is_entity, is_absent}
-use Rattle.exercise_recording.specs.Place.{first_below}
-use Rattle.exercise_recording.specs.Change.{able, unable, responds}
-use Rattle.exercise_recording.specs.Cause.{is_hopeless}
+use Rattle.exercise_model.specs.Station.{is_entity, is_absent}
+use Rattle.exercise_model.specs.Place.{first_below}
+use Rattle.exercise_model.specs.Change.{able, unable, responds}
+use Rattle.exercise_model.specs.Cause.{is_hopeless}
 use Rattle.siman_application.specs.Outfit.{Outfit}
 use Rattle.siman_application.specs.Distinct.{is_for}
 use Rattle.siman_application.specs.Answer.{Knowledge, has_place, is_free, chosen, is_meant, own_number, answer_pdu, plain_answer, created, obeyed, data_answer, held_records, told_of, ids_of, answer_by, answer, with_stamp}
-use Rattle.exercise_recording.specs.State.{change_of}
+use Rattle.exercise_model.specs.State.{change_of}
 use Rattle.siman_application.specs.Listed.{IsPossible}
 use Rattle.siman_application.proofs.Numbers.{and_parts, and_both}
 use Rattle.siman_application.proofs.Cut.{cut_is}

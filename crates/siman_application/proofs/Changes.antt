@@ -8,10 +8,10 @@ use Rattle.dis_records.specs.declared.kind.Kind.{Kind}
 use Rattle.dis_records.specs.declared.kind.Kind.TheVariants as kinds
 use Rattle.dis_records.specs.declared.entity.Scope.{Scope}
 use Rattle.dis_records.specs.declared.entity.Scope.TheVariants.{One, All}
-use Rattle.exercise_recording.specs.declared.state.Change.{Change}
-use Rattle.exercise_recording.specs.Station.{is_entity, is_absent, is_opening, is_opening_above, listed_state}
-use Rattle.exercise_recording.specs.Place.{first_below}
-use Rattle.exercise_recording.specs.State.{changed, state_made, scope_has}
+use Rattle.exercise_model.specs.declared.state.Change.{Change}
+use Rattle.exercise_model.specs.Station.{is_entity, is_absent, is_opening, is_opening_above, listed_state}
+use Rattle.exercise_model.specs.Place.{first_below}
+use Rattle.exercise_model.specs.State.{changed, state_made, scope_has}
 use Rattle.siman_application.specs.Answer.{is_free, count_present, has_place, chosen}
 use Rattle.siman_application.specs.Listed.{Entities, states_in, inserted, removed, all_changed, IsPossible}
 use Rattle.siman_application.proofs.Numbers.{and_parts, below-true, le-true, equal-true, Rises, rises_from, rises_to, other_number, state_head, state_past, absent_up_to}

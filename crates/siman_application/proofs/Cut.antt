@@ -165,3 +165,7 @@ pub first_few : {X : Type 0} (n : ℕ) (xs : List X) → length (take n xs) ≤ 
 first_few zero xs = omega arith
 first_few (suc n) [] = omega arith
 first_few (suc n) (x ∷ xs) = omega (arith, first_few n xs)
+
+-- what is cut fits
+pub cut_fits : (d : DatumLists) → 8 * length (cut_records d).fixed + records_size (cut_records d).variable ≤ 8152
+cut_fits d = omega (arith, first_few 1019 d.fixed, fitting_fits (8152 - 8 * length (take 1019 d.fixed)) d.variable)

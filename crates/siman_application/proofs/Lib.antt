@@ -5,9 +5,11 @@ pub mod Cut
 pub mod Told
 pub mod Places
 pub mod Answered
-pub mod Spelled
+pub mod Replies
+pub mod Meanings
 pub mod Played
 pub mod Right
+pub mod Meant
 pub mod Turns
 pub mod Acks
 pub mod After

@@ -1,18 +1,20 @@
 -- The laws of the logs that a station writes, and of requests that come again.
 use Rattle.std.proofs.Common.{◌≡◌, ℕ, List, [], ◌∷◌, ◌++◌, inl, inr, refl, ap, sym, ◌∙◌, subst}
-use Rattle.std.specs.Prelude.{Bool, true, false, ◌&&◌, is_none, option_and_then, Option, Some, None, if◌then◌else◌}
+use Rattle.std.specs.Prelude.{Bool, true, false, ◌&&◌, ◌||◌, is_none, option_and_then, Option, Some, None, if◌then◌else◌}
 use Rattle.siman_pdus.specs.declared.pdu.Pdu.{Pdu}
 use Rattle.siman_pdus.specs.Reading.{reading}
-use Rattle.exercise_recording.specs.History.{History, Get}
-use Rattle.exercise_recording.specs.Meaning.{meant, meaning}
-use Rattle.exercise_recording.specs.State.{state_after}
+use Rattle.exercise_model.specs.History.{History, Get}
+use Rattle.exercise_model.specs.Meaning.{meant, meaning}
+use Rattle.exercise_model.specs.State.{state_after}
 use Rattle.siman_application.specs.Outfit.{Outfit}
 use Rattle.siman_application.specs.Distinct.{is_for, first_under, with_request, distinct}
 use Rattle.siman_application.specs.Play.{state_over, reply, reply_after}
 use Rattle.siman_application.specs.Standing.{Standing, Takes, came}
-use Rattle.siman_application.specs.OwnLog.{Turn, Tells, Orders, Passes, Takes as takes, Loses, taken_in, sent_after, log_in, AreTurns, IsOwnLog, MissNone, TakesAll, HasGet, AreOneOrder, IsClear, AnswersStand}
+use Rattle.siman_application.specs.OwnLog.{Turn, Tells, Orders, Passes, Takes as takes, Loses, taken_in, sent_after, log_in, is_due, IsOwnLog, MissNone, TakesAll, HasGet, AreOneOrder, IsClear, AnswersStand}
 use Rattle.siman_application.proofs.Answered.{for_parts}
-use Rattle.siman_application.proofs.Turns.{PassedAlike, AreSettled, Course, Foreign, Fresh, Same, Other, course, taken_means}
+use Rattle.siman_application.proofs.Meanings.{taken_means}
+use Rattle.siman_application.proofs.Meant.{AreMeant, meant_turns}
+use Rattle.siman_application.proofs.Turns.{PassedAlike, AreSettled, Course, Foreign, Fresh, Same, Other, course}
 use Rattle.siman_application.proofs.After.{states_turns}
 use Rattle.siman_application.proofs.Stands.{stands_turns}
 
@@ -25,18 +27,18 @@ unread x b e = ap (option_and_then (meant x)) e
 all_alike : (a : Outfit) (q : Pdu) (ts : List Turn) → TakesAll ts → PassedAlike a q ts
 all_alike a q [] all = tt
 all_alike a q (Tells e y ∷ ts) all = all_alike a q ts all
-all_alike a q (Orders b ∷ ts) all = all_alike a q ts all
+all_alike a q (Orders o ∷ ts) all = all_alike a q ts all
 all_alike a q (Passes b ∷ ts) all = (λ p m own under. let none : meaning a.exercise b ≡ None = unread a.exercise b all.0 in absurd cc, all_alike a q ts all.1)
 all_alike a q (takes b p stamp ∷ ts) all = all_alike a q ts all
-all_alike a q (Loses b p ∷ ts) all = all_alike a q ts all
+all_alike a q (Loses b p stamp ∷ ts) all = all_alike a q ts all
 
 all_settled : (a : Outfit) (ts : List Turn) → TakesAll ts → AreSettled a ts
 all_settled a [] all = tt
 all_settled a (Tells e y ∷ ts) all = all_settled a ts all
-all_settled a (Orders b ∷ ts) all = all_settled a ts all
+all_settled a (Orders o ∷ ts) all = all_settled a ts all
 all_settled a (Passes b ∷ ts) all = all_settled a ts all.1
 all_settled a (takes b q stamp ∷ ts) all = (λ own. all_alike a q ts all, all_settled a ts all)
-all_settled a (Loses b q ∷ ts) all = (λ own. all_alike a q ts all, all_settled a ts all)
+all_settled a (Loses b q stamp ∷ ts) all = (λ own. all_alike a q ts all, all_settled a ts all)
 
 get_sent : (s : ℕ) (o : Option Pdu) (log : History) (c : List ℕ) → HasGet log c → HasGet (sent_after s o log) c
 get_sent s None log c h = h
@@ -51,24 +53,24 @@ one_alike a s h one b q got m own (Passes c ∷ ts) within =
     (λ p n mine under. one c b p q (within c (inl refl)) got n m (for_parts a p mine).request (for_parts a q own).request under, one_alike a s h one b q got m own ts (λ d g. within d (inr g)))
 one_alike a s h one b q got m own (takes c p stamp ∷ ts) within =
     one_alike a s h one b q got m own ts (λ d g. within d (get_sent s (reply a (taken_in ts) p stamp) (Get s c ∷ log_in a s ts) d (inr g)))
-one_alike a s h one b q got m own (Loses c p ∷ ts) within = one_alike a s h one b q got m own ts (λ d g. within d (inr g))
+one_alike a s h one b q got m own (Loses c p stamp ∷ ts) within = one_alike a s h one b q got m own ts (λ d g. within d (inr g))
 
-one_settled : (a : Outfit) (s : ℕ) (h : History) → AreOneOrder a h → (more : Bool) (ts : List Turn) → AreTurns a more ts → ((c : List ℕ) → HasGet (log_in a s ts) c → HasGet h c) → AreSettled a ts
-one_settled a s h one more [] are within = tt
-one_settled a s h one more (Tells e y ∷ ts) are within = one_settled a s h one more ts are within
-one_settled a s h one more (Orders b ∷ ts) are within = one_settled a s h one more ts are.1 within
-one_settled a s h one more (Passes b ∷ ts) are within = one_settled a s h one more ts are (λ d g. within d (inr g))
-one_settled a s h one more (takes b q stamp ∷ ts) are within =
+one_settled : (a : Outfit) (s : ℕ) (h : History) → AreOneOrder a h → (later : Bool) (ts : List Turn) → AreMeant a later ts → ((c : List ℕ) → HasGet (log_in a s ts) c → HasGet h c) → AreSettled a ts
+one_settled a s h one later [] are within = tt
+one_settled a s h one later (Tells e y ∷ ts) are within = one_settled a s h one later ts are within
+one_settled a s h one later (Orders o ∷ ts) are within = one_settled a s h one later ts are.1 within
+one_settled a s h one later (Passes b ∷ ts) are within = one_settled a s h one later ts are (λ d g. within d (inr g))
+one_settled a s h one later (takes b q stamp ∷ ts) are within =
     let after = get_sent s (reply a (taken_in ts) q stamp) (Get s b ∷ log_in a s ts) in (
       λ own. one_alike a s h one b q (within b (after b (inl refl))) (taken_means a b q are.0.read own) own ts (λ d g. within d (after d (inr g))),
-      one_settled a s h one true ts are.2 (λ d g. within d (after d (inr g))),
+      one_settled a s h one (later || is_due a ts q stamp) ts are.2 (λ d g. within d (after d (inr g))),
     )
-one_settled a s h one more (Loses b q ∷ ts) are within = (
-  λ own. one_alike a s h one b q (within b (inl refl)) (taken_means a b q are.1.read own) own ts (λ d g. within d (inr g)),
+one_settled a s h one later (Loses b q stamp ∷ ts) are within = (
+  λ own. one_alike a s h one b q (within b (inl refl)) (taken_means a b q are.0.read own) own ts (λ d g. within d (inr g)),
   one_settled a s h one true ts are.2 (λ d g. within d (inr g)),
 )
 
-settled : (a : Outfit) (s : ℕ) (ts : List Turn) (h : History) → log_in a s ts ≡ h → AreTurns a false ts → IsClear a ts h → AreSettled a ts
+settled : (a : Outfit) (s : ℕ) (ts : List Turn) (h : History) → log_in a s ts ≡ h → AreMeant a false ts → IsClear a ts h → AreSettled a ts
 settled a s ts h e are (inl all) = all_settled a ts all
 settled a s ts h e are (inr one) = one_settled a s h one false ts are (λ c g. subst (λ (log : History). HasGet log c) e g)
 
@@ -76,20 +78,22 @@ settled a s ts h e are (inr one) = one_settled a s h one false ts are (λ c g. s
 
 pub answers_stand : (a : Outfit) (s : ℕ) (ts : List Turn) (h : History) (qs : List Pdu) → IsOwnLog a s ts h qs → IsClear a ts h → AnswersStand a h
 answers_stand a s ts h qs own clear =
-    subst (AnswersStand a) own.log_is (stands_turns a own.station s false ts own.turns (settled a s ts h own.log_is own.turns clear))
+    let are = meant_turns a own.outfit false ts own.turns in
+    subst (AnswersStand a) own.log_is (stands_turns a own.outfit s false ts are (settled a s ts h own.log_is are clear))
 
-miss_none : (a : Outfit) (more : Bool) (ts : List Turn) → MissNone ts → AreTurns a more ts → AreTurns a true ts
-miss_none a more [] none are = tt
-miss_none a more (Tells e y ∷ ts) none are = miss_none a more ts none are
-miss_none a more (Orders b ∷ ts) none are = (are.0, miss_none a more ts none are.1)
-miss_none a more (Passes b ∷ ts) none are = miss_none a more ts none are
-miss_none a more (takes b q stamp ∷ ts) none are = are
-miss_none a more (Loses b q ∷ ts) none are = absurd none
+miss_none : (a : Outfit) (later : Bool) (ts : List Turn) → MissNone ts → AreMeant a later ts → AreMeant a true ts
+miss_none a later [] none are = tt
+miss_none a later (Tells e y ∷ ts) none are = miss_none a later ts none are
+miss_none a later (Orders o ∷ ts) none are = (are.0, miss_none a later ts none are.1)
+miss_none a later (Passes b ∷ ts) none are = miss_none a later ts none are
+miss_none a later (takes b q stamp ∷ ts) none are = (are.0, are.1, miss_none a (later || is_due a ts q stamp) ts none are.2)
+miss_none a later (Loses b q stamp ∷ ts) none are = absurd none
 
 pub states_stand : (a : Outfit) (s : ℕ) (ts : List Turn) (h : History) (qs : List Pdu) → IsOwnLog a s ts h qs → IsClear a ts h → MissNone ts → (e : ℕ) → state_after a.exercise a.station h e ≡ state_over a (distinct a qs) e
 states_stand a s ts h qs own clear none e =
+    let are = meant_turns a own.outfit false ts own.turns in
     ap (λ (log : History). state_after a.exercise a.station log e) (sym own.log_is)
-    ∙ states_turns a own.station s ts (miss_none a false ts none own.turns) (settled a s ts h own.log_is own.turns clear) e
+    ∙ states_turns a own.outfit s ts (miss_none a false ts none are) (settled a s ts h own.log_is are clear) e
     ∙ ap (λ (rs : List Pdu). state_over a (distinct a rs) e) own.taken_is
 
 -- Requests that come again.

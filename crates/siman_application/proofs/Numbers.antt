@@ -5,8 +5,8 @@ use Rattle.std.specs.Option.{option_or}
 use Rattle.std.proofs.lemmas.Bool.Decides.{nat_tests}
 use Rattle.dis_records.specs.declared.entity_state.EntityState.{EntityState}
 use Rattle.dis_records.specs.declared.entity_state.EntityState.TheVariants.{Absent}
-use Rattle.exercise_recording.specs.Station.{is_entity, is_absent, is_opening, is_opening_above, listed_state}
-use Rattle.exercise_recording.specs.Place.{first_below}
+use Rattle.exercise_model.specs.Station.{is_entity, is_absent, is_opening, is_opening_above, listed_state}
+use Rattle.exercise_model.specs.Place.{first_below}
 use Rattle.siman_application.specs.Answer.{is_free}
 use Rattle.siman_application.specs.Listed.{Entities, states_in}
 

@@ -17,17 +17,17 @@ use Rattle.siman_pdus.specs.declared.pdu.Pdu.{Pdu}
 use Rattle.siman_pdus.specs.Answers.{same_id, same_pair}
 use Rattle.siman_pdus.specs.Role.{is_request_body, request_id_of}
 use Rattle.siman_pdus.specs.Spelling.{body_kind, pdu_text}
-use Rattle.exercise_recording.specs.declared.acknowledge.AcknowledgeKey.{AcknowledgeKey}
-use Rattle.exercise_recording.specs.declared.state.Change.{Change}
-use Rattle.exercise_recording.specs.Station.{is_entity, is_absent}
-use Rattle.exercise_recording.specs.History.{History, Send, Get}
-use Rattle.exercise_recording.specs.Meaning.{meaning}
-use Rattle.exercise_recording.specs.Exchange.{is_asked, request_brought, request_taken_up}
-use Rattle.exercise_recording.specs.Change.{able, key_in, key_of, responds, responds_under, same_key, was_acknowledged}
-use Rattle.exercise_recording.specs.State.{state_made, scope_has, changed, change_of, entity_state, state_after}
-use Rattle.exercise_recording.specs.Cause.{is_hopeless}
-use Rattle.exercise_recording.specs.Answered.{IsFirstAnswer}
-use Rattle.exercise_recording.proofs.FirstAnswers.{received_keeps, able_changes, others_keep}
+use Rattle.exercise_model.specs.declared.acknowledge.AcknowledgeKey.{AcknowledgeKey}
+use Rattle.exercise_model.specs.declared.state.Change.{Change}
+use Rattle.exercise_model.specs.Station.{is_entity, is_absent}
+use Rattle.exercise_model.specs.History.{History, Send, Get}
+use Rattle.exercise_model.specs.Meaning.{meaning}
+use Rattle.exercise_model.specs.Exchange.{is_asked, request_brought, request_taken_up}
+use Rattle.exercise_model.specs.Change.{able, key_in, key_of, responds, responds_under, same_key, was_acknowledged}
+use Rattle.exercise_model.specs.State.{state_made, scope_has, changed, change_of, entity_state, state_after}
+use Rattle.exercise_model.specs.Cause.{is_hopeless}
+use Rattle.exercise_model.specs.Answered.{IsFirstAnswer}
+use Rattle.exercise_model.proofs.Offered.{received_keeps, able_changes, others_keep}
 use Rattle.siman_application.specs.Outfit.{Outfit}
 use Rattle.siman_application.specs.Distinct.{Placed, is_for, is_under_key, first_under}
 use Rattle.siman_application.specs.Answer.{Knowledge, answer_by, answer}

@@ -1,19 +1,20 @@
 -- The tables of an application stay right.
-use Rattle.std.proofs.Common.{◌≡◌, ℕ, zero, suc, ◌<◌, ◌≤◌, List, [], ◌∷◌, ◌++◌, length, take, refl, ap, sym, ◌∙◌, subst, arith}
+use Rattle.std.proofs.Common.{◌≡◌, ℕ, zero, suc, ◌<◌, ◌≤◌, List, [], ◌∷◌, ◌++◌, ◌^◌, length, take, refl, ap, sym, ◌∙◌, subst, arith}
 use Rattle.std.specs.Prelude.{Bool, true, false, ◌&&◌, nat_le, slice_get, option_map, option_and_then, is_none, Option, Some, None, IfSome, MatchOption, if◌then◌else◌}
 use Rattle.std.proofs.lemmas.List.{length-map}
 use Rattle.std.specs.Map.{values_of}
 use Rattle.indexmap.specs.IndexMap.{values, index_map_len}
 use Rattle.siman_pdus.specs.declared.pdu.Pdu.{Pdu}
 use Rattle.siman_pdus.specs.DatumLists.{DatumLists}
+use Rattle.siman_pdus.specs.Ranges.{AreDatumsInRange, IsInRange}
 use Rattle.siman_pdus.specs.Same.{is_same_order}
 use Rattle.siman_pdus.specs.Spelling.{pdu_text}
 use Rattle.dis_records.specs.declared.entity_state.EntityState.TheVariants.{Absent}
 use Rattle.std.proofs.lemmas.Bool.Decides.{nat_tests}
-use Rattle.exercise_recording.specs.State.{entity_state, state_after}
-use Rattle.exercise_recording.specs.Station.{StationData, is_entity, is_opening, listed_state}
+use Rattle.exercise_model.specs.State.{entity_state, state_after}
+use Rattle.exercise_model.specs.Station.{StationData, is_address, is_entity, is_opening, is_station, listed_state}
 use Rattle.siman_application.specs.Records.{fixed_id, variable_id, last_under}
-use Rattle.siman_application.proofs.Numbers.{absent_up_to, absent_past}
+use Rattle.siman_application.proofs.Numbers.{absent_up_to, absent_past, and_parts}
 use Rattle.siman_application.specs.declared.kept.KeptRequest.{KeptRequest}
 use Rattle.siman_application.specs.declared.kept.RequestKey.{RequestKey}
 use Rattle.siman_application.specs.Outfit.{Outfit}
@@ -23,9 +24,10 @@ use Rattle.siman_application.specs.Knows.{knows}
 use Rattle.siman_application.specs.Listed.{Entities, states_in, after}
 use Rattle.siman_application.specs.Kept.{Table, IsKey, AreKeyed, IsAnswered, AreAnswered, AreFor, AreSpelled, AreRight, kept_after, requests, requests_before, IsPlace, stamped, stamped_at}
 use Rattle.siman_application.specs.Play.{play, known, state_over, answer_under, reply_after}
-use Rattle.siman_application.specs.Ranges.{IsInRange, IsStationId}
+use Rattle.siman_application.specs.Ranges.{IsOutfitInRange}
 use Rattle.siman_application.proofs.Answered.{IsAnswer, is_answer, for_parts, answer_stamped, stamp_of}
-use Rattle.siman_application.proofs.Spelled.{request_spelled, answer_spelled, request_means, answer_means}
+use Rattle.siman_application.proofs.Replies.{request_read, answer_read}
+use Rattle.siman_application.proofs.Meanings.{taken_means, answer_means}
 use Rattle.siman_application.proofs.Played.{states_go_on}
 
 -- One more request goes last.
@@ -64,27 +66,25 @@ known_more a q ds stamp es es' d d' own are spelled none k states told =
       changed : states_in es' ≡ after (answer a (knows es d) q stamp) q (states_in es) → states_in es' ≡ (λ e. state_over a (q ∷ ds) e)
       changed s = s ∙ ap (λ (k : Knowledge). after (answer a k q stamp) q k.states) k ∙ λ i e. (states_after a q ds stamp own are spelled none e) i
 
-pub spelled_more : (a : Outfit) (q : Pdu) (ds : List Pdu) → is_for a q ≡ true → IsInRange q → IsStationId a → AreSpelled a ds → AreSpelled a (q ∷ ds)
-spelled_more a q ds own range station spelled = (
-  λ e. (
-    request_means a q (pdu_text q) (for_parts a q own) (request_spelled q range e),
-    answer_means a (known a ds) q 0 (pdu_text (answer a (known a ds) q 0)) own (answer_spelled a (known a ds) q 0 station range (omega arith) e),
-  ),
+pub spelled_more : (a : Outfit) (q : Pdu) (ds : List Pdu) → is_for a q ≡ true → IsInRange q → IsOutfitInRange a → AreSpelled a ds → AreSpelled a (q ∷ ds)
+spelled_more a q ds own range outfit spelled = (
+  λ e. (taken_means a (pdu_text q) q (request_read q range e) own, answer_means a (known a ds) q 0 own (answer_read a (known a ds) q 0 outfit range (omega arith) own e)),
   spelled,
 )
 
 pub right_more : (a : Outfit) (table new : Table) (es es' : Entities) (d d' : DatumLists) (key : RequestKey) (q p : Pdu) (stamp : ℕ) → AreRight a table es d → is_for a q ≡ true → IsKey key q
-    → first_under q (requests (values table)) ≡ None → IsInRange q → IsStationId a → p ≡ answer a (knows es d) q stamp → new.entries ≡ table.entries ++ (key, record { request = q; answer = p }) ∷ []
+    → first_under q (requests (values table)) ≡ None → IsInRange q → p ≡ answer a (knows es d) q stamp → new.entries ≡ table.entries ++ (key, record { request = q; answer = p }) ∷ []
     → states_in es' ≡ after p q (states_in es) → ((xs : Entities) → knows xs d' ≡ told_of (brought q.body) (knows xs d)) → AreRight a new es' d'
-right_more a table new es es' d d' key q p stamp right own is_key none range station is kept states told =
+right_more a table new es es' d d' key q p stamp right own is_key none range is kept states told =
     let ds = requests (values table) in
     let one : KeptRequest = record { request = q; answer = p } in
     let vs : values new ≡ values table ++ one ∷ [] = ap values_of kept ∙ values_last table.entries key one in
     let rs : requests (values new) ≡ q ∷ ds = ap requests vs ∙ kept_last [] (values table) one in
-    let spelled : AreSpelled a (q ∷ ds) = spelled_more a q ds own range station right.spelled in
+    let spelled : AreSpelled a (q ∷ ds) = spelled_more a q ds own range right.ranges right.spelled in
     let answer_is : p ≡ answer a (known a ds) q stamp = is ∙ ap (λ (k : Knowledge). answer a k q stamp) right.known_is in
     let stamp_is : p.stamp ≡ stamp = ap (λ (r : Pdu). r.stamp) answer_is ∙ stamp_of a (known a ds) q stamp (for_parts a q own).request in
     record {
+      ranges = right.ranges;
       keyed = subst AreKeyed (sym kept) (keyed_last table.entries key one right.keyed is_key);
       answered = subst (AreAnswered a []) (sym vs) (answered_last a [] (values table) one right.answered (record { own = own; answer_is = answer_is ∙ ap (answer a (known a ds) q) (sym stamp_is) }));
       own = subst (AreFor a) (sym rs) (own, right.own);
@@ -119,6 +119,7 @@ pub right_stamped : (a : Outfit) (place stamp : ℕ) (table new : Table) (es : E
 right_stamped a place stamp table new es d right e =
     let same = requests_stamped place stamp table new e in
     record {
+      ranges = right.ranges;
       keyed = subst AreKeyed (sym e) (keyed_stamped place stamp table.entries right.keyed);
       answered = subst (λ (xs : List (RequestKey × KeptRequest)). AreAnswered a [] (values_of xs)) (sym e) (answered_stamped a place stamp [] table.entries right.answered);
       own = subst (AreFor a) (sym same) right.own;
@@ -162,6 +163,7 @@ pub right_same : (a : Outfit) (table new : Table) (es es' : Entities) (d : Datum
 right_same a table new es es' d right e f =
     let same : values new ≡ values table = ap values_of e in
     record {
+      ranges = right.ranges;
       keyed = subst AreKeyed (sym e) right.keyed;
       answered = subst (AreAnswered a []) (sym same) right.answered;
       own = subst (λ (ks : List KeptRequest). AreFor a (requests ks)) (sym same) right.own;
@@ -251,6 +253,16 @@ reply_first a ds q stamp own none = ap (λ (b : Bool). if b then answer_under a 
 
 -- Nothing was taken yet.
 
+pub begun_in_range : (x : ℕ) (s : StationData) (d : DatumLists) (actions : List ℕ) → x < 2 ^ 8 → is_station s ≡ true → AreDatumsInRange d → IsOutfitInRange (record { exercise = x; station = s; datums = d; actions = actions })
+begun_in_range x s d actions exercise is datums =
+    let address = and_parts (is_address s.address) (is_opening s.opening) is in
+    let site = and_parts (nat_le 1 s.address.site) (nat_le s.address.site 65534 && (nat_le 1 s.address.application && nat_le s.address.application 65534)) address.0 in
+    let below = and_parts (nat_le s.address.site 65534) (nat_le 1 s.address.application && nat_le s.address.application 65534) site.1 in
+    let application = and_parts (nat_le 1 s.address.application) (nat_le s.address.application 65534) below.1 in
+    record { exercise = exercise; site = fits s.address.site below.0; application = fits s.address.application application.1; datums = datums } where
+      fits : (n : ℕ) → nat_le n 65534 ≡ true → n < 2 ^ 16
+      fits n e = let high : n ≤ 65534 = grind (arith, nat_tests) in omega (arith, high)
+
 start_by : (x : ℕ) (o : StationData) (e : ℕ) → is_opening o.opening ≡ true → (b : Bool) → is_entity e ≡ b → listed_state o.opening e ≡ (if b then entity_state x o [] e else Absent)
 unfolding entity_state
 start_by x o e opens true t = refl
@@ -264,10 +276,11 @@ start_state : (a : Outfit) → is_opening a.station.opening ≡ true → (e : �
 unfolding play state_after
 start_state a opens e = start_by a.exercise a.station e opens (is_entity e) refl
 
-pub right_start : (a : Outfit) (table : Table) (es : Entities) (d : DatumLists) → table.entries ≡ [] → es ≡ a.station.opening → is_opening es ≡ true → d ≡ a.datums → AreRight a table es d
-right_start a table es d empty opening opens held =
+pub right_start : (a : Outfit) (table : Table) (es : Entities) (d : DatumLists) → IsOutfitInRange a → table.entries ≡ [] → es ≡ a.station.opening → is_opening es ≡ true → d ≡ a.datums → AreRight a table es d
+right_start a table es d ranges empty opening opens held =
     let none : values table ≡ [] = ap values_of empty in
     record {
+      ranges = ranges;
       keyed = subst AreKeyed (sym empty) tt;
       answered = subst (AreAnswered a []) (sym none) tt;
       own = subst (λ (ks : List KeptRequest). AreFor a (requests ks)) (sym none) tt;

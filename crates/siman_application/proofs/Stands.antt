@@ -1,6 +1,6 @@
 -- In a log of turns no answer has a cause against it.
 use Rattle.std.proofs.Common.{◌≡◌, ℕ, List, [], ◌∷◌, refl, ap, sym, ◌∙◌, subst, arith}
-use Rattle.std.specs.Prelude.{Bool, true, false, ◌==◌, ◌&&◌, ◌||◌, not, is_none, Option, Some, None}
+use Rattle.std.specs.Prelude.{Bool, true, false, ◌==◌, ◌&&◌, ◌||◌, not, is_none, is_some, Option, Some, None}
 use Rattle.std.specs.Option.{option_map_or}
 use Rattle.std.proofs.lemmas.Bool.Decides.{nat_tests}
 use Rattle.dis_records.specs.declared.entity_state.EntityState.{EntityState}
@@ -11,28 +11,30 @@ use Rattle.siman_pdus.specs.Answers.{same_id, is_answer_to}
 use Rattle.siman_pdus.specs.Role.{role_of, is_request_role, is_request_body}
 use Rattle.siman_pdus.specs.Same.{IsSameOrder}
 use Rattle.siman_pdus.specs.Spelling.{pdu_text}
-use Rattle.exercise_recording.specs.declared.acknowledge.AcknowledgeKey.{AcknowledgeKey}
-use Rattle.exercise_recording.specs.declared.cause.Cause.{Cause}
-use Rattle.exercise_recording.specs.declared.cause.Cause.TheVariants.{WrongSender, ReusedIdentifier, NoRequest, WrongAnswer, ChangedAnswer, Impossible}
-use Rattle.exercise_recording.specs.declared.state.Change.{Change}
-use Rattle.exercise_recording.specs.History.{History, Get}
-use Rattle.exercise_recording.specs.Setting.{is_from}
-use Rattle.exercise_recording.specs.Meaning.{meaning}
-use Rattle.exercise_recording.specs.Exchange.{is_answer_role, is_answer_body, request_taken_up}
-use Rattle.exercise_recording.specs.Change.{able, unable, responds, key_of, responds_under, response_of, same_key, was_acknowledged, is_change}
-use Rattle.exercise_recording.specs.State.{changed, change_of, state_after}
-use Rattle.exercise_recording.specs.Cause.{first_cause, is_reused, is_changed_answer, is_hopeless, is_impossible, send_cause}
-use Rattle.exercise_recording.proofs.FirstAnswers.{received_keeps}
+use Rattle.exercise_model.specs.declared.acknowledge.AcknowledgeKey.{AcknowledgeKey}
+use Rattle.exercise_model.specs.declared.cause.Cause.{Cause}
+use Rattle.exercise_model.specs.declared.cause.Cause.TheVariants.{WrongSender, ReusedIdentifier, NoRequest, WrongAnswer, ChangedAnswer, Impossible}
+use Rattle.exercise_model.specs.declared.state.Change.{Change}
+use Rattle.exercise_model.specs.History.{History, Get}
+use Rattle.exercise_model.specs.Setting.{is_from}
+use Rattle.exercise_model.specs.Meaning.{meaning}
+use Rattle.exercise_model.specs.Exchange.{is_answer_role, is_answer_body, request_taken_up}
+use Rattle.exercise_model.specs.Change.{able, unable, responds, key_of, responds_under, response_of, same_key, was_acknowledged, is_change}
+use Rattle.exercise_model.specs.State.{changed, change_of, state_after}
+use Rattle.exercise_model.specs.Cause.{first_cause, is_reused, is_changed_answer, is_hopeless, is_impossible, send_cause}
+use Rattle.exercise_model.proofs.Offered.{received_keeps}
 use Rattle.siman_application.specs.Outfit.{Outfit}
 use Rattle.siman_application.specs.Distinct.{Placed, is_for, first_under, with_request, distinct}
 use Rattle.siman_application.specs.Answer.{answer}
 use Rattle.siman_application.specs.Play.{known, reply, state_over}
-use Rattle.siman_application.specs.Ranges.{IsStationId}
-use Rattle.siman_application.specs.OwnLog.{Turn, Tells, Orders, Passes, Takes, Loses, taken_in, sent_after, log_in, IsReplyText, IsRead, AreTurns, AnswersStand}
+use Rattle.siman_application.specs.Ranges.{IsOutfitInRange}
+use Rattle.siman_application.specs.OwnLog.{Turn, Tells, Orders, Passes, Takes, Loses, taken_in, sent_after, log_in, is_due, AnswersStand}
 use Rattle.siman_application.proofs.Answered.{IsAnswer, is_answer, equal_self}
 use Rattle.siman_application.proofs.Numbers.{and_both}
 use Rattle.siman_application.proofs.Played.{key_is}
-use Rattle.siman_application.proofs.Turns.{same_key_of, first_same, first_has, answer_at, Course, Foreign, Fresh, Same, Other, course, for_at, AreSettled, PassedAlike}
+use Rattle.siman_application.proofs.Replies.{for_at}
+use Rattle.siman_application.proofs.Meant.{IsReplyText, IsTaken, AreMeant}
+use Rattle.siman_application.proofs.Turns.{same_key_of, first_same, first_has, answer_at, Course, Foreign, Fresh, Same, Other, course, AreSettled, PassedAlike}
 use Rattle.siman_application.proofs.Acks.{goes, responds_stamped, ack_get, acked_as, acks_turns}
 use Rattle.siman_application.proofs.After.{not_change, again_no_change, fresh_acks, takes_up, first_then, answers_same, change_same, known_text, states_turns}
 
@@ -84,7 +86,7 @@ never_both false true = refl
 never_both false false = refl
 
 -- an answer that comes again is no other than before
-again_unchanged : (a : Outfit) (s stamp : ℕ) (b : List ℕ) (q : Pdu) (f : Placed) (ts : List Turn) → AreTurns a true ts → is_for a f.request ≡ true → first_under q (distinct a (taken_in ts)) ≡ Some f
+again_unchanged : (a : Outfit) (s stamp : ℕ) (b : List ℕ) (q : Pdu) (f : Placed) (ts : List Turn) → AreMeant a true ts → is_for a f.request ≡ true → first_under q (distinct a (taken_in ts)) ≡ Some f
     → is_changed_answer a.exercise (answer_at a f stamp) (Get s b ∷ log_in a s ts) ≡ false
 unfolding is_changed_answer
 again_unchanged a s stamp b q f ts are own first = by (key_of (answer_at a f stamp)) refl where
@@ -104,7 +106,7 @@ again_unchanged a s stamp b q f ts are own first = by (key_of (answer_at a f sta
       ∙ neither (responds able (answer_at a f stamp)) (responds unable (answer_at a f stamp)) (option_map_or (same_key k) (key_of (answer_at a f stamp)) false) (option_map_or (same_key k) (key_of (answer_at a f stamp)) false)
       (λ r u. let no : responds unable (answer_at a f stamp) ≡ false = exclusive_in (response_of (answer_at a f stamp).body) r in absurd cc)
 
-fresh_unchanged : (a : Outfit) (s stamp : ℕ) (b : List ℕ) (q : Pdu) (ts : List Turn) → AreTurns a true ts → is_for a q ≡ true → first_under q (distinct a (taken_in ts)) ≡ None
+fresh_unchanged : (a : Outfit) (s stamp : ℕ) (b : List ℕ) (q : Pdu) (ts : List Turn) → AreMeant a true ts → is_for a q ≡ true → first_under q (distinct a (taken_in ts)) ≡ None
     → is_changed_answer a.exercise (answer a (known a (distinct a (taken_in ts))) q stamp) (Get s b ∷ log_in a s ts) ≡ false
 unfolding is_changed_answer
 fresh_unchanged a s stamp b q ts are own none = by (key_of (answer a (known a (distinct a (taken_in ts))) q stamp)) refl where
@@ -156,7 +158,7 @@ no_request_by roles.Answer e = refl
 no_request_by roles.Notice e = absurd cc
 no_request_by roles.Outside e = absurd cc
 
-stands_same : (a : Outfit) (s stamp : ℕ) (b : List ℕ) (q : Pdu) (f : Placed) (ts : List Turn) → IsRead b q → IsReplyText (reply a (taken_in ts) q stamp) → AreTurns a true ts → (is_for a q ≡ true → PassedAlike a q ts) → AreSettled a ts
+stands_same : (a : Outfit) (s stamp : ℕ) (b : List ℕ) (q : Pdu) (f : Placed) (ts : List Turn) → IsTaken b q → IsReplyText (reply a (taken_in ts) q stamp) → AreMeant a true ts → (is_for a q ≡ true → PassedAlike a q ts) → AreSettled a ts
     → first_under q (distinct a (taken_in ts)) ≡ Some f → with_request a (distinct a (taken_in ts)) q ≡ distinct a (taken_in ts) → is_answer_body (answer_at a f stamp).body ≡ true
     → send_cause a.exercise a.station (Get s b ∷ log_in a s ts) (answer_at a f stamp) ≡ None
 stands_same a s stamp b q f ts read text are alike settled first same body =
@@ -170,7 +172,7 @@ stands_same a s stamp b q f ts read text are alike settled first same body =
     (answers_same p f.request up.request up.same is.answers) (again_unchanged a s stamp b q f ts are kept first)
     (unchanged_possible a p up.request (Get s b ∷ log_in a s ts) (again_no_change a s stamp b q f ts are kept first))
 
-stands_fresh : (a : Outfit) → IsStationId a → (s stamp : ℕ) (b : List ℕ) (q : Pdu) (ts : List Turn) → IsRead b q → IsReplyText (reply a (taken_in ts) q stamp) → AreTurns a true ts → (is_for a q ≡ true → PassedAlike a q ts) → AreSettled a ts
+stands_fresh : (a : Outfit) → IsOutfitInRange a → (s stamp : ℕ) (b : List ℕ) (q : Pdu) (ts : List Turn) → IsTaken b q → IsReplyText (reply a (taken_in ts) q stamp) → AreMeant a true ts → (is_for a q ≡ true → PassedAlike a q ts) → AreSettled a ts
     → is_for a q ≡ true → first_under q (distinct a (taken_in ts)) ≡ None → with_request a (distinct a (taken_in ts)) q ≡ q ∷ distinct a (taken_in ts) → is_answer_body (answer a (known a (distinct a (taken_in ts))) q stamp).body ≡ true
     → send_cause a.exercise a.station (Get s b ∷ log_in a s ts) (answer a (known a (distinct a (taken_in ts))) q stamp) ≡ None
 stands_fresh a station s stamp b q ts read text are alike settled own none same body =
@@ -185,39 +187,48 @@ stands_fresh a station s stamp b q ts read text are alike settled own none same 
 one_of : (p r : Pdu) (o : Option Pdu) → o ≡ Some p → o ≡ Some r → p ≡ r
 one_of p r o e f = cc
 
-stands_taken : (a : Outfit) → IsStationId a → (s stamp : ℕ) (b : List ℕ) (q : Pdu) (ts : List Turn) → IsRead b q → IsReplyText (reply a (taken_in ts) q stamp) → AreTurns a true ts → (is_for a q ≡ true → PassedAlike a q ts) → AreSettled a ts
+or_true : (b : Bool) → (b || true) ≡ true
+or_true true = refl
+or_true false = refl
+
+-- before a turn in which a reply is due, one is due later on
+due_later : (a : Outfit) (later : Bool) (q : Pdu) (stamp : ℕ) (ts : List Turn) (p : Pdu) → reply a (taken_in ts) q stamp ≡ Some p → AreMeant a (later || is_due a ts q stamp) ts → AreMeant a true ts
+due_later a later q stamp ts p e are = subst (λ (b : Bool). AreMeant a b ts) (ap (λ (o : Option Pdu). later || is_some o) e ∙ or_true later) are
+
+stands_taken : (a : Outfit) → IsOutfitInRange a → (s stamp : ℕ) (later : Bool) (b : List ℕ) (q : Pdu) (ts : List Turn) → IsTaken b q → IsReplyText (reply a (taken_in ts) q stamp) → AreMeant a (later || is_due a ts q stamp) ts → (is_for a q ≡ true → PassedAlike a q ts) → AreSettled a ts
     → Course a (distinct a (taken_in ts)) q stamp → AnswersStand a (log_in a s ts) → AnswersStand a (sent_after s (reply a (taken_in ts) q stamp) (Get s b ∷ log_in a s ts))
-stands_taken a station s stamp b q ts read text are alike settled (Foreign reply_is same out) rest = subst (λ (o : Option Pdu). AnswersStand a (sent_after s o (Get s b ∷ log_in a s ts))) (sym reply_is) rest
-stands_taken a station s stamp b q ts read text are alike settled (Other f own first reply_is same) rest = subst (λ (o : Option Pdu). AnswersStand a (sent_after s o (Get s b ∷ log_in a s ts))) (sym reply_is) rest
-stands_taken a station s stamp b q ts read text are alike settled (Same f own first reply_is same) rest =
+stands_taken a station s stamp later b q ts read text are alike settled (Foreign reply_is same out) rest = subst (λ (o : Option Pdu). AnswersStand a (sent_after s o (Get s b ∷ log_in a s ts))) (sym reply_is) rest
+stands_taken a station s stamp later b q ts read text are alike settled (Other f own first reply_is same) rest = subst (λ (o : Option Pdu). AnswersStand a (sent_after s o (Get s b ∷ log_in a s ts))) (sym reply_is) rest
+stands_taken a station s stamp later b q ts read text are alike settled (Same f own first reply_is same) rest =
     let p = answer_at a f stamp in
     let m = known_text a (taken_in ts) q stamp (known a f.before) f.request (for_at a (taken_in ts) q f first) reply_is text in
     subst (λ (o : Option Pdu). AnswersStand a (sent_after s o (Get s b ∷ log_in a s ts))) (sym reply_is) (
       λ r e body. let is : p ≡ r = one_of p r (meaning a.exercise (pdu_text p)) m e in
           subst (λ (w : Pdu). send_cause a.exercise a.station (Get s b ∷ log_in a s ts) w ≡ None) is
-          (stands_same a s stamp b q f ts read text are alike settled first same (ap (λ (w : Pdu). is_answer_body w.body) is ∙ body)),
+          (stands_same a s stamp b q f ts read text (due_later a later q stamp ts p reply_is are) alike settled first same (ap (λ (w : Pdu). is_answer_body w.body) is ∙ body)),
       rest,
     )
-stands_taken a station s stamp b q ts read text are alike settled (Fresh own none reply_is same) rest =
+stands_taken a station s stamp later b q ts read text are alike settled (Fresh own none reply_is same) rest =
     let p = answer a (known a (distinct a (taken_in ts))) q stamp in
     let m = known_text a (taken_in ts) q stamp (known a (distinct a (taken_in ts))) q own reply_is text in
     subst (λ (o : Option Pdu). AnswersStand a (sent_after s o (Get s b ∷ log_in a s ts))) (sym reply_is) (
       λ r e body. let is : p ≡ r = one_of p r (meaning a.exercise (pdu_text p)) m e in
           subst (λ (w : Pdu). send_cause a.exercise a.station (Get s b ∷ log_in a s ts) w ≡ None) is
-          (stands_fresh a station s stamp b q ts read text are alike settled own none same (ap (λ (w : Pdu). is_answer_body w.body) is ∙ body)),
+          (stands_fresh a station s stamp b q ts read text (due_later a later q stamp ts p reply_is are) alike settled own none same (ap (λ (w : Pdu). is_answer_body w.body) is ∙ body)),
       rest,
     )
 
-pub stands_turns : (a : Outfit) → IsStationId a → (s : ℕ) (more : Bool) (ts : List Turn) → AreTurns a more ts → AreSettled a ts → AnswersStand a (log_in a s ts)
-stands_turns a station s more [] are settled = tt
-stands_turns a station s more (Tells e y ∷ ts) are settled = stands_turns a station s more ts are settled
-stands_turns a station s more (Orders b ∷ ts) are settled = (
-  λ r e body. let is : are.0.0 ≡ r = one_of are.0.0 r (meaning a.exercise b) are.0.1 e in
+pub stands_turns : (a : Outfit) → IsOutfitInRange a → (s : ℕ) (later : Bool) (ts : List Turn) → AreMeant a later ts → AreSettled a ts → AnswersStand a (log_in a s ts)
+stands_turns a station s later [] are settled = tt
+stands_turns a station s later (Tells e y ∷ ts) are settled = stands_turns a station s later ts are settled
+stands_turns a station s later (Orders o ∷ ts) are settled = (
+  λ r e body. let is : o ≡ r = one_of o r (meaning a.exercise (pdu_text o)) are.0.means e in
       let no : is_request_body r.body ≡ false = no_request_by (role_of r.body) body in
-      let yes : is_request_body r.body ≡ true = ap (λ (w : Pdu). is_request_body w.body) (sym is) ∙ are.0.2 in absurd cc,
-  stands_turns a station s more ts are.1 settled,
+      let yes : is_request_body r.body ≡ true = ap (λ (w : Pdu). is_request_body w.body) (sym is) ∙ are.0.request in absurd cc,
+  stands_turns a station s later ts are.1 settled,
 )
-stands_turns a station s more (Passes b ∷ ts) are settled = stands_turns a station s more ts are settled
-stands_turns a station s more (Takes b q stamp ∷ ts) are settled =
-    stands_taken a station s stamp b q ts are.0 are.1 are.2 settled.0 settled.1 (course a (distinct a (taken_in ts)) q stamp) (stands_turns a station s true ts are.2 settled.1)
-stands_turns a station s more (Loses b q ∷ ts) are settled = stands_turns a station s true ts are.2 settled.1
+stands_turns a station s later (Passes b ∷ ts) are settled = stands_turns a station s later ts are settled
+stands_turns a station s later (Takes b q stamp ∷ ts) are settled =
+    stands_taken a station s stamp later b q ts are.0 are.1 are.2 settled.0 settled.1 (course a (distinct a (taken_in ts)) q stamp)
+    (stands_turns a station s (later || is_due a ts q stamp) ts are.2 settled.1)
+stands_turns a station s later (Loses b q stamp ∷ ts) are settled = stands_turns a station s true ts are.2 settled.1

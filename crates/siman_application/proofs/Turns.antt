@@ -1,6 +1,6 @@
 -- What a log of turns brings: which request an answer takes up, which Acknowledges were sent, and the states.
 use Rattle.std.proofs.Common.{◌≡◌, ℕ, List, [], ◌∷◌, refl, ap, sym, ◌∙◌, subst, arith}
-use Rattle.std.specs.Prelude.{Bool, true, false, ◌==◌, ◌&&◌, not, is_none, option_and_then, Option, Some, None, if◌then◌else◌}
+use Rattle.std.specs.Prelude.{Bool, true, false, ◌==◌, ◌&&◌, ◌||◌, not, is_none, option_and_then, Option, Some, None, if◌then◌else◌}
 use Rattle.std.specs.Option.{option_or}
 use Rattle.std.proofs.lemmas.Bool.Decides.{nat_tests}
 use Rattle.dis_records.specs.declared.entity_state.EntityState.{EntityState}
@@ -11,18 +11,19 @@ use Rattle.siman_pdus.specs.Reading.{reading}
 use Rattle.siman_pdus.specs.Role.{role_of, is_request_body, request_id_of}
 use Rattle.siman_pdus.specs.Same.{IsSameOrder, is_same_order}
 use Rattle.siman_pdus.specs.Spelling.{pdu_text}
-use Rattle.exercise_recording.specs.History.{History, Send, Get, Tell}
-use Rattle.exercise_recording.specs.Meaning.{is_outside, meant, meaning}
-use Rattle.exercise_recording.specs.Exchange.{is_asked, request_brought, request_taken_up}
+use Rattle.exercise_model.specs.History.{History, Send, Get, Tell}
+use Rattle.exercise_model.specs.Meaning.{is_outside, meant, meaning}
+use Rattle.exercise_model.specs.Exchange.{is_asked, request_brought, request_taken_up}
 use Rattle.siman_application.specs.Outfit.{Outfit}
 use Rattle.siman_application.specs.Distinct.{Placed, is_for, is_under_key, first_under, with_request, distinct}
 use Rattle.siman_application.specs.Answer.{answer}
 use Rattle.siman_application.specs.Play.{known, reply, reply_after, answer_under}
-use Rattle.siman_application.specs.OwnLog.{Turn, Tells, Orders, Passes, Takes, Loses, taken_in, sent_after, log_in, AreTurns}
+use Rattle.siman_application.specs.OwnLog.{Turn, Tells, Orders, Passes, Takes, Loses, taken_in, sent_after, log_in, is_due}
 use Rattle.siman_application.proofs.Answered.{for_parts}
 use Rattle.siman_application.proofs.Numbers.{and_parts, and_both}
 use Rattle.siman_application.proofs.Played.{equal_swaps, pair_swaps}
-use Rattle.siman_application.proofs.Spelled.{request_role}
+use Rattle.siman_application.proofs.Meanings.{taken_means}
+use Rattle.siman_application.proofs.Meant.{AreMeant}
 
 -- Keys.
 
@@ -109,15 +110,6 @@ meant_for x b q e = by (reading b) e where
   by None f = absurd cc
   by (Some p) f = here p (p.exercise == x) (not (is_outside (role_of p.body))) refl f
 
--- what is taken and for the station is meant
-pub taken_means : (a : Outfit) (b : List ℕ) (q : Pdu) → reading b ≡ Some q → is_for a q ≡ true → meaning a.exercise b ≡ Some q
-unfolding meaning
-taken_means a b q e own =
-    let parts = for_parts a q own in
-    ap (option_and_then (meant a.exercise)) e
-    ∙ ap (λ (v : Bool). if v && not (is_outside (role_of q.body)) then Some q else None) parts.exercise
-    ∙ ap (λ (v : Bool). if not v then Some q else None) (request_role (role_of q.body) parts.request)
-
 -- what is asked of the station and meant is for it
 asked_parts : (a : Outfit) (p q : Pdu) → is_asked a.station.address p q ≡ true → (is_request_body q.body ≡ true) × (is_addressed q.target a.station.address ≡ true) × (same_id (request_id_of p.body) (request_id_of q.body) ≡ true) × (same_pair q.origin p.target ≡ true)
 asked_parts a p q e =
@@ -179,54 +171,25 @@ course_by a ds q stamp true own (Some f) e = course_known a ds q stamp f own e (
 pub course : (a : Outfit) (ds : List Pdu) (q : Pdu) (stamp : ℕ) → Course a ds q stamp
 course a ds q stamp = course_by a ds q stamp (is_for a q) refl (first_under q ds) refl
 
--- Each distinct request is for the station.
-pub AllFor : Outfit → List Pdu → Type 0
-AllFor a ds = (r : Pdu) (f : Placed) → first_under r ds ≡ Some f → is_for a f.request ≡ true
-
-all_for_none : (a : Outfit) → AllFor a []
-unfolding AllFor first_under
-all_for_none a = λ r f e. absurd cc
-
-all_for_more : (a : Outfit) (q : Pdu) (ds : List Pdu) → is_for a q ≡ true → AllFor a ds → AllFor a (q ∷ ds)
-unfolding AllFor first_under
-all_for_more a q ds own all = λ r f e. by r f (first_under r ds) refl (is_under_key r q) e where
-  by : (r : Pdu) (f : Placed) (o : Option Placed) → first_under r ds ≡ o → (b : Bool) → option_or o (if b then Some (record { request = q; before = ds }) else None) ≡ Some f → is_for a f.request ≡ true
-  by r f (Some g) t b e = all r f (t ∙ e)
-  by r f None t false e = absurd cc
-  by r f None t true e = let same : record { request = q; before = ds } ≡ f = cc in subst (λ (g : Placed). is_for a g.request ≡ true) same own
-
-pub all_for : (a : Outfit) (qs : List Pdu) → AllFor a (distinct a qs)
-all_for a [] = all_for_none a
-all_for a (q ∷ qs) = by (course a (distinct a qs) q 0) (all_for a qs) where
-  by : Course a (distinct a qs) q 0 → AllFor a (distinct a qs) → AllFor a (with_request a (distinct a qs) q)
-  by (Foreign reply same own) all = subst (AllFor a) (sym same) all
-  by (Fresh own none reply same) all = subst (AllFor a) (sym same) (all_for_more a q (distinct a qs) own all)
-  by (Same f own first reply same) all = subst (AllFor a) (sym same) all
-  by (Other f own first reply same) all = subst (AllFor a) (sym same) all
-
-pub for_at : (a : Outfit) (qs : List Pdu) (r : Pdu) (f : Placed) → first_under r (distinct a qs) ≡ Some f → is_for a f.request ≡ true
-unfolding AllFor
-for_at a qs r f e = all_for a qs r f e
-
 -- The request that is taken up.
 
 -- each datagram that was passed and means a request for the station under the key of q is the same order
 abbrev pub PassedAlike : Outfit → Pdu → List Turn → Type 0
 PassedAlike a q [] = Unit {0}
 PassedAlike a q (Tells e y ∷ ts) = PassedAlike a q ts
-PassedAlike a q (Orders b ∷ ts) = PassedAlike a q ts
+PassedAlike a q (Orders o ∷ ts) = PassedAlike a q ts
 PassedAlike a q (Passes b ∷ ts) = ((p : Pdu) → meaning a.exercise b ≡ Some p → is_for a p ≡ true → is_under_key q p ≡ true → IsSameOrder p q) × PassedAlike a q ts
 PassedAlike a q (Takes b p stamp ∷ ts) = PassedAlike a q ts
-PassedAlike a q (Loses b p ∷ ts) = PassedAlike a q ts
+PassedAlike a q (Loses b p stamp ∷ ts) = PassedAlike a q ts
 
 -- what is taken is the same order as what was passed before under its key
 abbrev pub AreSettled : Outfit → List Turn → Type 0
 AreSettled a [] = Unit {0}
 AreSettled a (Tells e y ∷ ts) = AreSettled a ts
-AreSettled a (Orders b ∷ ts) = AreSettled a ts
+AreSettled a (Orders o ∷ ts) = AreSettled a ts
 AreSettled a (Passes b ∷ ts) = AreSettled a ts
 AreSettled a (Takes b q stamp ∷ ts) = (is_for a q ≡ true → PassedAlike a q ts) × AreSettled a ts
-AreSettled a (Loses b q ∷ ts) = (is_for a q ≡ true → PassedAlike a q ts) × AreSettled a ts
+AreSettled a (Loses b q stamp ∷ ts) = (is_for a q ≡ true → PassedAlike a q ts) × AreSettled a ts
 
 -- what is taken up by an answer to r, where the first of the distinct requests under its key is this: the same order as that; without one, at most what was passed
 abbrev pub TakesUp : Outfit → Pdu → List Turn → Option Placed → Option Pdu → Type 0
@@ -358,26 +321,26 @@ unfolding first_under request_taken_up
 up_start a r p s = tt
 
 -- THE REQUEST THAT IS TAKEN UP in a log of turns
-pub up_turns : (a : Outfit) (s : ℕ) (more : Bool) (ts : List Turn) → AreTurns a more ts → AreSettled a ts → (r p : Pdu) → GoesTo r p
+pub up_turns : (a : Outfit) (s : ℕ) (later : Bool) (ts : List Turn) → AreMeant a later ts → AreSettled a ts → (r p : Pdu) → GoesTo r p
     → TakesUp a r ts (first_under r (distinct a (taken_in ts))) (request_taken_up a.exercise a.station.address p (log_in a s ts))
-up_turns a s more [] are settled r p goes = up_start a r p s
-up_turns a s more (Tells e y ∷ ts) are settled r p goes =
+up_turns a s later [] are settled r p goes = up_start a r p s
+up_turns a s later (Tells e y ∷ ts) are settled r p goes =
     subst (TakesUp a r (Tells e y ∷ ts) (first_under r (distinct a (taken_in ts)))) (sym (up_tell a p s e y (log_in a s ts)))
-    (up_later a r ts (Tells e y ∷ ts) (λ q alike. alike) (first_under r (distinct a (taken_in ts))) (request_taken_up a.exercise a.station.address p (log_in a s ts)) (up_turns a s more ts are settled r p goes))
-up_turns a s more (Orders b ∷ ts) are settled r p goes =
-    subst (TakesUp a r (Orders b ∷ ts) (first_under r (distinct a (taken_in ts)))) (sym (up_send a p s b (log_in a s ts)))
-    (up_later a r ts (Orders b ∷ ts) (λ q alike. alike) (first_under r (distinct a (taken_in ts))) (request_taken_up a.exercise a.station.address p (log_in a s ts)) (up_turns a s more ts are.1 settled r p goes))
-up_turns a s more (Passes b ∷ ts) are settled r p goes =
+    (up_later a r ts (Tells e y ∷ ts) (λ q alike. alike) (first_under r (distinct a (taken_in ts))) (request_taken_up a.exercise a.station.address p (log_in a s ts)) (up_turns a s later ts are settled r p goes))
+up_turns a s later (Orders o ∷ ts) are settled r p goes =
+    subst (TakesUp a r (Orders o ∷ ts) (first_under r (distinct a (taken_in ts)))) (sym (up_send a p s (pdu_text o) (log_in a s ts)))
+    (up_later a r ts (Orders o ∷ ts) (λ q alike. alike) (first_under r (distinct a (taken_in ts))) (request_taken_up a.exercise a.station.address p (log_in a s ts)) (up_turns a s later ts are.1 settled r p goes))
+up_turns a s later (Passes b ∷ ts) are settled r p goes =
     subst (TakesUp a r (Passes b ∷ ts) (first_under r (distinct a (taken_in ts)))) (sym (up_get a p s b (log_in a s ts)))
     (up_passed a r p b ts (first_under r (distinct a (taken_in ts))) (request_taken_up a.exercise a.station.address p (log_in a s ts)) (request_brought a.exercise a.station.address p (Get s b)) (brought_by a r p s b goes)
-    (up_turns a s more ts are settled r p goes))
-up_turns a s more (Takes b q stamp ∷ ts) are settled r p goes =
+    (up_turns a s later ts are settled r p goes))
+up_turns a s later (Takes b q stamp ∷ ts) are settled r p goes =
     subst (TakesUp a r (Takes b q stamp ∷ ts) (first_under r (distinct a (q ∷ taken_in ts)))) (sym (up_sent a p s (reply a (taken_in ts) q stamp) (Get s b ∷ log_in a s ts) ∙ up_get a p s b (log_in a s ts)))
     (up_later a r ts (Takes b q stamp ∷ ts) (λ q alike. alike) (first_under r (distinct a (q ∷ taken_in ts))) (option_or (request_taken_up a.exercise a.station.address p (log_in a s ts)) (request_brought a.exercise a.station.address p (Get s b)))
     (up_taken a r p q s stamp b (distinct a (taken_in ts)) ts (request_taken_up a.exercise a.station.address p (log_in a s ts)) goes are.0.read settled.0 (course a (distinct a (taken_in ts)) q stamp)
-    (up_turns a s true ts are.2 settled.1 r p goes)))
-up_turns a s more (Loses b q ∷ ts) are settled r p goes =
-    subst (TakesUp a r (Loses b q ∷ ts) (first_under r (distinct a (q ∷ taken_in ts)))) (sym (up_get a p s b (log_in a s ts)))
-    (up_later a r ts (Loses b q ∷ ts) (λ q alike. alike) (first_under r (distinct a (q ∷ taken_in ts))) (option_or (request_taken_up a.exercise a.station.address p (log_in a s ts)) (request_brought a.exercise a.station.address p (Get s b)))
-    (up_taken a r p q s 0 b (distinct a (taken_in ts)) ts (request_taken_up a.exercise a.station.address p (log_in a s ts)) goes are.1.read settled.0 (course a (distinct a (taken_in ts)) q 0)
+    (up_turns a s (later || is_due a ts q stamp) ts are.2 settled.1 r p goes)))
+up_turns a s later (Loses b q stamp ∷ ts) are settled r p goes =
+    subst (TakesUp a r (Loses b q stamp ∷ ts) (first_under r (distinct a (q ∷ taken_in ts)))) (sym (up_get a p s b (log_in a s ts)))
+    (up_later a r ts (Loses b q stamp ∷ ts) (λ q alike. alike) (first_under r (distinct a (q ∷ taken_in ts))) (option_or (request_taken_up a.exercise a.station.address p (log_in a s ts)) (request_brought a.exercise a.station.address p (Get s b)))
+    (up_taken a r p q s stamp b (distinct a (taken_in ts)) ts (request_taken_up a.exercise a.station.address p (log_in a s ts)) goes are.0.read settled.0 (course a (distinct a (taken_in ts)) q stamp)
     (up_turns a s true ts are.2 settled.1 r p goes)))

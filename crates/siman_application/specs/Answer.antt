@@ -11,9 +11,9 @@ use Rattle.siman_pdus.specs.declared.pdu.Body.TheVariants.{CreateEntity, RemoveE
 use Rattle.siman_pdus.specs.declared.pdu.Pdu.{Pdu}
 use Rattle.siman_pdus.specs.DatumLists.{DatumLists, IdLists}
 use Rattle.siman_pdus.specs.Spelling.{body_kind, pdu_size}
-use Rattle.exercise_recording.specs.Station.{is_entity, is_absent}
-use Rattle.exercise_recording.specs.Change.{able, unable}
-use Rattle.exercise_recording.specs.Place.{first_below}
+use Rattle.exercise_model.specs.Station.{is_entity, is_absent}
+use Rattle.exercise_model.specs.Change.{able, unable}
+use Rattle.exercise_model.specs.Place.{first_below}
 use Rattle.siman_application.specs.Outfit.{Outfit}
 use Rattle.siman_application.specs.Records.{fixed_id, variable_id, last_under, stored, found}
 

@@ -7,7 +7,7 @@ use Rattle.siman_pdus.specs.declared.pdu.Pdu.{Pdu}
 use Rattle.siman_pdus.specs.DatumLists.{DatumLists}
 use Rattle.siman_pdus.specs.Role.{request_id_of}
 use Rattle.siman_pdus.specs.Spelling.{body_kind, pdu_text}
-use Rattle.exercise_recording.specs.Meaning.{meaning}
+use Rattle.exercise_model.specs.Meaning.{meaning}
 use Rattle.siman_application.specs.declared.kept.KeptRequest.{KeptRequest}
 use Rattle.siman_application.specs.declared.kept.RequestKey.{RequestKey}
 use Rattle.siman_application.specs.Outfit.{Outfit}
@@ -16,6 +16,7 @@ use Rattle.siman_application.specs.Distinct.{is_for, first_under}
 use Rattle.siman_application.specs.Knows.{knows}
 use Rattle.siman_application.specs.Listed.{Entities}
 use Rattle.siman_application.specs.Play.{is_for_entities, known}
+use Rattle.siman_application.specs.Ranges.{IsOutfitInRange}
 
 abbrev pub Table : Type 0
 Table = IndexMap RequestKey KeptRequest (BuildHasherDefault FoldHasher)
@@ -63,8 +64,9 @@ abbrev pub AreFor : Outfit → List Pdu → Type 0
 AreFor a [] = Unit {0}
 AreFor a (d ∷ ds) = (is_for a d ≡ true) × AreFor a ds
 
--- The tables of an application are right: each request is under its key with its answer, and entities and datums are as the requests leave them.
+-- The tables of an application are right: each request is under its key with its answer, and entities and datums are as the requests leave them. The numbers that it was begun with are in their ranges.
 pub record AreRight (a : Outfit) (table : Table) (entities : Entities) (datums : DatumLists) : Type 0 where
+  pub ranges : IsOutfitInRange a
   pub keyed : AreKeyed table.entries
   pub answered : AreAnswered a [] (values table)
   pub own : AreFor a (requests (values table))

@@ -2,11 +2,11 @@
 use Rattle.std.specs.Prelude.{◌≡◌, ℕ, true, false, ◌==◌, nat_lt, List, [], ◌∷◌, map, if◌then◌else◌}
 use Rattle.dis_records.specs.declared.entity_state.EntityState.{EntityState}
 use Rattle.dis_records.specs.Entity.{is_create}
-use Rattle.exercise_recording.specs.declared.state.Change.{Change}
-use Rattle.exercise_recording.specs.Station.{listed_state}
-use Rattle.exercise_recording.specs.Cause.{is_hopeless}
-use Rattle.exercise_recording.specs.Change.{able, responds}
-use Rattle.exercise_recording.specs.State.{changed, change_of}
+use Rattle.exercise_model.specs.declared.state.Change.{Change}
+use Rattle.exercise_model.specs.Station.{listed_state}
+use Rattle.exercise_model.specs.Cause.{is_hopeless}
+use Rattle.exercise_model.specs.Change.{able, responds}
+use Rattle.exercise_model.specs.State.{changed, change_of}
 use Rattle.siman_pdus.specs.declared.pdu.Pdu.{Pdu}
 use Rattle.siman_application.specs.Answer.{has_place}
 

@@ -1,41 +1,42 @@
 -- The log of a station whose application answers, THE LAST EVENT FIRST (profile).
-use Rattle.std.specs.Prelude.{◌≡◌, ℕ, List, [], ◌∷◌, Bool, true, false, Option, Some, None, ◌⊎◌}
+use Rattle.std.specs.Prelude.{◌≡◌, ℕ, ◌^◌, ◌<◌, ◌≤◌, List, [], ◌∷◌, slice_index, Bool, ◌||◌, true, false, Option, Some, None, is_some, ◌⊎◌}
 use Rattle.dis_records.specs.declared.entity_state.EntityState.{EntityState}
 use Rattle.siman_pdus.specs.declared.pdu.Pdu.{Pdu}
+use Rattle.siman_pdus.specs.Ranges.{IsInRange}
 use Rattle.siman_pdus.specs.Reading.{reading}
 use Rattle.siman_pdus.specs.Role.{is_request_body}
 use Rattle.siman_pdus.specs.Same.{IsSameOrder}
-use Rattle.siman_pdus.specs.Spelling.{pdu_text}
-use Rattle.exercise_recording.specs.History.{History, Send, Get, Tell}
-use Rattle.exercise_recording.specs.Meaning.{meaning}
-use Rattle.exercise_recording.specs.Exchange.{is_answer_body}
-use Rattle.exercise_recording.specs.Cause.{send_cause}
+use Rattle.siman_pdus.specs.Spelling.{pdu_size, pdu_text}
+use Rattle.exercise_model.specs.History.{History, Send, Get, Tell}
+use Rattle.exercise_model.specs.Meaning.{meaning}
+use Rattle.exercise_model.specs.Exchange.{is_answer_body}
+use Rattle.exercise_model.specs.Cause.{send_cause}
 use Rattle.siman_application.specs.Outfit.{Outfit}
 use Rattle.siman_application.specs.Distinct.{is_under_key}
 use Rattle.siman_application.specs.Play.{reply}
-use Rattle.siman_application.specs.Ranges.{IsInRange, IsStationId}
+use Rattle.siman_application.specs.Ranges.{IsOutfitInRange}
 
 -- what a station does in one turn
 pub data Turn : Type 0 where
   -- it tells the state of an entity
   Tells : (entity : ℕ) (state : EntityState) → Turn
-  -- its manager half sends a request
-  Orders : (bytes : List ℕ) → Turn
+  -- its manager half sends an order
+  Orders : (order : Pdu) → Turn
   -- it gets a datagram that its application does not take
   Passes : (bytes : List ℕ) → Turn
-  -- it gets a datagram whose PDU its application takes, and sends the reply at once, if there is one
+  -- it gets a datagram whose PDU its application takes, and sends the reply at once with this timestamp, if one is due
   Takes : (bytes : List ℕ) (pdu : Pdu) (stamp : ℕ) → Turn
-  -- the same, and the reply is not sent
-  Loses : (bytes : List ℕ) (pdu : Pdu) → Turn
+  -- the same, and the reply that is due is not sent
+  Loses : (bytes : List ℕ) (pdu : Pdu) (stamp : ℕ) → Turn
 
 -- the PDUs that the application took in these turns, the last first
 abbrev pub taken_in : List Turn → List Pdu
 taken_in [] = []
 taken_in (Tells e y ∷ ts) = taken_in ts
-taken_in (Orders b ∷ ts) = taken_in ts
+taken_in (Orders p ∷ ts) = taken_in ts
 taken_in (Passes b ∷ ts) = taken_in ts
 taken_in (Takes b q stamp ∷ ts) = q ∷ taken_in ts
-taken_in (Loses b q ∷ ts) = q ∷ taken_in ts
+taken_in (Loses b q stamp ∷ ts) = q ∷ taken_in ts
 
 -- a log that goes on by a reply, if there is one
 abbrev pub sent_after : ℕ → Option Pdu → History → History
@@ -46,37 +47,39 @@ sent_after s (Some p) log = Send s (pdu_text p) ∷ log
 abbrev pub log_in : Outfit → ℕ → List Turn → History
 log_in a s [] = []
 log_in a s (Tells e y ∷ ts) = Tell s e y ∷ log_in a s ts
-log_in a s (Orders b ∷ ts) = Send s b ∷ log_in a s ts
+log_in a s (Orders p ∷ ts) = Send s (pdu_text p) ∷ log_in a s ts
 log_in a s (Passes b ∷ ts) = Get s b ∷ log_in a s ts
 log_in a s (Takes b q stamp ∷ ts) = sent_after s (reply a (taken_in ts) q stamp) (Get s b ∷ log_in a s ts)
-log_in a s (Loses b q ∷ ts) = Get s b ∷ log_in a s ts
+log_in a s (Loses b q stamp ∷ ts) = Get s b ∷ log_in a s ts
 
--- the datagram means a request
-abbrev pub MeansRequest : Outfit → List ℕ → Type 0
-MeansRequest a b = (p : Pdu) × (meaning a.exercise b ≡ Some p) × (is_request_body p.body ≡ true)
+-- an order of the station: a request of the exercise, its numbers in their ranges, of at most 8192 bytes
+pub record IsOrder (a : Outfit) (p : Pdu) : Type 0 where
+  pub exercise : p.exercise ≡ a.exercise
+  pub request : is_request_body p.body ≡ true
+  pub ranges : IsInRange p
+  pub size : pdu_size p ≤ 8192
 
--- the text of a reply is read as it, as that of every PDU that can be written
-abbrev pub IsReplyText : Option Pdu → Type 0
-IsReplyText None = Unit {0}
-IsReplyText (Some p) = reading (pdu_text p) ≡ Some p
-
--- the datagram is read as the PDU, whose numbers are in their ranges
+-- the datagram consists of bytes, and is read as the PDU
 pub record IsRead (b : List ℕ) (q : Pdu) : Type 0 where
+  pub bytes : (i : ℕ) → slice_index b i < 256
   pub read : reading b ≡ Some q
-  pub ranges : IsInRange q
 
--- The turns of a station, where `more` says that the application takes a PDU later on: what it orders is a request, what it takes is read so, and no reply but the last is missing.
+-- a reply is due to a PDU that is taken after these turns
+abbrev pub is_due : Outfit → List Turn → Pdu → ℕ → Bool
+is_due a ts q stamp = is_some (reply a (taken_in ts) q stamp)
+
+-- THE TURNS OF A STATION, where `later` says that a reply is due later on. What it orders is an order, what it takes is read so, and no reply is missing but the last that is due.
 abbrev pub AreTurns : Outfit → Bool → List Turn → Type 0
-AreTurns a more [] = Unit {0}
-AreTurns a more (Tells e y ∷ ts) = AreTurns a more ts
-AreTurns a more (Orders b ∷ ts) = MeansRequest a b × AreTurns a more ts
-AreTurns a more (Passes b ∷ ts) = AreTurns a more ts
-AreTurns a more (Takes b q stamp ∷ ts) = IsRead b q × IsReplyText (reply a (taken_in ts) q stamp) × AreTurns a true ts
-AreTurns a more (Loses b q ∷ ts) = (more ≡ false) × IsRead b q × AreTurns a true ts
+AreTurns a later [] = Unit {0}
+AreTurns a later (Tells e y ∷ ts) = AreTurns a later ts
+AreTurns a later (Orders p ∷ ts) = IsOrder a p × AreTurns a later ts
+AreTurns a later (Passes b ∷ ts) = AreTurns a later ts
+AreTurns a later (Takes b q stamp ∷ ts) = IsRead b q × (stamp < 2 ^ 32) × AreTurns a (later || is_due a ts q stamp) ts
+AreTurns a later (Loses b q stamp ∷ ts) = IsRead b q × (stamp < 2 ^ 32) × (is_due a ts q stamp ≡ true) × (later ≡ false) × AreTurns a true ts
 
 -- A LOG THAT SUCH A STATION WRITES in these turns, and the PDUs that its application took
 pub record IsOwnLog (a : Outfit) (s : ℕ) (ts : List Turn) (h : History) (qs : List Pdu) : Type 0 where
-  pub station : IsStationId a
+  pub outfit : IsOutfitInRange a
   pub turns : AreTurns a false ts
   pub log_is : log_in a s ts ≡ h
   pub taken_is : taken_in ts ≡ qs
@@ -85,19 +88,19 @@ pub record IsOwnLog (a : Outfit) (s : ℕ) (ts : List Turn) (h : History) (qs : 
 abbrev pub MissNone : List Turn → Type 0
 MissNone [] = Unit {0}
 MissNone (Tells e y ∷ ts) = MissNone ts
-MissNone (Orders b ∷ ts) = MissNone ts
+MissNone (Orders p ∷ ts) = MissNone ts
 MissNone (Passes b ∷ ts) = MissNone ts
 MissNone (Takes b q stamp ∷ ts) = MissNone ts
-MissNone (Loses b q ∷ ts) = ⊥
+MissNone (Loses b q stamp ∷ ts) = ⊥
 
 -- the application took each PDU that came
 abbrev pub TakesAll : List Turn → Type 0
 TakesAll [] = Unit {0}
 TakesAll (Tells e y ∷ ts) = TakesAll ts
-TakesAll (Orders b ∷ ts) = TakesAll ts
+TakesAll (Orders p ∷ ts) = TakesAll ts
 TakesAll (Passes b ∷ ts) = (reading b ≡ None) × TakesAll ts
 TakesAll (Takes b q stamp ∷ ts) = TakesAll ts
-TakesAll (Loses b q ∷ ts) = TakesAll ts
+TakesAll (Loses b q stamp ∷ ts) = TakesAll ts
 
 -- a log that gets this datagram
 abbrev pub HasGet : History → List ℕ → Type 0

@@ -8,8 +8,8 @@ use Rattle.dis_records.specs.Datum.{Datum}
 use Rattle.siman_pdus.specs.declared.pdu.Pdu.{Pdu}
 use Rattle.siman_pdus.specs.Same.{is_same_order}
 use Rattle.siman_pdus.specs.Spelling.{body_kind, pdu_text}
-use Rattle.exercise_recording.specs.History.{History, Send, Get}
-use Rattle.exercise_recording.specs.State.{state_after}
+use Rattle.exercise_model.specs.History.{History, Send, Get}
+use Rattle.exercise_model.specs.State.{state_after}
 use Rattle.siman_application.specs.Outfit.{Outfit}
 use Rattle.siman_application.specs.Distinct.{Placed, is_for, first_under, distinct}
 use Rattle.siman_application.specs.Records.{fixed_id, variable_id, last_under, stored}

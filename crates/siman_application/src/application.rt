@@ -1,10 +1,14 @@
 //! The application half of a station.
 
-ghost use Rattle.std.specs.Prelude.{◌≡◌, ◌<◌, ◌↔◌, false, [], length, Err, IsOk, IfOk, IfErr, IfSome, OnOk, OnErr, slice_get};
+ghost use Rattle.std.specs.Prelude.{◌≡◌, ◌<◌, ◌≤◌, ◌↔◌, true, false, [], length, Err, IsOk, IfOk, IfErr, IfSome, OnOk, OnErr, slice_get};
 ghost use Rattle.std.specs.Option.{option_map, option_copied, option_and_then};
 ghost use Rattle.std.specs.Borrow.{sem};
+ghost use Rattle.exercise_model.specs.Station.{is_station};
+ghost use Rattle.siman_pdus.specs.Ranges.{IsInRange};
+ghost use Rattle.siman_pdus.specs.Spelling.{pdu_size};
 ghost use Rattle.siman_application.specs.Lending.{EndsTaken};
 ghost use Rattle.siman_application.specs.Play.{state_over, fixed_after, variable_after, reply_after};
+ghost use Rattle.siman_application.specs.Ranges.{IsOutfitInRange};
 ghost use Rattle.siman_application.specs.Standing.{Standing, Leaves, came, is_new};
 
 use crate::entities::Entities;
@@ -15,8 +19,8 @@ use crate::outfit::Outfit;
 use crate::records::{value_of, variable_of};
 use crate::taking::take;
 use dis_records::{EntityState, FixedDatum, VariableDatum};
-use exercise_recording::Station;
-use siman_pdus::{Datums, Pdu};
+use exercise_model::Station;
+use siman_pdus::{Datums, Pdu, datums_are_in_range, numbers_are_in_range};
 use std::alloc::{AllocError, Global};
 use std::marker::Model;
 
@@ -50,7 +54,8 @@ impl Model for Application {
 
 /// An equal station.
 fn copy_station(alloc: Global, station: &Station) -> Result<Station, AllocError>
-    ensures { IfOk result (λ copy. copy ≡ station.now) }
+    ensures copy { IfOk result (λ copy. copy ≡ station.now) }
+    ensures station { IfOk result (λ copy. is_station copy ≡ true) }
 {
     let opening = Vec::from_slice(alloc, station.opening())?;
     Ok(Station::new(station.address(), opening).unwrap())
@@ -71,6 +76,7 @@ impl Application {
     ) -> Result<Application, AppFault>
         ensures too_many { (result ≡ Err AppFault.TooMany) ↔ (4096 < length station.now.opening) }
         ensures outfit { IfOk result (λ app. app.outfit ≡ record { exercise = exercise; station = station.now; datums = record { fixed = fixed.now; variable = variable.items }; actions = actions.now }) }
+        ensures ranges { IfOk result (λ app. IsOutfitInRange app.outfit) }
         ensures kept { IfOk result (λ app. app.kept ≡ []) }
     {
         if station.opening().len() > MOST_ENTITIES {
@@ -83,6 +89,7 @@ impl Application {
             variable,
         };
         let datums = held.copy(alloc)?;
+        datums_are_in_range(&held);
         let actions = Vec::from_slice(alloc, actions)?;
         Ok(Application {
             alloc,
@@ -102,16 +109,22 @@ impl Application {
     /// exercise, one that is no request, one that does not address the station, and another order
     /// under a key (originating site and application, request identifier) that is known; for the
     /// same order again the kept answer; otherwise an answer that is made and kept (profile, over
-    /// IEEE 1278.1-2012, 5.6.5). After a fault, which only that last case can have, all is as it
-    /// was, and the PDU counts as not taken.
+    /// IEEE 1278.1-2012, 5.6.5). A datagram can carry what is to go out. After a fault, which only
+    /// that last case can have, all is as it was, and the PDU counts as not taken.
     pub fn take(&mut self, pdu: &Pdu, stamp: u32) -> Result<Option<&Pdu>, AppFault>
         ensures* ends { sem 𝓛 (EndsTaken self.entry pdu.now result) }
         ensures reply { IfOk result (λ answer. option_copied answer ≡ reply_after self.old.outfit (came self.old) pdu.now stamp) }
+        ensures in_range { IfOk result (λ answer. IfSome (option_copied answer) IsInRange) }
+        ensures size { IfOk result (λ answer. IfSome (option_copied answer) (λ p. pdu_size p ≤ 8192)) }
         ensures fault { IfErr result (λ fault. fault ≡ AppFault.Memory) }
         ensures no_memory { is_new self.old pdu.now ≡ false → IsOk result }
     {
         match self.take_up(pdu, stamp)? {
-            Some(place) => Ok(Some(&self.kept[place].answer)),
+            Some(place) => {
+                let answer = &self.kept[place].answer;
+                numbers_are_in_range(answer);
+                Ok(Some(answer))
+            }
             None => Ok(None),
         }
     }
@@ -119,6 +132,7 @@ impl Application {
     fn take_up(&mut self, pdu: &Pdu, stamp: u32) -> Result<Option<usize>, AppFault>
         ensures leaves { Leaves self.old pdu.now result self.new }
         ensures reply { IfOk result (λ place. option_and_then (λ i. option_map (λ k. k.answer) (slice_get self.new.kept i)) place ≡ reply_after self.old.outfit (came self.old) pdu.now stamp) }
+        ensures size { IfSome (reply_after self.old.outfit (came self.old) pdu.now stamp) (λ p. pdu_size p ≤ 8192) }
         ensures within { IfOk result (λ place. IfSome place (λ i. i < length self.new.kept)) }
         ensures fault { IfErr result (λ fault. fault ≡ AppFault.Memory) }
         ensures no_memory { is_new self.old pdu.now ≡ false → IsOk result }

@@ -2,16 +2,16 @@
 
 ghost use Rattle.std.specs.Prelude.{◌≡◌, ◌≤◌, true, IfOk, IsTrue, OnOk, OnErr, length};
 ghost use Rattle.siman_pdus.specs.Answers.{is_answer_to};
-ghost use Rattle.exercise_recording.specs.Change.{able, responds};
-ghost use Rattle.exercise_recording.specs.Station.{is_opening, listed_state};
-ghost use Rattle.exercise_recording.specs.State.{changed, change_of};
+ghost use Rattle.exercise_model.specs.Change.{able, responds};
+ghost use Rattle.exercise_model.specs.Station.{is_opening, listed_state};
+ghost use Rattle.exercise_model.specs.State.{changed, change_of};
 ghost use Rattle.siman_application.specs.Answer.{chosen, is_meant};
 ghost use Rattle.siman_application.specs.Listed.{states_in, IsPossible, after};
 
 use crate::entity_list::{carry_out, choose, state_in};
 use crate::number::names_none;
 use dis_records::{EntityState, Kind};
-use exercise_recording::{Change, responds};
+use exercise_model::{Change, responds};
 use siman_pdus::{ABLE, Pdu};
 use std::alloc::{AllocError, Global};
 use std::marker::Model;
@@ -25,7 +25,7 @@ pub(crate) struct Entities {
 
 impl Model for Entities {
     ghost use Rattle.std.specs.Prelude.{◌≡◌, ◌≤◌, true, length};
-    ghost use Rattle.exercise_recording.specs.Station.{is_opening};
+    ghost use Rattle.exercise_model.specs.Station.{is_opening};
     ghost use Rattle.siman_application.specs.Listed.{Entities};
 
     ghost Value = { Entities };

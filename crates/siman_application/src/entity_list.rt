@@ -2,15 +2,15 @@
 
 ghost use Rattle.std.specs.Prelude.{◌≡◌, ◌≤◌, ◌<◌, Some, true, length, IsTrue, OnOk, OnErr, MatchOption, insert, remove};
 ghost use Rattle.dis_records.specs.declared.entity_state.EntityState.{EntityState};
-ghost use Rattle.exercise_recording.specs.Station.{is_opening, listed_state};
-ghost use Rattle.exercise_recording.specs.Place.{first_below};
-ghost use Rattle.exercise_recording.specs.State.{changed};
+ghost use Rattle.exercise_model.specs.Station.{is_opening, listed_state};
+ghost use Rattle.exercise_model.specs.Place.{first_below};
+ghost use Rattle.exercise_model.specs.State.{changed};
 ghost use Rattle.siman_application.specs.Answer.{is_free, chosen};
 ghost use Rattle.siman_application.specs.Listed.{states_in, inserted, removed, all_changed, IsPossible};
 
 use crate::number::ANY_NUMBER;
 use dis_records::{EntityState, Kind, Scope};
-use exercise_recording::{Change, is_entity};
+use exercise_model::{Change, is_entity};
 use std::alloc::AllocError;
 
 /// How many entities an application has at most (profile).

@@ -3,8 +3,8 @@
 
 ghost use Rattle.std.specs.Prelude.{◌≡◌, ◌++◌, ◌∷◌, ◌&&◌, ℕ, List, false, is_none};
 ghost use Rattle.siman_pdus.specs.declared.pdu.Pdu.{Pdu};
-ghost use Rattle.exercise_recording.specs.History.{History};
-ghost use Rattle.exercise_recording.specs.State.{state_after};
+ghost use Rattle.exercise_model.specs.History.{History};
+ghost use Rattle.exercise_model.specs.State.{state_after};
 ghost use Rattle.siman_application.specs.Outfit.{Outfit};
 ghost use Rattle.siman_application.specs.Distinct.{is_for, first_under, distinct};
 ghost use Rattle.siman_application.specs.Play.{state_over, reply, reply_after};
@@ -26,8 +26,11 @@ pub fn requests_are_told_once()
 {}
 
 /// In every log that a station with an application writes, no answer has a cause against it after
-/// the events before it, and the states are those of the play: where the application took every
-/// PDU that came, or no site and application used one request identifier for two orders.
+/// the events before it, and where no reply is missing, the states are those of the play. It holds
+/// in two cases: the application took every PDU that came, or no site and application used one
+/// request identifier for two orders. Of the replies that are due only the last may be missing. What
+/// the law asks of numbers is what their types say ([`Application::begin`](crate::Application::begin),
+/// [`siman_pdus::numbers_are_in_range`]).
 pub fn own_logs_stand()
     ensures answers { (a : Outfit) (s : ℕ) (ts : List Turn) (h : History) (qs : List Pdu) → IsOwnLog a s ts h qs → IsClear a ts h → AnswersStand a h }
     ensures states { (a : Outfit) (s : ℕ) (ts : List Turn) (h : History) (qs : List Pdu) → IsOwnLog a s ts h qs → IsClear a ts h → MissNone ts

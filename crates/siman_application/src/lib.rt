@@ -18,7 +18,6 @@ mod kept;
 mod law;
 mod number;
 mod outfit;
-mod ranges;
 mod records;
 mod taking;
 #[cfg(test)]

@@ -6,7 +6,7 @@ ghost use Rattle.siman_application.specs.Distinct.{is_for};
 ghost use Rattle.siman_application.specs.Answer.{answer_pdu, plain_answer};
 
 use dis_records::{EntityId, addressed};
-use exercise_recording::Station;
+use exercise_model::Station;
 use siman_pdus::{Body, Datums, Pdu, kind_of};
 use std::marker::Model;
 

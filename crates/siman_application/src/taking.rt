@@ -14,8 +14,7 @@ use crate::entities::Entities;
 use crate::fault::AppFault;
 use crate::kept::{KeptTable, RequestKey, keep, key_of, place_of, stamp_again};
 use crate::outfit::Outfit;
-use crate::ranges::{look_at, look_at_station};
-use siman_pdus::{Datums, Pdu, same_order};
+use siman_pdus::{Datums, Pdu, numbers_are_in_range, same_order};
 use std::alloc::Global;
 
 /// Other datums in the place of these, if there are any.
@@ -50,8 +49,7 @@ fn take_first(
     ensures answer { IfOk result (λ place. option_map (λ k. k.answer) (slice_get (values kept.new) place) ≡ Some (answer outfit.now (known outfit.now (requests (values kept.old))) pdu.now stamp)) }
     ensures within { IfOk result (λ place. place < index_map_len kept.new) }
 {
-    look_at(pdu);
-    look_at_station(outfit);
+    numbers_are_in_range(pdu);
     let outcome = answer(alloc, outfit, entities, datums, pdu, stamp)?;
     let request = pdu.copy(alloc)?;
     kept.reserve(1)?;

@@ -2,12 +2,13 @@
 
 use crate::{AppFault, Application};
 use dis_records::{Address, EntityState, FixedDatum, VariableDatum};
-use exercise_recording::Station;
+use exercise_model::Station;
 use siman_pdus::{decode, encode};
 use std::alloc::Global;
 use std::test::Fail;
 
 mod answers;
+mod logs;
 mod repeats;
 
 /// The station 2:3 with these entities.

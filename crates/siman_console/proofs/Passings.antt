@@ -6,7 +6,7 @@ use Rattle.std.proofs.KnownBytes.{Appends-trans}
 use Rattle.std.proofs.Math.Seq.{take-append_seam, take-append-add}
 use Rattle.std.proofs.lemmas.List.{take-append-le}
 use Rattle.std.proofs.lemmas.Bool.{cases_lt}
-use Rattle.exercise_recording.specs.Writing.{WritesPart}
+use Rattle.byte_files.specs.Writing.{WritesPart}
 use Rattle.siman_console.specs.declared.show_fault.ShowFault.{ShowFault}
 use Rattle.siman_console.specs.declared.show_fault.ShowFault.TheVariants.{Recording, Output, Memory}
 use Rattle.siman_console.specs.Report.{texts_below}

@@ -6,8 +6,8 @@ use Rattle.exercise_recording.specs.declared.format_fault.FormatFault.{FormatFau
 use Rattle.exercise_recording.specs.declared.format_fault.FormatFault.TheVariants as faults
 use Rattle.exercise_recording.specs.declared.format_fault.RecordingFault.{RecordingFault}
 use Rattle.exercise_recording.specs.declared.format_fault.RecordingFault.TheVariants as recordings
-use Rattle.exercise_recording.specs.Recording.{PlainRecording}
-use Rattle.exercise_recording.specs.Fields.{Fails}
+use Rattle.exercise_model.specs.Recording.{PlainRecording}
+use Rattle.byte_files.specs.Fields.{Fails}
 use Rattle.exercise_recording.specs.Reading.{told}
 use Rattle.siman_console.specs.declared.show_fault.ShowFault.{ShowFault}
 use Rattle.siman_console.specs.declared.show_fault.ShowFault.TheVariants.{Recording, Output, Memory}
@@ -24,7 +24,7 @@ recording_refused recorded recordings.Read old new why keeps = keeps
 recording_refused recorded recordings.Memory old new why keeps = inl keeps
 
 -- the three parts of the text of a recording
-pub whole_text : (r : PlainRecording) (line : List ℕ) → line ≡ counts_line r → (line ++ texts_below (station_shown r) (length r.stations)) ++ texts_below (entry_shown r) (length r.entries) ≡ show_text r
+pub whole_text : (r : PlainRecording) (line : List ℕ) → line ≡ counts_line r → (line ++ texts_below (station_shown r) (length r.setting.stations)) ++ texts_below (entry_shown r) (length r.entries) ≡ show_text r
 whole_text r line e = rw e refl
 
 -- what may have been read where a fault is told

@@ -2,8 +2,8 @@
 use Rattle.std.proofs.Common.{◌≡◌, ℕ, ◌+◌, ◌<◌, List, [], ◌++◌, cond, length, refl, sym, ap, ◌∙◌, subst, append_assoc}
 use Rattle.std.proofs.Math.Numerals.{add-one}
 use Rattle.std.proofs.lemmas.Bool.{lt-ltb}
-use Rattle.exercise_recording.specs.Recording.{PlainRecording}
-use Rattle.exercise_recording.specs.Account.{entities_of, states_of}
+use Rattle.exercise_model.specs.Recording.{PlainRecording}
+use Rattle.exercise_model.specs.Account.{entities_of, states_of}
 use Rattle.siman_console.specs.Report.{texts_below}
 
 pub texts_below-none : (text : ℕ → List ℕ) → texts_below text 0 ≡ []
@@ -24,7 +24,7 @@ pub line-of-same : {X : Type 0} (line : X → List ℕ) (old new : List ℕ) (gi
 line-of-same line old new given own step same = subst (λ x. new ≡ old ++ line x) same step
 
 -- the entities of a station that is there
-pub states_of-station : (r : PlainRecording) (s : ℕ) → s < length r.stations → states_of r s ≡ entities_of r s
-states_of-station r s within = ap (λ b. cond b (entities_of r s) []) (lt-ltb s (length r.stations) within)
+pub states_of-station : (r : PlainRecording) (s : ℕ) → s < length r.setting.stations → states_of r s ≡ entities_of r s
+states_of-station r s within = ap (λ b. cond b (entities_of r s) []) (lt-ltb s (length r.setting.stations) within)
 
 pub ruleset text_steps = (texts_below-more, texts_below-none)

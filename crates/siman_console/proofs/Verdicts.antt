@@ -3,12 +3,12 @@ use Rattle.std.proofs.Common.{◌≡◌, ℕ, List, Option, Bool, true, false, R
 use Rattle.std.specs.Prelude.{Some, None, IfSome}
 use Rattle.std.specs.Result.{IsErrAnd}
 use Rattle.std.specs.Io.KnownBytes.{Keeps}
-use Rattle.exercise_recording.specs.declared.cause.Cause.{Cause}
+use Rattle.exercise_model.specs.declared.cause.Cause.{Cause}
 use Rattle.exercise_recording.specs.declared.format_fault.FormatFault.TheVariants as recording_faults
 use Rattle.exercise_recording.specs.declared.format_fault.RecordingFault.{RecordingFault}
 use Rattle.exercise_recording.specs.declared.format_fault.RecordingFault.TheVariants as recordings
-use Rattle.exercise_recording.specs.Recording.{PlainRecording}
-use Rattle.exercise_recording.specs.Fields.{Fails}
+use Rattle.exercise_model.specs.Recording.{PlainRecording}
+use Rattle.byte_files.specs.Fields.{Fails}
 use Rattle.exercise_recording.specs.Reading as reading
 use Rattle.exercise_recording.specs.Reading.{recording_at}
 use Rattle.exercise_check.specs.declared.certificate.Step.{Step}

@@ -1,13 +1,13 @@
 -- What `check` says of a recording and a certificate, and how it ends.
 use Rattle.std.specs.Prelude.{◌≡◌, ◌≤◌, ◌⊎◌, ℕ, List, Bool, true, false, Option, Result, Ok, Err}
 use Rattle.std.specs.Io.KnownBytes.{Appends, Keeps}
-use Rattle.exercise_recording.specs.declared.cause.Cause.{Cause}
+use Rattle.exercise_model.specs.declared.cause.Cause.{Cause}
 use Rattle.exercise_recording.specs.declared.format_fault.FormatFault.{FormatFault}
 use Rattle.exercise_recording.specs.declared.format_fault.RecordingFault.{RecordingFault}
 use Rattle.exercise_recording.specs.declared.format_fault.RecordingFault.TheVariants as recordings
-use Rattle.exercise_recording.specs.Recording.{PlainRecording}
-use Rattle.exercise_recording.specs.Headline.{Holds}
-use Rattle.exercise_recording.specs.Writing.{WritesPart}
+use Rattle.exercise_model.specs.Recording.{PlainRecording}
+use Rattle.exercise_model.specs.Headline.{Holds}
+use Rattle.byte_files.specs.Writing.{WritesPart}
 use Rattle.exercise_check.specs.declared.certificate.Step.{Step}
 use Rattle.exercise_check.specs.declared.certificate_fault.CertificateFormatFault.{CertificateFormatFault}
 use Rattle.exercise_check.specs.declared.certificate_fault.CertificateFault.{CertificateFault}

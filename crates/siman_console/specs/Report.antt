@@ -4,12 +4,12 @@ use Rattle.std.specs.List.{flat_map}
 use Rattle.dis_records.specs.Address.{Pair}
 use Rattle.dis_records.specs.declared.entity_state.EntityState.{EntityState}
 use Rattle.dis_records.specs.declared.entity_state.EntityState.TheVariants as states
-use Rattle.exercise_recording.specs.declared.cause.Cause.{Cause}
-use Rattle.exercise_recording.specs.declared.cause.Cause.TheVariants as causes
-use Rattle.exercise_recording.specs.Recording.{PlainRecording}
-use Rattle.exercise_recording.specs.History.{station_at}
-use Rattle.exercise_recording.specs.Numbers.{cause_number}
-use Rattle.exercise_recording.specs.Account.{pair_of, change_behind, others_of, entities_of}
+use Rattle.exercise_model.specs.declared.cause.Cause.{Cause}
+use Rattle.exercise_model.specs.declared.cause.Cause.TheVariants as causes
+use Rattle.exercise_model.specs.Recording.{PlainRecording}
+use Rattle.exercise_model.specs.History.{station_at}
+use Rattle.exercise_model.specs.Numbers.{cause_number}
+use Rattle.exercise_model.specs.Account.{pair_of, change_behind, others_of, entities_of}
 use Rattle.siman_console.specs.Records.{line_end}
 
 abbrev pub state_text : EntityState → List ℕ
@@ -58,7 +58,7 @@ yes_line records others = codes "yes records=" ++ decimal records ++ codes " oth
 abbrev pub report_text : PlainRecording → List ℕ
 report_text r =
     yes_line (length r.entries) (others_of r) ++ texts_below (answer_at r) (length r.entries) ++ texts_below (known_at r) (length r.entries)
-    ++ texts_below (entities_at r) (length r.stations)
+    ++ texts_below (entities_at r) (length r.setting.stations)
 
 abbrev pub cause_text : Cause → List ℕ
 cause_text causes.CountDiffers = codes "count-differs"

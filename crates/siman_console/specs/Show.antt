@@ -8,12 +8,12 @@ use Rattle.siman_pdus.specs.declared.pdu.Pdu.{Pdu}
 use Rattle.exercise_recording.specs.declared.format_fault.FormatFault.{FormatFault}
 use Rattle.exercise_recording.specs.declared.format_fault.RecordingFault.{RecordingFault}
 use Rattle.exercise_recording.specs.declared.format_fault.RecordingFault.TheVariants as recordings
-use Rattle.exercise_recording.specs.Station.{StationData}
-use Rattle.exercise_recording.specs.Entry.{Entry, Sent, Received, Told}
-use Rattle.exercise_recording.specs.Recording.{PlainRecording}
-use Rattle.exercise_recording.specs.History.{station_at}
-use Rattle.exercise_recording.specs.Meaning.{meaning}
-use Rattle.exercise_recording.specs.Writing.{WritesPart}
+use Rattle.exercise_model.specs.Station.{StationData}
+use Rattle.exercise_model.specs.Entry.{Entry, Sent, Received, Told}
+use Rattle.exercise_model.specs.Recording.{PlainRecording}
+use Rattle.exercise_model.specs.History.{station_at}
+use Rattle.exercise_model.specs.Meaning.{meaning}
+use Rattle.byte_files.specs.Writing.{WritesPart}
 use Rattle.siman_console.specs.declared.show_fault.ShowFault.{ShowFault}
 use Rattle.siman_console.specs.declared.show_fault.ShowFault.TheVariants.{Recording, Output, Memory}
 use Rattle.siman_console.specs.Head.{head_text}
@@ -23,7 +23,7 @@ use Rattle.siman_console.specs.ShowFault.{show_fault_status}
 
 -- exercise=X stations=N records=N
 abbrev pub counts_line : PlainRecording → List ℕ
-counts_line r = codes "exercise=" ++ decimal r.exercise ++ codes " stations=" ++ decimal (length r.stations) ++ codes " records=" ++ decimal (length r.entries) ++ line_end
+counts_line r = codes "exercise=" ++ decimal r.setting.exercise ++ codes " stations=" ++ decimal (length r.setting.stations) ++ codes " records=" ++ decimal (length r.entries) ++ line_end
 
 -- station INDEX ADDRESS
 abbrev pub station_line : ℕ → StationData → List ℕ
@@ -56,11 +56,11 @@ abbrev pub station_shown : PlainRecording → ℕ → List ℕ
 station_shown r s = station_lines s (station_at r s)
 
 abbrev pub entry_shown : PlainRecording → ℕ → List ℕ
-entry_shown r i = option_map_or (entry_line r.exercise i) (slice_get r.entries i) []
+entry_shown r i = option_map_or (entry_line r.setting.exercise i) (slice_get r.entries i) []
 
 -- THE TEXT OF A RECORDING: its head, its stations with what they open with, and its entries, both by rising numbers
 abbrev pub show_text : PlainRecording → List ℕ
-show_text r = counts_line r ++ texts_below (station_shown r) (length r.stations) ++ texts_below (entry_shown r) (length r.entries)
+show_text r = counts_line r ++ texts_below (station_shown r) (length r.setting.stations) ++ texts_below (entry_shown r) (length r.entries)
 
 -- Of a text all is out behind what was there but what is still held, which is its end.
 abbrev pub IsPassedOn : Option (List ℕ) → Option (List ℕ) → (held text : List ℕ) → Type 0

@@ -9,8 +9,8 @@ ghost use Rattle.siman_console.specs.Check.{Recorded, Certified, Judges, check_s
 use crate::files_fault::FilesFault;
 use crate::report::{no_line, report_text};
 use crate::show::LARGEST_RECORDING;
+use byte_files::put;
 use exercise_check::{Certificate, CheckFault, check, read_certificate};
-use exercise_recording::output::put;
 use exercise_recording::{ExerciseLog, read_recording};
 use std::alloc::Global;
 use std::io::{Read, Write};

@@ -9,7 +9,7 @@ use crate::answer::Answer;
 use crate::fault::CommandFault;
 use crate::hex_text::{LONGEST, hex_bytes};
 use crate::input::read_text;
-use exercise_recording::output::put;
+use byte_files::put;
 use std::alloc::Global;
 use std::io::{Read, Write};
 

@@ -9,7 +9,7 @@ use Rattle.dis_records.specs.declared.datum.FixedDatum.{FixedDatum}
 use Rattle.dis_records.specs.Layout.{StandAt, size, total, number_at}
 use Rattle.dis_records.specs.Datum.{Datum, canonical, fixed_layouts, variable_layouts, id_layouts}
 use Rattle.dis_records.specs.Records.{fixed_at, variable_at, variable_sizes, ids_at}
-use Rattle.dis_records.proofs.Layouts.{size-append, join, split, size-fixed_layouts, length-fixed_at, fixed_stand, fixed_is, length-variable_at, variable_stand, variable_is, size-id_layouts, length-ids_at, ids_stand, ids_are}
+use Rattle.dis_records.proofs.Offered.{size-append, join, split, size-fixed_layouts, length-fixed_at, fixed_stand, fixed_is, length-variable_at, variable_stand, variable_is, size-id_layouts, length-ids_at, ids_stand, ids_are}
 use Rattle.siman_pdus.specs.DatumLists.{DatumLists, IdLists}
 use Rattle.siman_pdus.specs.declared.pdu.Body.{Body}
 use Rattle.siman_pdus.specs.declared.pdu.Body.TheVariants.{CreateEntity, RemoveEntity, StartResume, StopFreeze, Acknowledge, ActionRequest, ActionResponse, DataQuery, SetData, DataPdu, EventReport, Comment}

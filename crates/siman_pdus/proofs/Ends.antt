@@ -5,7 +5,7 @@ use Rattle.std.specs.Int.{w32}
 use Rattle.dis_records.specs.Layout.{number_at, total}
 use Rattle.dis_records.specs.Datum.{padded}
 use Rattle.dis_records.specs.Records.{variable_sizes}
-use Rattle.dis_records.proofs.Lists.{sizes_more}
+use Rattle.dis_records.proofs.Offered.{sizes_more}
 use Rattle.siman_pdus.specs.declared.fault.PduFault.{PduFault}
 use Rattle.dis_records.specs.declared.kind.Kind.{Kind}
 use Rattle.siman_pdus.specs.Shape.{ends, judged, part_sizes, body_refusal, IsWhole}

@@ -1,6 +1,10 @@
-pub mod Ends
-pub mod Values
-pub mod Texts
-pub mod Bodies
-pub mod Spellings
-pub mod Same
+mod Ends
+mod Values
+mod Texts
+mod Bodies
+mod Spellings
+mod Same
+mod Types
+mod Carried
+mod ReadRanges
+pub mod Offered

@@ -11,8 +11,7 @@ use Rattle.dis_records.specs.Header.{IsHeader, header_at, header_refusal}
 use Rattle.dis_records.specs.Entity.{entity_at}
 use Rattle.dis_records.specs.Kind.{kind_code}
 use Rattle.dis_records.specs.declared.header.HeaderFault.{HeaderFault}
-use Rattle.dis_records.proofs.Written.{length-text, text_spells, number_at-append}
-use Rattle.dis_records.proofs.Headers.{header_is, header_reads, header_stands}
+use Rattle.dis_records.proofs.Offered.{length-text, text_spells, number_at-append, header_is, header_reads, header_stands}
 use Rattle.siman_pdus.specs.declared.fault.PduFault.{PduFault}
 use Rattle.siman_pdus.specs.declared.fault.PduFault.TheVariants as faults
 use Rattle.siman_pdus.specs.declared.pdu.Body.{Body}
@@ -32,7 +31,7 @@ pub body_refused : (b : List ℕ) (header : Header) (refusal : Option PduFault) 
 body_refused b header refusal e is body = ap (λ (o : Option HeaderFault). first_refusal o (body_refusal (header_at b).kind b)) e ∙ ap (λ (h : Header). body_refusal h.kind b) (sym is) ∙ body
 
 -- what is not refused has a header and a body that are not
-not_refused_parts : (head : Option HeaderFault) (body : Option PduFault) → first_refusal head body ≡ None → (head ≡ None) × (body ≡ None)
+pub not_refused_parts : (head : Option HeaderFault) (body : Option PduFault) → first_refusal head body ≡ None → (head ≡ None) × (body ≡ None)
 not_refused_parts None body e = (refl, e)
 not_refused_parts (Some fault) body e = absurd cc
 
@@ -97,7 +96,7 @@ reading_is p b spells =
     let read = spelled_read p b spells in
     ap (λ (o : Option PduFault). unless_refused o (pdu_from (header_at b) b)) read.passes ∙ ap (λ (q : Pdu). Some q) (sym read.is)
 
-passed : (refusal : Option PduFault) (q p : Pdu) → unless_refused refusal q ≡ Some p → (refusal ≡ None) × (q ≡ p)
+pub passed : (refusal : Option PduFault) (q p : Pdu) → unless_refused refusal q ≡ Some p → (refusal ≡ None) × (q ≡ p)
 passed None q p e = (refl, cc)
 passed (Some fault) q p e = absurd cc
 

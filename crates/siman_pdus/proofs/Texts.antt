@@ -6,9 +6,9 @@ use Rattle.siman_pdus.specs.Writing.{Puts}
 use Rattle.dis_records.specs.declared.datum.FixedDatum.{FixedDatum}
 use Rattle.dis_records.specs.Layout.{Field, Number, FieldFits, Fit, size, text}
 use Rattle.std.specs.Int.{w16, w32}
-use Rattle.dis_records.proofs.Written as dis
+use Rattle.dis_records.proofs.Offered as dis
 use Rattle.dis_records.specs.Datum.{Datum, fixed_layouts, variable_layouts, id_layouts}
-use Rattle.dis_records.proofs.Layouts.{size-append, text-append, size-fixed_layouts, size-id_layouts}
+use Rattle.dis_records.proofs.Offered.{size-append, text-append, size-fixed_layouts, size-id_layouts}
 
 pub text_join : (fs gs : List Field) → text (fs ++ gs) ≡ text fs ++ text gs
 text_join fs gs = text-append fs gs

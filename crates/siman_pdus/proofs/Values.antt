@@ -3,7 +3,7 @@ use Rattle.std.proofs.Common.{◌≡◌, ℕ, ◌-◌, ◌<◌, List, [], ◌∷
 use Rattle.std.specs.Prelude.{Option, Some, IsSome, slice_get}
 use Rattle.std.proofs.lemmas.Option.{slice_get-get_or}
 use Rattle.dis_records.specs.Layout.{bytes_for, cleared}
-use Rattle.dis_records.proofs.Cleared.{cleared_is, cleared_end}
+use Rattle.dis_records.proofs.Offered.{cleared_is, cleared_end}
 use Rattle.siman_pdus.specs.Reading.{with_last}
 
 pub last_makes_cleared : (bits : ℕ) (bytes : List ℕ) → length bytes ≡ bytes_for bits → with_last (slice_get (cleared bits bytes) (length bytes - 1)) bytes ≡ cleared bits bytes

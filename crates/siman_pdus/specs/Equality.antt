@@ -7,7 +7,7 @@ use Rattle.std.specs.Cmp.Lexicographic.{pointwise, pointwise_decides, bytes_deci
 use Rattle.std.proofs.lemmas.Bool.Decides.{Decides-and, Decides-eqb, Decides-like}
 use Rattle.dis_records.specs.declared.datum.FixedDatum.{FixedDatum}
 use Rattle.dis_records.specs.Datum.{same_datum}
-use Rattle.dis_records.proofs.Equality.{exact_equivalence, datum_decides}
+use Rattle.dis_records.proofs.Offered.{exact_equivalence, datum_decides}
 use Rattle.siman_pdus.specs.DatumLists.{DatumLists, IdLists, same_fixed, same_datums, same_ids}
 
 same_fixed_fields : (d e : FixedDatum) → d.id ≡ e.id → d.value ≡ e.value → d ≡ e

@@ -4,6 +4,7 @@ pub mod Same
 pub mod Spelling
 pub mod Shape
 pub mod Reading
+pub mod Ranges
 pub mod Writing
 pub mod Role
 pub mod Answers

@@ -9,6 +9,7 @@ ghost use Rattle.dis_records.specs.Header.{header_at};
 ghost use Rattle.dis_records.specs.Records.{shown};
 ghost use Rattle.siman_pdus.specs.declared.pdu.Pdu.{Pdu};
 ghost use Rattle.siman_pdus.specs.Spelling.{Spells};
+ghost use Rattle.siman_pdus.specs.Ranges.{IsInRange};
 ghost use Rattle.siman_pdus.specs.Shape.{IsWhole};
 ghost use Rattle.siman_pdus.specs.Reading.{datums_at, id_lists_at, body_at, pdu_from, refusal_of, reading, with_last, DatumsFit, IdsFit};
 
@@ -192,6 +193,8 @@ pub fn decode(alloc: Global, bytes: &[u8]) -> Result<Pdu, PduFault>
     ensures spelled { IfOk result (λ pdu. Spells pdu bytes.now) }
     // What is spelled so is read, unless memory runs out: so a refused datagram spells no PDU.
     ensures only { (pdu : Pdu) → Spells pdu bytes.now → (result ≡ Ok pdu) ⊎ (result ≡ Err PduFault.Memory) }
+    // What is read is in its ranges.
+    ensures in_range { IfOk result IsInRange }
     // A refusal for another cause is the first that holds.
     ensures refused { IfErr result (λ fault. (fault ≡ PduFault.Memory) ⊎ (refusal_of bytes.now ≡ Some fault)) }
     // Unless memory runs out, it answers the reading of the datagram.

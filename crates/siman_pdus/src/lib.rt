@@ -13,6 +13,7 @@ mod exchange;
 mod fault;
 mod order;
 mod pdu;
+mod ranges;
 mod roles;
 mod shape;
 mod size;
@@ -24,6 +25,7 @@ pub use exchange::{request_id, role};
 pub use fault::{EncodeFault, PduFault};
 pub use order::{answers, same_order, same_pdu};
 pub use pdu::{ABLE, Body, Pdu, UNABLE};
+pub use ranges::{datums_are_in_range, numbers_are_in_range, ranges_and_texts_agree};
 pub use roles::Role;
 pub use size::encoded_size;
 

@@ -2,7 +2,7 @@
 
 use crate::{Certificate, CheckFault, Checked, Step, check};
 use dis_records::{Address, EntityState};
-use exercise_recording::{LogEntry, Recording, Station};
+use exercise_model::{LogEntry, Recording, Station};
 use std::alloc::Global;
 use std::test::Fail;
 

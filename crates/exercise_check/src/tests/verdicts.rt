@@ -6,7 +6,7 @@ use crate::tests::scenes::*;
 use crate::{CheckFault, Checked, NO_LINK as N};
 use dis_records::EntityState;
 use dis_records::EntityState::{Running, Stopped};
-use exercise_recording::{Cause, Recording};
+use exercise_model::{Cause, Recording};
 use std::alloc::Global;
 use std::test::Fail;
 

@@ -1,40 +1,52 @@
-use Rattle.std.proofs.Common.{◌≡◌, ◌++◌, ◌∷◌, [], ◌<◌, ◌≤◌, arith, length, subst, sym, ◌∙◌, ⊎_elim, None}
-use Rattle.std.proofs.lemmas.Grind.{common_steps}
-use Rattle.std.proofs.lemmas.Bool.{true≢false, cases_lt}
-use Rattle.exercise_check.specs.Order.{order_of}
-use Rattle.exercise_check.specs.Goodness.{step_cause, GoodBelow}
-use Rattle.exercise_check.proofs.Goodness.{good_push}
+use Rattle.std.proofs.Common.{ℕ, ◌+◌, ◌<◌, ◌≤◌, length, arith, sym, ◌∙◌, subst, rules}
+use Rattle.std.proofs.lemmas.Bool.{true≢false}
+use borrow.Author.Count.{below_more}
+use Rattle.exercise_check.specs.Course.{CourseData, so_far}
 use Rattle.exercise_audit.specs.Audit.{IsHeld}
 use Rattle.exercise_audit.proofs.sweeps.sweep.Goals as goal
-use Rattle.exercise_audit.proofs.sweeps.sweep.Goals.{in-Some+in_ok-push, in_default}
+use Rattle.exercise_audit.proofs.sweeps.sweep.Goals.{then-branch, else-branch}
+
+pub loop-station-init : goal.loop-station-init
+loop-station-init g c = record {
+  recording = search rules;
+  longer = λ on. absurd (cc);
+  shortest = omega arith;
+  held = λ _ s l. absurd (omega arith);
+}
+
+pub returns-in_err-let_go_on-clause-recording : goal.returns-in_err-let_go_on-clause-recording
+returns-in_err-let_go_on-clause-recording g c = c.let_go_on.ensures.recording ∙ c.loop-station.invariant.recording
 
 pub loop-station-preserved : goal.loop-station-preserved
 loop-station-preserved g c =
-    let r = g.L.ExerciseLog.recording c.args.log.now in
-    elim c.match-found.branch [
-      | in-Some+in_ok-push w ↦
-          let items : c.match-found.steps.items ≡ c.loop-station.steps.items ++ w.in-Some.step ∷ [] = first_of (cc, grind (arith, common_steps)) in
-          let fine : step_cause r c.loop-station.steps.items w.in-Some.step ≡ None = rw c.as_slice.ensures.value at (rw w.in-Some.is at c.in_ok-found.ensures.good) in
+    let recording = c.let_go_on.ensures.recording ∙ c.loop-station.invariant.recording in
+    elim c.if-branch.branch [
+      | then-branch w ↦
+          let more : length c.loop-station.course.steps < length c.let_go_on.new.course.steps = c.in_ok-let_go_on.ensures.longer w.if-branch.true in
           record {
-            good = subst (λ ys. GoodBelow r ys (length ys)) (sym items) (good_push r c.loop-station.steps.items w.in-Some.step c.loop-station.invariant.good fine);
-            longer = λ _. grind (arith, common_steps, items);
-            shortest = grind (arith, common_steps, items);
+            recording = recording;
+            longer = λ _. omega (arith, more, c.loop-station.invariant.shortest);
+            shortest = omega (arith, more, c.loop-station.invariant.shortest);
             held = λ off. absurd (true≢false (sym w.more-is ∙ off));
           }
-      | in_default w ↦
-          let items : c.match-found.steps.items ≡ c.loop-station.steps.items = first_of (cc, grind (arith, common_steps)) in
-          let more : c.match-found.more ≡ c.loop-station.more = w.more-is in
-          let here : IsHeld r (order_of r c.loop-station.steps.items) c.loop-station.station = rw c.as_slice.ensures.value at (rw w.in_default.is at c.in_ok-found.ensures.held) in
+      | else-branch w ↦
+          let same = c.in_ok-let_go_on.ensures.same w.if-branch.false in
+          let here = c.in_ok-let_go_on.ensures.held w.if-branch.false in
+          let Held : CourseData → ℕ → Type 0 = λ v s. IsHeld v.recording (so_far v) s in
           record {
-            good = subst (λ ys. GoodBelow r ys (length ys)) (sym items) c.loop-station.invariant.good;
-            longer = λ on. rw items (c.loop-station.invariant.longer (sym more ∙ on));
-            shortest = rw items c.loop-station.invariant.shortest;
-            held = λ off s l. ⊎_elim
-                (λ (below : s < c.loop-station.station). subst (λ ys. IsHeld r (order_of r ys) s) (sym items) (c.loop-station.invariant.held (sym more ∙ off) s below))
-                (λ (at : c.loop-station.station ≤ s). let same : c.loop-station.station ≡ s = omega arith in subst (λ ys. IsHeld r (order_of r ys) s) (sym items) (subst (IsHeld r (order_of r c.loop-station.steps.items)) same here))
-                (cases_lt s c.loop-station.station);
+            recording = recording;
+            longer = λ on. subst (λ (v : CourseData). length c.args.course.now.steps < length v.steps) (sym same) (c.loop-station.invariant.longer (sym w.more-is ∙ on));
+            shortest = subst (λ (v : CourseData). length c.args.course.now.steps ≤ length v.steps) (sym same) c.loop-station.invariant.shortest;
+            held = λ off. subst (λ v. (s : ℕ) → s < c.loop-station.station + 1 → Held v s) (sym same)
+                (below_more (Held c.loop-station.course) c.loop-station.station (c.loop-station.invariant.held (sym w.more-is ∙ off)) here);
           }
     ]
 
+pub returns-clause-recording : goal.returns-clause-recording
+returns-clause-recording g c = c.loop-station.invariant.recording
+
+pub returns-clause-longer : goal.returns-clause-longer
+returns-clause-longer g c = c.loop-station.invariant.longer
+
 pub returns-clause-stuck : goal.returns-clause-stuck
-returns-clause-stuck g c off s l = c.loop-station.invariant.held off s (omega (arith, c.loop-station-test.false, c.station_count-station-end.ensures.count))
+returns-clause-stuck g c off s l = c.loop-station.invariant.held off s (omega (arith, l, c.loop-station-test.false))

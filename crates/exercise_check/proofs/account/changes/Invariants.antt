@@ -1,5 +1,5 @@
 use Rattle.std.proofs.Common.{◌≡◌}
-use Rattle.exercise_recording.specs.Account.{change_behind, values_below}
+use Rattle.exercise_model.specs.Account.{change_behind, values_below}
 use Rattle.exercise_check.proofs.account.changes.Given as goal
 
 abbrev pub invariant-loop-entry : goal.invariant-loop-entry

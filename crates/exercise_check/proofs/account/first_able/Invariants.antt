@@ -1,7 +1,7 @@
 use Rattle.std.proofs.Common.{◌≡◌}
 use Rattle.std.specs.Prelude.{IfSome, ◌<◌}
-use Rattle.exercise_recording.specs.Place.{first_below}
-use Rattle.exercise_recording.specs.Account.{sends_able}
+use Rattle.exercise_model.specs.Place.{first_below}
+use Rattle.exercise_model.specs.Account.{sends_able}
 use Rattle.exercise_check.proofs.account.first_able.Given as goal
 
 abbrev pub invariant-loop-entry : goal.invariant-loop-entry

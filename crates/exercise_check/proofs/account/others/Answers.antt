@@ -1,7 +1,7 @@
 use Rattle.std.proofs.Common.{◌≡◌, ℕ, ◌≤◌, cond, Bool, true, false, ap, ◌∙◌, arith}
-use Rattle.exercise_recording.specs.Held.{shown}
-use Rattle.exercise_recording.specs.Account.{is_other}
-use Rattle.exercise_recording.proofs.Accounts.{others-more}
+use Rattle.exercise_model.specs.Held.{shown}
+use Rattle.exercise_model.specs.Account.{is_other}
+use Rattle.exercise_model.proofs.Offered.{others-more}
 use Rattle.exercise_check.proofs.account.others.Goals as goal
 
 at_most_one : (b : Bool) → cond {A = ℕ} b 1 0 ≤ 1
@@ -12,9 +12,9 @@ pub loop-i-preserved : goal.loop-i-preserved
 loop-i-preserved g c =
     let r = g.L.ExerciseLog.recording c.args.log.now in
     let e = shown c.entry.result in
-    let one : c.in_ok-others.field-0 ≡ cond {A = ℕ} (is_other r.exercise e) 1 0 = c.in_ok-others.ensures ∙ ap (λ x. cond {A = ℕ} (is_other x e) 1 0) c.exercise.ensures in
-    let more = others-more r.exercise r.entries c.loop-i.i e c.entry.ensures.entry in
+    let one : c.in_ok-others.field-0 ≡ cond {A = ℕ} (is_other r.setting.exercise e) 1 0 = c.in_ok-others.ensures ∙ ap (λ x. cond {A = ℕ} (is_other x e) 1 0) c.exercise.ensures in
+    let more = others-more r.setting.exercise r.entries c.loop-i.i e c.entry.ensures.entry in
     record {
       count = omega (arith, one, more, c.loop-i.invariant.count);
-      few = omega (arith, one, at_most_one (is_other r.exercise e), c.loop-i.invariant.few);
+      few = omega (arith, one, at_most_one (is_other r.setting.exercise e), c.loop-i.invariant.few);
     }

@@ -1,5 +1,5 @@
 use Rattle.std.proofs.Common.{◌≡◌}
-use Rattle.exercise_recording.specs.Account.{pair_of, values_below}
+use Rattle.exercise_model.specs.Account.{pair_of, values_below}
 use Rattle.exercise_check.proofs.account.pairs.Given as goal
 
 abbrev pub invariant-loop-entry : goal.invariant-loop-entry

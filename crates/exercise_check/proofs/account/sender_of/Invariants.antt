@@ -1,7 +1,7 @@
 use Rattle.std.proofs.Common.{◌≡◌}
-use Rattle.exercise_recording.specs.History.{station_at}
-use Rattle.exercise_recording.specs.Setting.{is_from}
-use Rattle.exercise_recording.specs.Place.{first_below}
+use Rattle.exercise_model.specs.History.{station_at}
+use Rattle.exercise_model.specs.Setting.{is_from}
+use Rattle.exercise_model.specs.Place.{first_below}
 use Rattle.exercise_check.proofs.account.sender_of.Given as goal
 
 abbrev pub invariant-loop-station : goal.invariant-loop-station

@@ -1,7 +1,7 @@
 use Rattle.std.proofs.Common.{[], ◌∷◌, ◌++◌, map, ap, sym, ◌∙◌}
 use Rattle.std.proofs.lemmas.List.{map-append}
-use Rattle.exercise_recording.specs.Account.{entities_of, values_below}
-use Rattle.exercise_recording.proofs.Accounts.{values_below-more}
+use Rattle.exercise_model.specs.Account.{entities_of, values_below}
+use Rattle.exercise_model.proofs.Offered.{values_below-more}
 use Rattle.exercise_check.proofs.account.states.Goals as goal
 
 pub loop-station-preserved : goal.loop-station-preserved

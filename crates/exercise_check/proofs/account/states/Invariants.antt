@@ -1,5 +1,5 @@
 use Rattle.std.proofs.Common.{◌≡◌, map}
-use Rattle.exercise_recording.specs.Account.{entities_of, values_below}
+use Rattle.exercise_model.specs.Account.{entities_of, values_below}
 use Rattle.exercise_check.proofs.account.states.Given as goal
 
 abbrev pub invariant-loop-station : goal.invariant-loop-station

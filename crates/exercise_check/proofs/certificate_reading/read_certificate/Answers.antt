@@ -1,20 +1,30 @@
-use Rattle.std.proofs.Common.{◌≡◌, ◌+◌, ◌*◌, Option, ap, subst, ◌∙◌}
-use Rattle.std.specs.Prelude.{IfSome}
-use Rattle.std.specs.Io.Buffered.{reader_remaining}
-use Rattle.std.proofs.KnownBytes.{prepend_known-nil}
-use Rattle.exercise_recording.specs.Fields.{Input, known}
-use Rattle.exercise_recording.proofs.Fields.{at_start}
-use Rattle.exercise_check.specs.Certificate.{steps_of, Answers, whole_at, certificate_at}
+use Rattle.std.proofs.Common.{◌≡◌, ◌+◌, ◌*◌, ℕ, List, Option, Some, None, Result, Ok, Err, subst}
+use Rattle.std.specs.Prelude.{IfSome, IfOk, OnOk}
+use Rattle.byte_files.specs.Fields.{Input, known, AreBytes}
+use Rattle.byte_files.proofs.Offered.{at_start}
+use Rattle.exercise_check.specs.declared.certificate.Certificate.{Certificate}
+use Rattle.exercise_check.specs.declared.certificate_fault.CertificateFault.{CertificateFault}
+use Rattle.exercise_check.specs.Certificate.{certificate_text, steps_of, Answers, whole_at, certificate_at}
+use Rattle.exercise_check.proofs.Texts.{whole_takes}
 use Rattle.exercise_check.proofs.certificate_reading.read_certificate.Goals as goal
+
+-- What was read, where only bytes were taken, is the text of the certificate.
+text_read : (n most : ℕ) (o : Option (List ℕ)) (result : Result Certificate CertificateFault) → IfSome (known most 0 o) (λ i. Answers steps_of result (whole_at n i)) → OnOk result (AreBytes (known most 0 o))
+    → IfSome o (λ bytes. IfOk result (λ c. bytes ≡ certificate_text c.steps.items))
+text_read n most None result read taken = tt
+text_read n most (Some bytes) (Err e) read taken = tt
+text_read n most (Some bytes) (Ok c) read taken = (whole_takes n (record { limit = most; at = 0; bytes = bytes }) c.steps.items taken read).text
 
 pub returns-clause-read : goal.returns-clause-read
 unfolding certificate_at
 returns-clause-read g c =
-    let remaining = g.R.Read.remaining in
-    let b = c.in-Ok.buffered in
     let n = c.args.limit in
-    let fresh : reader_remaining remaining b ≡ remaining c.args.reader =
-    rw (c.in-Ok.ensures.capacity, c.in-Ok.ensures.empty) (prepend_known-nil (remaining b.inner) ∙ ap remaining c.in-Ok.ensures.inner) in
-    let start : c.new-source.result ≡ known (12 + 8 * n) 0 (remaining c.args.reader) = c.new-source.ensures ∙ ap (known (12 + 8 * n) 0) fresh in
     let Reads : Input → Type 0 = λ input. Answers steps_of c.read_whole.result (whole_at n input) in
-    at_start (12 + 8 * n) (remaining c.args.reader) Reads (subst (λ (o : Option Input). IfSome o Reads) start c.read_whole.ensures.whole)
+    at_start (12 + 8 * n) (g.R.Read.remaining c.args.reader) Reads (subst (λ (o : Option Input). IfSome o Reads) c.in_ok-source.ensures c.read_whole.ensures.whole)
+
+pub returns-clause-text : goal.returns-clause-text
+returns-clause-text g c =
+    let n = c.args.limit in
+    let Whole : Option Input → Type 0 = λ o. IfSome o (λ i. Answers steps_of c.read_whole.result (whole_at n i)) in
+    let Taken : Option Input → Type 0 = λ o. OnOk c.read_whole.result (AreBytes o) in
+    text_read n (12 + 8 * n) (g.R.Read.remaining c.args.reader) c.read_whole.result (subst Whole c.in_ok-source.ensures c.read_whole.ensures.whole) (subst Taken c.in_ok-source.ensures c.read_whole.ensures.taken)

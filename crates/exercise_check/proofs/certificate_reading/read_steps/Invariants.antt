@@ -1,10 +1,14 @@
-use Rattle.std.proofs.Common.{◌≡◌, ◌-◌, length}
-use Rattle.exercise_recording.proofs.Repeats.{SoFar}
-use Rattle.exercise_check.specs.Certificate.{steps_at}
+use Rattle.std.proofs.Common.{◌≡◌, ◌-◌, true, length}
+use Rattle.std.specs.List.{list_all}
+use Rattle.byte_files.specs.Fields.{TakesBytes}
+use Rattle.byte_files.proofs.Offered.{SoFar}
+use Rattle.exercise_check.specs.Certificate.{is_step, steps_at}
 use Rattle.exercise_check.proofs.certificate_reading.read_steps.Given as goal
 
 abbrev pub invariant-loop : goal.invariant-loop
 invariant-loop g l = record {
+  taken : TakesBytes l.fn.source l.source;
   read : SoFar l.fn.source l.source l.steps.items (steps_at (l.count - l.counter)) (steps_at l.count);
+  each : list_all is_step l.steps.items ≡ true;
   count : length l.steps.items ≡ l.counter;
 }

@@ -1,8 +1,8 @@
 use Rattle.std.proofs.Common.{length, subst}
 use Rattle.std.specs.List.{flat_map}
 use Rattle.std.specs.Io.KnownBytes.{Appends}
-use Rattle.exercise_recording.specs.Writing.{WritesPart}
-use Rattle.exercise_recording.proofs.Writes.{writes_then, writes_part, at_error}
+use Rattle.byte_files.specs.Writing.{WritesPart}
+use Rattle.byte_files.proofs.Offered.{writes_then, writes_part, at_error}
 use Rattle.exercise_check.specs.Certificate.{step_text, head_text}
 use Rattle.exercise_check.proofs.certificate_text.put_certificate.Goals as goal
 

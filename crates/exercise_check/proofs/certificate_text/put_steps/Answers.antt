@@ -1,6 +1,6 @@
 use Rattle.std.proofs.Common.{get_or, refl, subst}
-use Rattle.exercise_recording.specs.Writing.{WritesPart}
-use Rattle.exercise_recording.proofs.Writes.{next_fails, at_error}
+use Rattle.byte_files.specs.Writing.{WritesPart}
+use Rattle.byte_files.proofs.Offered.{next_fails, at_error}
 use Rattle.exercise_check.specs.declared.certificate.Step.{Step}
 use Rattle.exercise_check.specs.Certificate.{step_text}
 use Rattle.exercise_check.proofs.certificate_text.put_steps.Goals as goal

@@ -1,7 +1,7 @@
 use Rattle.std.proofs.Common.{ℕ, ◌<◌, set, length, ap, ◌∙◌, arith}
 use Rattle.std.proofs.lemmas.List.Edits.{map_over_more}
 use Rattle.dis_records.specs.declared.entity_state.EntityState.{EntityState}
-use Rattle.exercise_recording.specs.State.{changed}
+use Rattle.exercise_model.specs.State.{changed}
 use Rattle.siman_application.proofs.entity_list.change_each.Goals as goal
 
 pub loop-place-preserved : goal.loop-place-preserved

@@ -1,6 +1,6 @@
 use Rattle.std.proofs.Common.{arith, ap}
 use Rattle.dis_records.specs.declared.entity_state.EntityState.TheVariants.{Absent}
-use Rattle.exercise_recording.specs.Station.{listed_state}
+use Rattle.exercise_model.specs.Station.{listed_state}
 use Rattle.std.proofs.lemmas.List.{drop_all}
 use Rattle.siman_application.specs.Listed.{Entities}
 use Rattle.siman_application.proofs.Numbers.{least_start, least_more, least_gap, least_found, head_at}

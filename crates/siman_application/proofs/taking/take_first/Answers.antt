@@ -27,7 +27,7 @@ kept c =
 pub returns-clause-right : goal.returns-clause-right
 returns-clause-right c =
     right_more c.args.outfit.now c.args.kept.now c.keep-place.new.kept c.args.entities.now c.obey.new.self c.args.datums.now c.put_in_place.new.datums c.args.key c.args.pdu.now c.in_ok-outcome.outcome.answer c.args.stamp
-    c.requires.right c.requires.own c.requires.key c.requires.first c.look_at.ensures c.look_at_station.ensures c.in_ok-outcome.ensures.answer (kept c) c.in_ok-obey.ensures.ok
+    c.requires.right c.requires.own c.requires.key c.requires.first c.numbers_are_in_range.ensures c.in_ok-outcome.ensures.answer (kept c) c.in_ok-obey.ensures.ok
     (λ xs. ap (λ (d : DatumLists). knows xs d) c.put_in_place.ensures ∙ c.in_ok-outcome.ensures.datums xs)
 
 pub returns-clause-came : goal.returns-clause-came

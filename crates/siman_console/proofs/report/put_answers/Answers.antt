@@ -1,6 +1,6 @@
 -- One more line, where the place has one.
 use Rattle.std.proofs.Common.{◌++◌, string_bytes, sym, ap, ◌∙◌, append-nil}
-use Rattle.exercise_recording.specs.Account.{pair_of}
+use Rattle.exercise_model.specs.Account.{pair_of}
 use Rattle.siman_console.specs.Report.{answer_line, line_with, answer_at}
 use Rattle.siman_console.proofs.Texts.{texts_below-none, texts-with-next, line-of-same}
 use Rattle.siman_console.proofs.report.put_answers.Goals as goal

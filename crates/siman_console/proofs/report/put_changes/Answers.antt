@@ -1,6 +1,6 @@
 -- One more line, where the place has one.
 use Rattle.std.proofs.Common.{◌++◌, string_bytes, sym, ap, ◌∙◌, append-nil}
-use Rattle.exercise_recording.specs.Account.{change_behind}
+use Rattle.exercise_model.specs.Account.{change_behind}
 use Rattle.siman_console.specs.Report.{known_line, line_with, known_at}
 use Rattle.siman_console.proofs.Texts.{texts_below-none, texts-with-next, line-of-same}
 use Rattle.siman_console.proofs.report.put_changes.Goals as goal

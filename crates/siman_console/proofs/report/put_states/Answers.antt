@@ -1,8 +1,8 @@
 -- The lines of one more station.
 use Rattle.std.proofs.Common.{◌<◌, ◌++◌, length, string_bytes, sym, ap, ◌∙◌, append-nil, arith}
 use Rattle.std.specs.List.{flat_map}
-use Rattle.exercise_recording.specs.History.{station_at}
-use Rattle.exercise_recording.specs.Account.{entities_of}
+use Rattle.exercise_model.specs.History.{station_at}
+use Rattle.exercise_model.specs.Account.{entities_of}
 use Rattle.siman_console.specs.Report.{entity_line, entities_at}
 use Rattle.siman_console.proofs.Texts.{texts_below-none, texts-with-next, states_of-station, line-of-same}
 use Rattle.siman_console.proofs.report.put_states.Goals as goal
@@ -17,7 +17,7 @@ pub loop-station-preserved : goal.loop-station-preserved
 loop-station-preserved g c =
     let r = g.L.ExerciseLog.recording c.args.log.now in
     let s = c.loop-station.station in
-    let within : s < length r.stations = omega (arith, c.loop-station-test.true, c.station_count-station-end.ensures.count) in
+    let within : s < length r.setting.stations = omega (arith, c.loop-station-test.true, c.station_count-station-end.ensures.count) in
     let old = string_bytes c.loop-station.text in
     let own = c.states.ensures ∙ c.requires.states s ∙ states_of-station r s within in
     let at = c.address.ensures.address ∙ ap (λ o. o.address) c.station.ensures in

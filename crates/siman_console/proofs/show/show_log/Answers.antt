@@ -10,7 +10,7 @@ use Rattle.siman_console.proofs.show.show_log.Goals as goal
 pub returns-in_err-show_stations : goal.returns-in_err-show_stations
 returns-in_err-show_stations g c =
     let r = g.L.ExerciseLog.recording c.args.log.now in
-    let stations = texts_below (station_shown r) (length r.stations) in
+    let stations = texts_below (station_shown r) (length r.setting.stations) in
     let entries = texts_below (entry_shown r) (length r.entries) in
     let result = c.from_residual-in_err-show_stations.result in
     let whole = whole_text r (string_bytes c.in_ok-lines.lines) c.in_ok-lines.ensures in
@@ -19,7 +19,7 @@ returns-in_err-show_stations g c =
 pub returns-in_err-show_entries : goal.returns-in_err-show_entries
 returns-in_err-show_entries g c =
     let r = g.L.ExerciseLog.recording c.args.log.now in
-    let stations = texts_below (station_shown r) (length r.stations) in
+    let stations = texts_below (station_shown r) (length r.setting.stations) in
     let entries = texts_below (entry_shown r) (length r.entries) in
     let result = c.from_residual-in_err-show_entries.result in
     let whole = whole_text r (string_bytes c.in_ok-lines.lines) c.in_ok-lines.ensures in
@@ -29,7 +29,7 @@ returns-in_err-show_entries g c =
 pub returns : goal.returns
 returns g c =
     let r = g.L.ExerciseLog.recording c.args.log.now in
-    let stations = texts_below (station_shown r) (length r.stations) in
+    let stations = texts_below (station_shown r) (length r.setting.stations) in
     let entries = texts_below (entry_shown r) (length r.entries) in
     let whole = whole_text r (string_bytes c.in_ok-lines.lines) c.in_ok-lines.ensures in
     let passed = passed-then _ _ _ _ (string_bytes c.in_ok-lines.lines ++ stations) entries _ c.in_ok-show_stations.ensures c.in_ok-show_entries.ensures in

@@ -3,7 +3,7 @@ use Rattle.std.specs.Prelude.{Option, IfOk, Ok, Result, slice_get}
 use Rattle.dis_records.specs.declared.datum.DatumFault.{DatumFault}
 use Rattle.dis_records.specs.Datum.{Datum}
 use Rattle.dis_records.specs.Layout.{bytes_for, cleared}
-use Rattle.dis_records.proofs.Cleared.{length-cleared, cleared-cleared}
+use Rattle.dis_records.proofs.Offered.{length-cleared, cleared-cleared}
 use Rattle.siman_pdus.specs.Reading.{with_last}
 use Rattle.siman_pdus.proofs.Values.{last_makes_cleared}
 use Rattle.siman_pdus.proofs.decoding.read_variable.Goals as goal

@@ -1,14 +1,18 @@
 use Rattle.std.proofs.Common.{◌≡◌, ◌≤◌, ap, sym, ◌∙◌, length, arith}
-use Rattle.exercise_recording.specs.Station.{StationData, is_opening}
-use Rattle.siman_application.proofs.Right.{right_start}
+use Rattle.exercise_model.specs.Station.{StationData, is_opening}
+use Rattle.siman_application.proofs.Right.{begun_in_range, right_start}
 use Rattle.siman_application.proofs.application.Application.begin.Goals as goal
 
 pub invariant_of-result : goal.invariant_of-result
 invariant_of-result c =
     let opening : c.in_ok-entities.entities ≡ c.args.station.now.opening = c.in_ok-entities.ensures ∙ c.opening-2.ensures.items in
-    right_start _ c.new.result c.in_ok-entities.entities c.in_ok-datums.datums c.new.ensures.empty
-    (opening ∙ ap (λ (s : StationData). s.opening) (sym c.in_ok-station.ensures))
+    right_start _ c.new.result c.in_ok-entities.entities c.in_ok-datums.datums
+    (begun_in_range c.args.exercise c.in_ok-station.station _ _ (omega arith) c.in_ok-station.ensures.station c.datums_are_in_range.ensures) c.new.ensures.empty
+    (opening ∙ ap (λ (s : StationData). s.opening) (sym c.in_ok-station.ensures.copy))
     (ap is_opening opening ∙ c.opening.ensures.opening) c.in_ok-datums.ensures
+
+pub returns-clause-ranges : goal.returns-clause-ranges
+returns-clause-ranges c = begun_in_range c.args.exercise c.in_ok-station.station _ _ (omega arith) c.in_ok-station.ensures.station c.datums_are_in_range.ensures
 
 pub returns-clause-too_many : goal.returns-clause-too_many
 returns-clause-too_many c =

@@ -1,0 +1,4 @@
+mod Fields
+mod Repeats
+mod Writes
+pub mod Offered

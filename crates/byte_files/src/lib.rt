@@ -1,0 +1,17 @@
+//! Files of fields: reading one field after the other up to a limit, and writing bytes of which a
+//! failed write leaves a prefix.
+//!
+//! It knows no format: a field is so many bytes, refused with its offset where it is not wholly
+//! there or would end past the limit, and each format names these faults in its own words. The
+//! crates of the formats rest on [`Source`], whose meaning is the input that is still to be read
+//! (`specs/Fields.antt`), on [`fill`], and on [`put`] (`specs/Writing.antt`). Only [`Source::buffered`] takes
+//! memory.
+#![tactic(auto)]
+
+mod filling;
+mod output;
+mod source;
+
+pub use filling::{ReadFailed, fill};
+pub use output::{WriteFailed, put};
+pub use source::{FieldFault, Source};

@@ -1,8 +1,0 @@
-use Rattle.std.proofs.Common.{◌≡◌, take}
-use Rattle.std.specs.List.{list_any}
-use Rattle.exercise_recording.specs.Setting.{is_from}
-use Rattle.exercise_check.proofs.steps.is_recorded.Given as goal
-
-abbrev pub invariant-loop-i : goal.invariant-loop-i
-invariant-loop-i g l =
-    l.found ≡ list_any (λ o. is_from o.address l.pdu) (take l.i (g.L.ExerciseLog.recording l.log).stations)

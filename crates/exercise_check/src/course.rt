@@ -1,0 +1,137 @@
+//! A course over a log: steps that are taken one after the other, each judged by those before it.
+
+ghost use Rattle.std.specs.Prelude.{◌≡◌, ◌<◌, length, slice_get, IfOk, IfSome, IfNone, OnErr};
+ghost use Rattle.exercise_model.specs.History.{event_of, station_of, log_at, log_of};
+ghost use Rattle.exercise_model.specs.Place.{log_before, own_event};
+ghost use Rattle.exercise_check.specs.Order.{order_of, is_next, link_number};
+ghost use Rattle.exercise_check.specs.Checked.{TellsAccount};
+ghost use Rattle.exercise_check.specs.Course.{CourseData, IsCourse, begun, so_far, IsNext, GoesOn};
+
+use crate::account::account;
+use crate::cause::{Judgement, judge};
+use crate::certificate::{Certificate, NO_LINK, Step};
+use crate::checked::Checked;
+use crate::order::{entries_before, events_in, next_entry, station_of};
+use exercise_model::{Cause, ExerciseLog};
+use std::alloc::{AllocError, Global};
+use std::marker::Model;
+
+/// The steps that were taken so far over a log, each good after those before it. Contracts see the
+/// recording and the steps; how the next event is judged by them is nobody else's business. The
+/// checker folds it over a certificate, the search sweeps with it, and what a yes reports is read
+/// from it at the end. Its body is the plain program of the definitions, which looks through the log
+/// and the steps anew at each question.
+#[derive(Drop)]
+pub struct Course<'a, L: ExerciseLog> {
+    log: &'a L,
+    steps: Vec<Step>,
+}
+
+impl<'a, L: ExerciseLog> Model for Course<'a, L> {
+    ghost Value = { CourseData };
+
+    ghost view = { λ c. record { recording = L.recording c.log.now; steps = c.steps.items } };
+
+    ghost invariant = { λ c. IsCourse (record { recording = L.recording c.log.now; steps = c.steps.items }) };
+}
+
+/// What going on by an entry comes to.
+#[derive(Clone, Copy, Debug, PartialEq, Eq)]
+pub enum Progress {
+    /// It was taken: its event is allowed, and this is the link of its step, as a certificate
+    /// writes it.
+    Taken(u32),
+    /// Its event may not happen next: the first cause that holds.
+    Barred(Cause),
+}
+
+/// The number that stands for a link in a certificate.
+fn link_number(link: Option<usize>) -> u32
+    requires { IfSome link (λ e. e < 4294967296) }
+    ensures { result ≡ link_number link }
+{
+    match link {
+        Some(entry) => entry as u32,
+        None => NO_LINK,
+    }
+}
+
+impl<'a, L: ExerciseLog> Course<'a, L> {
+    /// The course over a log before its first step.
+    pub fn begin(alloc: Global, log: &'a L) -> Result<Course<'a, L>, AllocError>
+        ensures { IfOk result (λ course. course ≡ begun (L.recording log.now)) }
+    {
+        // To count the entries shows that the recording keeps its limits.
+        let _entries = log.entry_count();
+        Ok(Course {
+            log,
+            steps: Vec::new(alloc),
+        })
+    }
+
+    /// How many steps were taken; each is good after those before it.
+    pub fn len(&self) -> usize
+        ensures steps { result ≡ length self.now.steps }
+        ensures course { IsCourse self.now }
+    {
+        self.steps.len()
+    }
+
+    /// Whether an entry is its station's next one: as many events of its station were taken as
+    /// entries of the station stand before it.
+    pub fn is_next(&self, place: usize) -> bool
+        requires { place < length self.now.recording.entries }
+        ensures { IfSome (slice_get self.now.recording.entries place) (λ e. result ≡ is_next self.now.recording self.now.steps place (event_of e)) }
+    {
+        let station = station_of(&self.log.entry(place));
+        events_in(self.log, &self.steps, station) == entries_before(self.log, station, place)
+    }
+
+    /// The next entry of a station, or `None` where all its entries were taken.
+    pub fn next_entry(&self, station: usize) -> Option<usize>
+        ensures within { IfSome result (λ place. place < length self.now.recording.entries) }
+        ensures own { IfSome result (λ place. IfSome (slice_get self.now.recording.entries place) (λ e. station_of (event_of e) ≡ station)) }
+        ensures next { IfSome result (λ place. IsNext self.now place) }
+        ensures done { IfNone result (log_at station (so_far self.now) ≡ log_of self.now.recording station) }
+    {
+        next_entry(self.log, &self.steps, station)
+    }
+
+    /// Goes on by an entry that is its station's next one: where its event is allowed after what
+    /// happened so far, the entry is taken, with the link that its step should have; else the first
+    /// cause that holds is told, and the course stays as it is. It does so too where there is no
+    /// memory to judge the event.
+    pub fn go_on(&mut self, alloc: Global, place: usize) -> Result<Progress, AllocError>
+        requires within { place < length self.old.recording.entries }
+        requires next { IsNext self.old place }
+        ensures judged { IfOk result (λ progress. IfSome (slice_get self.old.recording.entries place) (GoesOn self.old self.new place progress)) }
+        ensures memory { OnErr result (self.new ≡ self.old) }
+    {
+        match judge(alloc, self.log, &self.steps, place)? {
+            Judgement::Forbidden(cause) => Ok(Progress::Barred(cause)),
+            Judgement::Allowed(link) => {
+                let link = link_number(link);
+                self.steps.push(Step {
+                    place: place as u32,
+                    link,
+                })?;
+                Ok(Progress::Taken(link))
+            }
+        }
+    }
+
+    /// What the recording says.
+    pub fn account(&self, alloc: Global) -> Result<Checked, AllocError>
+        ensures { IfOk result (λ checked. TellsAccount self.now.recording checked) }
+    {
+        account(alloc, self.log)
+    }
+
+    /// The steps that were taken.
+    pub fn into_certificate(self) -> Certificate
+        ensures { result.steps.items ≡ self.entry.steps }
+    {
+        let Course { steps, .. } = self;
+        Certificate { steps }
+    }
+}

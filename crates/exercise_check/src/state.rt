@@ -1,0 +1,170 @@
+//! The state of an entity of a station before an entry, and after the whole of the logs.
+
+ghost use Rattle.std.specs.Prelude.{◌≡◌, ◌<◌, ◌≤◌, length, [], ◌∷◌, ◌++◌, if◌then◌else◌, option_and_then, IfOk, OnOk};
+ghost use Rattle.std.specs.Option.{option_to_list};
+ghost use Rattle.exercise_model.specs.Station.{is_absent, listed_state};
+ghost use Rattle.exercise_model.specs.History.{log_of, station_at};
+ghost use Rattle.exercise_model.specs.State.{change_made, change_by, entity_state, state_after, changes_of, after_changes};
+ghost use Rattle.exercise_model.specs.Place.{log_before, own_event};
+ghost use Rattle.exercise_model.specs.Account.{entities_of};
+
+use crate::change::{is_change, sent_by};
+use crate::exchange::request_taken_up;
+use dis_records::EntityState;
+use exercise_model::{Change, ExerciseLog, LARGEST_ENTITY, Station, is_entity};
+use siman_pdus::Pdu;
+use std::alloc::{AllocError, Global};
+
+/// What a PDU changes that a station sends at an entry.
+#[tactic(auto, unfolding(exercise_model::specs::State::change_by))]
+fn change_by<L: ExerciseLog>(
+    alloc: Global,
+    log: &L,
+    station: usize,
+    before: usize,
+    pdu: &Pdu,
+) -> Result<Option<Change>, AllocError>
+    requires at { station < length (L.recording log.now).setting.stations }
+    requires within { before ≤ length (L.recording log.now).entries }
+    ensures { let r = L.recording log.now in IfOk result (λ change. change ≡ change_by r.setting.exercise (station_at r station) (log_before r station before) pdu.now) }
+{
+    if !is_change(alloc, log, station, before, pdu)? {
+        return Ok(None);
+    }
+    match request_taken_up(alloc, log, station, before, pdu)? {
+        Some((_, request)) => Ok(Change::carried_out(pdu, &request)),
+        None => Ok(None),
+    }
+}
+
+/// What an entry of a station changes.
+#[tactic(auto, using(crate::proofs::Sent::sent_steps))]
+fn change_made<L: ExerciseLog>(
+    alloc: Global,
+    log: &L,
+    station: usize,
+    entry: usize,
+) -> Result<Option<Change>, AllocError>
+    requires at { station < length (L.recording log.now).setting.stations }
+    requires within { entry < length (L.recording log.now).entries }
+    ensures { let r = L.recording log.now in IfOk result (λ change. change ≡ option_and_then (change_made r.setting.exercise (station_at r station) (log_before r station entry)) (own_event r station entry)) }
+{
+    match sent_by(alloc, log, station, entry)? {
+        Some(pdu) => change_by(alloc, log, station, entry, &pdu),
+        None => Ok(None),
+    }
+}
+
+/// The state of an entity of a station before an entry, for a number in 1..=0xFFFD.
+#[tactic(auto, using(exercise_model::proofs::Offered::log_steps))]
+fn entity_state<L: ExerciseLog>(
+    alloc: Global,
+    log: &L,
+    station: usize,
+    before: usize,
+    entity: u16,
+) -> Result<EntityState, AllocError>
+    requires at { station < length (L.recording log.now).setting.stations }
+    requires within { before ≤ length (L.recording log.now).entries }
+    ensures { let r = L.recording log.now in IfOk result (λ state. state ≡ entity_state r.setting.exercise (station_at r station) (log_before r station before) entity) }
+{
+    let mut state = log.station(station).opening_state(entity);
+    for i in 0..before {
+        if let Some(change) = change_made(alloc, log, station, i)? {
+            state = change.changed(entity, state);
+        }
+    }
+    Ok(state)
+}
+
+/// The state of an entity of a station before an entry.
+#[tactic(auto, unfolding(exercise_model::specs::State::state_after))]
+pub(crate) fn state_before<L: ExerciseLog>(
+    alloc: Global,
+    log: &L,
+    station: usize,
+    before: usize,
+    entity: u16,
+) -> Result<EntityState, AllocError>
+    requires at { station < length (L.recording log.now).setting.stations }
+    requires within { before ≤ length (L.recording log.now).entries }
+    ensures { let r = L.recording log.now in IfOk result (λ state. state ≡ state_after r.setting.exercise (station_at r station) (log_before r station before) entity) }
+{
+    if is_entity(entity) {
+        entity_state(alloc, log, station, before, entity)
+    } else {
+        Ok(EntityState::Absent)
+    }
+}
+
+/// Adds a change at the end, if there is one.
+fn push_some(changes: &mut Vec<Change>, change: Option<Change>) -> Result<(), AllocError>
+    ensures { OnOk result (changes.new.items ≡ changes.old.items ++ option_to_list change) }
+{
+    if let Some(change) = change {
+        changes.push(change)?;
+    }
+    Ok(())
+}
+
+/// Adds an entity with its state at the end, where it is not Absent.
+fn push_present(
+    entities: &mut Vec<(u16, EntityState)>,
+    entity: u16,
+    state: EntityState,
+) -> Result<(), AllocError>
+    ensures { OnOk result (entities.new.items ≡ entities.old.items ++ (if is_absent state then [] else (entity, state) ∷ [])) }
+{
+    if state != EntityState::Absent {
+        entities.push((entity, state))?;
+    }
+    Ok(())
+}
+
+/// The changes of a station's log, in their order.
+#[tactic(auto, using(exercise_model::proofs::Offered::log_steps, exercise_model::proofs::Offered::change_steps))]
+fn changes<L: ExerciseLog>(
+    alloc: Global,
+    log: &L,
+    station: usize,
+) -> Result<Vec<Change>, AllocError>
+    requires { station < length (L.recording log.now).setting.stations }
+    ensures { let r = L.recording log.now in IfOk result (λ changes. changes.items ≡ changes_of r.setting.exercise (station_at r station) (log_of r station)) }
+{
+    let mut changes = Vec::new(alloc);
+    for i in 0..log.entry_count() {
+        let change = change_made(alloc, log, station, i)?;
+        push_some(&mut changes, change)?;
+    }
+    Ok(changes)
+}
+
+/// The state of an entity of a station after changes in their order.
+fn after_changes(station: &Station, changes: &[Change], entity: u16) -> EntityState
+    ensures { result ≡ after_changes entity (listed_state station.now.opening entity) changes.now }
+{
+    let mut state = station.opening_state(entity);
+    for change in changes {
+        state = change.changed(entity, state);
+    }
+    state
+}
+
+/// The entities of a station that are not Absent after its log, by rising numbers.
+#[tactic(auto, unfolding(exercise_model::specs::State::state_after), using(exercise_model::proofs::Offered::change_steps))]
+pub(crate) fn entities<L: ExerciseLog>(
+    alloc: Global,
+    log: &L,
+    station: usize,
+) -> Result<Vec<(u16, EntityState)>, AllocError>
+    requires { station < length (L.recording log.now).setting.stations }
+    ensures { let r = L.recording log.now in IfOk result (λ entities. entities.items ≡ entities_of r station) }
+{
+    let changes = changes(alloc, log, station)?;
+    let mut entities = Vec::new(alloc);
+    for entity in 1..LARGEST_ENTITY + 1 {
+        let state = after_changes(log.station(station), &changes, entity);
+        push_present(&mut entities, entity, state)?;
+    }
+    Ok(entities)
+}

@@ -1,0 +1,15 @@
+mod Scopes
+mod Checks
+mod Onward
+mod Beginnings
+mod Counting
+mod Changes
+mod Accounts
+mod Sentences
+mod Independence
+mod Places
+mod Distinct
+mod Wholes
+mod Confluence
+mod FirstAnswers
+pub mod Offered

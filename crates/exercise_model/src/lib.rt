@@ -1,0 +1,42 @@
+//! Exercises as their logs tell them: stations, what each of them sent, received and told, and which
+//! histories of events can have been.
+//!
+//! It knows no file and no certificate, and decides nothing about a recording. The layers above rest
+//! on [`ExerciseLog`], whose meaning is one plain recording (a setting and its entries), and on the
+//! definitions in `specs/`: a datagram's meaning, events and histories, the request that an answer
+//! takes up, changes and states, why an event may not happen, and runs. The laws of runs are
+//! [`what_explains_holds`], [`logs_suffice`], [`accounts_are_whole`], [`allowed_stays_allowed`] and
+//! [`ends_are_one`]; that
+//! of a first answer is [`first_answers_change_states`]. Only [`Recording::push`] and [`meaning_of`]
+//! take memory.
+#![tactic(auto)]
+
+mod acknowledge;
+mod cause;
+mod entry;
+mod exchange;
+mod fault;
+mod laws;
+mod log;
+mod meaning;
+mod recording;
+mod run_laws;
+mod setting;
+mod state;
+mod station;
+
+pub use acknowledge::{AcknowledgeKey, key_of, responds, responds_under};
+pub use cause::Cause;
+pub use entry::{EntryView, LARGEST_DATAGRAM, LogEntry};
+pub use exchange::{is_answer, is_asked, is_from, is_under_identifier};
+pub use fault::LogFault;
+pub use laws::first_answers_change_states;
+pub use log::ExerciseLog;
+pub use meaning::meaning_of;
+pub use recording::{MOST_ENTRIES, Recording};
+pub use run_laws::{
+    accounts_are_whole, allowed_stays_allowed, ends_are_one, logs_suffice, what_explains_holds,
+};
+pub use setting::Setting;
+pub use state::{Change, is_entity, scope_has, state_made};
+pub use station::{LARGEST_ENTITY, MOST_STATIONS, Station, are_stations, is_above};

@@ -1,0 +1,31 @@
+//! The ranges of the numbers of a PDU.
+
+ghost use Rattle.std.specs.Prelude.{◌≡◌, ◌<◌, ◌≤◌, ℕ, List, Some, length, slice_index};
+ghost use Rattle.siman_pdus.specs.declared.pdu.Pdu.{Pdu};
+ghost use Rattle.siman_pdus.specs.Ranges.{AreDatumsInRange, IsInRange};
+ghost use Rattle.siman_pdus.specs.Reading.{reading};
+ghost use Rattle.siman_pdus.specs.Spelling.{Spells, pdu_size, pdu_text};
+
+use crate::datums::Datums;
+use crate::pdu::Pdu;
+
+/// Every number of a PDU is in the range of its field: what the types say, as a fact. The call
+/// does nothing when it runs.
+pub fn numbers_are_in_range(pdu: &Pdu)
+    ensures { IsInRange pdu.now }
+{}
+
+/// The same of datums alone.
+pub fn datums_are_in_range(datums: &Datums)
+    ensures { AreDatumsInRange datums.now }
+{}
+
+/// Laws of ranges: what is read of bytes is in its ranges, and what is in its ranges and has at
+/// most 8192 bytes is spelled by its canonical text, which is bytes and is read as it.
+pub fn ranges_and_texts_agree()
+    ensures in_range { (pdu : Pdu) (b : List ℕ) → ((i : ℕ) → slice_index b i < 256) → reading b ≡ Some pdu → IsInRange pdu }
+    ensures spelled { (pdu : Pdu) → IsInRange pdu → pdu_size pdu ≤ 8192 → Spells pdu (pdu_text pdu) }
+    ensures read { (pdu : Pdu) → IsInRange pdu → pdu_size pdu ≤ 8192 → reading (pdu_text pdu) ≡ Some pdu }
+    ensures size { (pdu : Pdu) → IsInRange pdu → pdu_size pdu ≤ 8192 → length (pdu_text pdu) ≡ pdu_size pdu }
+    ensures bytes { (pdu : Pdu) → IsInRange pdu → pdu_size pdu ≤ 8192 → (i : ℕ) → slice_index (pdu_text pdu) i < 256 }
+{}

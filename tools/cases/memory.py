@@ -1,0 +1,59 @@
+"""Memory refused at each allocation in turn."""
+import os
+import shutil
+import subprocess
+
+import pages
+from cases import texts
+from cases.examples import TOP
+from cases.streams import answers, faults
+from cases.trials import Case, Prefix, Some, Verdict, told
+from pages import Outcome
+
+MOST_ALLOCATIONS = 5000
+LATER = 1 << 40  # later than the last allocation of any run
+
+
+def try_all(trials, examples):
+    """Memory refused at each allocation in turn: to that one alone, and to it and all after it."""
+    library = trials.folder / "refuse.so"
+    compiler = shutil.which("cc")
+    if compiler is None:
+        trials.skipped.append("refused memory: no C compiler")
+        return
+    subprocess.run([compiler, "-shared", "-fPIC", "-o", library, TOP / "tools" / "refuse.c"], check=True)
+    text = texts.recording_text(texts.told_often(4000))
+    long = (["show", trials.file(text)], b"", pages.answer_to_show(text))
+    helped = (["--help"], b"", Outcome(0, Some(), b""))
+    for words, given, usual in [*answers(trials, examples), long, *faults(examples), helped]:
+        out = Prefix(usual.out) if words[:1] == ["show"] else b""
+        case = Case(words, (Outcome(3, out, b"memory\n"), usual), given)
+        for alone in (True, False):
+            trials.tasks.append(lambda case=case, alone=alone: refusals(trials, library, case, alone))
+
+
+def refusals(trials, library, case, alone):
+    """The verdicts of a case with each of its allocations refused, until a run has none left to refuse."""
+    verdicts = []
+    for first in range(1, MOST_ALLOCATIONS):
+        last = first if alone else LATER
+        which = f", allocation {first}{'' if alone else ' and all later'} refused"
+        came, is_refused = run_refused(trials, library, case, first, last)
+        accepted = case.accepted if is_refused else case.accepted[1:]
+        verdicts.append(Verdict(told(case, which), accepted, came))
+        if not is_refused:
+            enough = first > 1
+            return verdicts + ([] if enough else [Verdict(told(case), ("an allocation to refuse",), "none")])
+    return verdicts + [Verdict(told(case), (f"fewer than {MOST_ALLOCATIONS} allocations",), "more")]
+
+
+def run_refused(trials, library, case, first, last):
+    """The outcome of a run with these allocations refused, and whether there was one of them."""
+    reader, writer = os.pipe()
+    refuse = {"REFUSE_FIRST": str(first), "REFUSE_LAST": str(last), "REFUSE_MARK": str(writer)}
+    environment = {**os.environ, "LD_PRELOAD": str(library), **refuse}
+    came = trials.run(case, env=environment, pass_fds=[writer])
+    os.close(writer)
+    is_refused = os.read(reader, 1) != b""
+    os.close(reader)
+    return came, is_refused

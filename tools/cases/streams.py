@@ -1,0 +1,120 @@
+"""Files that cannot be opened or read, and standard streams that are full, closed or not read."""
+import os
+
+import pages
+from cases import texts
+from cases.examples import README_ANSWER, README_DATAGRAM, TEXTS_REPORT
+from cases.trials import UNWRITTEN, Case, Some, Verdict, told
+from pages import Outcome
+
+
+def try_opening(trials, examples):
+    good, certificate, _ = examples
+    bad, bad_steps = trials.file(b"DSRC0002"), trials.file(b"DSCT0002")
+    missing, also, folder = "none.dsrc", "none at all é.dsct", "examples"
+    for name in [missing, also, "", "-", "x" * 300, "a/" * 3000, f"{good}/under"]:
+        trials.expect(["show", name], pages.fault(f"file: {name}"))
+        trials.expect(["check", name, certificate], pages.fault(f"file: {name}"))
+        trials.expect(["check", good, name], pages.fault(f"file: {name}"))
+        trials.expect(["check", bad, name], pages.fault(f"file: {name}"))
+        trials.expect(["check", folder, name], pages.fault(f"file: {name}"))
+    trials.expect(["check", missing, also], pages.fault(f"file: {missing}"))
+    trials.expect(["check", also, missing], pages.fault(f"file: {also}"))
+    trials.expect(["check", missing, bad_steps], pages.fault(f"file: {missing}"))
+    trials.expect(["show", folder], pages.fault("recording: read"))
+    trials.expect(["check", folder, certificate], pages.fault("recording: read"))
+    trials.expect(["check", folder, bad_steps], pages.fault("recording: read"))
+    trials.expect(["check", folder, folder], pages.fault("recording: read"))
+    trials.expect(["check", good, folder], pages.fault("certificate: read"))
+    trials.expect(["check", bad, folder], pages.fault("recording: magic at 0"))
+    trials.expect(["check", bad, bad_steps], pages.fault("recording: magic at 0"))
+    trials.expect(["check", good, good], pages.fault("certificate: magic at 0"))
+    trials.expect(["check", certificate, good], pages.fault("recording: magic at 0"))
+    trials.expect(["show", f"{trials.folder}/{good}"], pages.answer_to_show((trials.folder / good).read_bytes()))
+
+
+def try_unreadable(trials, examples):
+    good, certificate, _ = examples
+    if os.geteuid() == 0:
+        trials.skipped.append("files that may not be read: root reads them anyway")
+        return
+    closed = trials.file((trials.folder / good).read_bytes())
+    os.chmod(trials.folder / closed, 0)
+    trials.expect(["show", closed], pages.fault(f"file: {closed}"))
+    trials.expect(["check", closed, certificate], pages.fault(f"file: {closed}"))
+    trials.expect(["check", good, closed], pages.fault(f"file: {closed}"))
+
+
+def answers(trials, examples):
+    """Words and what is given on standard input, with the usual outcome: an answer of each command."""
+    good, certificate, wrong = examples
+    shown = pages.answer_to_show((trials.folder / good).read_bytes())
+    return [
+        (["pdu", README_DATAGRAM], b"", Outcome(0, README_ANSWER, b"")),
+        (["pdu", "0701"], b"", Outcome(1, b"refused 1 truncated\n", b"")),
+        ([], README_DATAGRAM + b"\n", Outcome(0, README_ANSWER, b"")),
+        (["show", good], b"", shown),
+        (["check", good, certificate], b"", Outcome(0, TEXTS_REPORT, b"")),
+        (["check", wrong, certificate], b"", Outcome(1, b"no step=8 cause=13 wrong-state\n", b"")),
+    ]
+
+
+def faults(examples):
+    """Words and input that are told as faults, with the usual outcome."""
+    good, certificate, _ = examples
+    return [
+        (["pdu", "zz"], b"", pages.fault("hex: not byte pairs")),
+        ([], b"0", pages.fault("hex: not byte pairs")),
+        (["show", "none"], b"", pages.fault("file: none")),
+        (["show", certificate], b"", pages.fault("recording: magic at 0")),
+        (["check", good, "none"], b"", pages.fault("file: none")),
+        (["check", good, good], b"", pages.fault("certificate: magic at 0")),
+        (["show", b"\xff"], b"", pages.fault("words: not UTF-8")),
+        (["check", good], b"", Outcome(2, b"", Some())),
+    ]
+
+
+def try_streams(trials, examples):
+    """Standard streams that are full or closed."""
+    for words, given, _ in answers(trials, examples) + [(["--help"], b"", None)]:
+        for behind in [">/dev/full", ">&-"]:
+            trials.expect(words, UNWRITTEN, given=given, behind=behind)
+        trials.expect(words, Outcome(2, b"", b""), given=given, behind=">/dev/full 2>&1")
+    for words, given, usual in faults(examples):
+        for behind in [">/dev/full", ">&-"]:
+            trials.expect(words, usual, given=given, behind=behind)
+        for behind in ["2>/dev/full", "2>&-"]:
+            trials.expect(words, usual._replace(errors=b""), given=given, behind=behind)
+    for words, given, usual in answers(trials, examples):
+        trials.expect(words, usual, given=given, behind="2>&-")
+    for behind in ["<&-", "<examples"]:
+        trials.expect([], pages.fault("file: -"), behind=behind)
+    trials.expect([], Outcome(1, b"refused 1 truncated\n", b""), behind="</dev/null")
+    trials.expect([], pages.fault("hex: not byte pairs"), behind="</dev/zero")
+    trials.expect(["show", "/dev/zero"], pages.fault("recording: magic at 0"))
+    trials.expect(["show", "/dev/null"], pages.fault("recording: truncated at 0"))
+
+
+def try_pipes(trials, examples):
+    """Standard output that is a pipe whose reader has gone, before the program writes or after the first byte."""
+
+    def gone(case):
+        reader, writer = os.pipe()
+        os.close(reader)
+        came = trials.run(case, stdout=writer)
+        os.close(writer)
+        return [Verdict(told(case, ", its reader gone"), case.accepted, came)]
+
+    for words, given, _ in answers(trials, examples) + [(["--help"], b"", None)]:
+        case = Case(words, (UNWRITTEN,), given)
+        trials.tasks.append(lambda case=case: gone(case))
+    long = trials.file(texts.recording_text(texts.told_often(50_000)))
+    first = Outcome(0, b"e", b"output: write\n2\n")
+    trials.expect(["show", long], first, before="{ ", behind="; echo $? >&2; } | head -c 1")
+
+
+def try_all(trials, examples):
+    try_opening(trials, examples)
+    try_unreadable(trials, examples)
+    try_streams(trials, examples)
+    try_pipes(trials, examples)

@@ -1,0 +1,67 @@
+"""Words of the command line and hex text."""
+import pages
+from cases.examples import FORMATS_CERTIFICATE, FORMATS_RECORDING, FORMATS_SHOWN, README_ANSWER, README_DATAGRAM
+from cases.trials import Some
+from pages import Outcome
+
+
+def try_words(trials):
+    usage = Outcome(2, b"", Some())
+    not_text = Outcome(2, b"", b"words: not UTF-8\n")
+    recording, certificate = trials.file(FORMATS_RECORDING), trials.file(FORMATS_CERTIFICATE)
+    trials.expect(["--help"], Outcome(0, Some(), b""))
+    for words in [
+        ["pdu"], ["show"], ["check"], ["check", recording], ["pdu", "07", "01"], ["pdu", README_DATAGRAM.decode(), ""],
+        ["show", recording, recording], ["check", recording, certificate, certificate], ["nothing"], [""],
+        ["PDU", "07"], ["shows", recording], ["--pdu", "07"], ["--nothing"], ["-x"], ["pdu", "--nothing"], [recording],
+        ["pd"], ["-"], ["--", "pdu"],
+    ]:  # fmt: skip
+        trials.expect(words, usage)
+    for word in [b"\xff", b"07\xff", b"\xc3", b"a\xed\xa0\x80"]:
+        for words in [[word], ["pdu", word], ["show", word], ["check", recording, word], ["x", word], [word, "07"]]:
+            trials.expect(words, not_text)
+
+
+def try_hex(trials):
+    trials.expect(["pdu", README_DATAGRAM.decode()], Outcome(0, README_ANSWER, b""))
+    trials.expect([], Outcome(0, README_ANSWER, b""), given=README_DATAGRAM + b"\n")
+    good = README_DATAGRAM
+    mixed = bytes(byte ^ (32 * (place % 2) if chr(byte).isalpha() else 0) for place, byte in enumerate(good))
+    texts = [good, good.lower(), mixed, b"", b"0", good[:-1], good + b"0", good[:8] + b" " + good[8:], b" " + good]
+    texts += [good + b" ", b"0x" + good, b"\t" + good, b"zz", b"0g", b"0G", b":7", b"/0", b"@A", b"`a", b"07\n01"]
+    texts += ["é".encode(), "٠٠".encode()]
+    for text in texts:
+        trials.expect(["pdu", text], pages.answer_to_hex(text))
+    ends = [b"", b"\n", b"\n\n", b"\r\n", b"\r", b" \n", b"\0", b"\n "]
+    for text in [text + end for text in texts[:6] for end in ends] + texts + [b"\n" + good, b"\xff\xff", b"\0" * 8]:
+        trials.expect([], pages.answer_to_input(text), given=text)
+
+
+def try_limits_of_hex(trials):
+    head = b"07010B05000000000000000000010001000000020003000700000001"
+    for size in [16384, 16386, 65534, 65535, 65536, 65537, 65538, 100_000]:
+        for start in [head, b"06" * 28]:
+            text = start.ljust(size, b"0")
+            trials.expect(["pdu", text], pages.answer_to_hex(text))
+            for end in [b"", b"\n"]:
+                trials.expect([], pages.answer_to_input(text + end), given=text + end)
+    trials.expect([], pages.fault("hex: not byte pairs"), given=b"00" * 5_000_000)
+
+
+def try_pieces(trials):
+    """Input and files that come in pieces, with waits between."""
+    for words, given, answer in [
+        ([], README_DATAGRAM, Outcome(0, README_ANSWER, b"")),
+        ([], README_DATAGRAM[:-1], pages.fault("hex: not byte pairs")),
+        (["show", "/dev/stdin"], FORMATS_RECORDING, Outcome(0, FORMATS_SHOWN, b"")),
+        (["show", "/dev/stdin"], FORMATS_RECORDING[:-1], pages.fault("recording: truncated at 59")),
+    ]:
+        pieces = [trials.file(given[start : start + 13]) for start in range(0, len(given), 13)]
+        trials.expect(words, answer, before=f"for piece in {' '.join(pieces)}; do cat $piece; sleep 0.05; done | ")
+
+
+def try_all(trials, _):
+    try_words(trials)
+    try_hex(trials)
+    try_limits_of_hex(trials)
+    try_pieces(trials)

@@ -1,38 +1,32 @@
 //! What is answered to certificates, good and bad.
 
+use crate::NO_LINK as N;
 use crate::tests::datagrams::*;
 use crate::tests::scenes::Done::{Received, Sent, Told};
+use crate::tests::scenes::Said::{No, Yes};
 use crate::tests::scenes::*;
-use crate::{CheckFault, Checked, NO_LINK as N};
 use dis_records::EntityState;
 use dis_records::EntityState::{Running, Stopped};
-use exercise_model::{Cause, Recording};
+use exercise_model::Cause;
 use std::alloc::Global;
 use std::test::Fail;
 
-/// A refusal at a step.
-fn bad(step: usize, cause: Cause) -> Option<CheckFault> {
-    Some(CheckFault::Bad { step, cause })
-}
-
-/// Whether these are the entities of a station at the end.
-fn are(checked: &Checked, station: usize, entities: &[(u16, EntityState)]) -> bool {
-    checked.states(station) == entities
-}
-
 #[test]
 fn no_entries_are_explained_by_no_steps(rt: HostRuntime) -> Result<(), Fail> {
-    let alloc = rt.alloc();
-    let log = recorded(alloc, two(alloc, &[(7, Stopped)])?, &[])?;
-    let checked = yes(alloc, &log, &[])?;
-    assert!(rt; checked.states(0).is_empty() && are(&checked, 1, &[(7, Stopped)]));
-    assert!(rt; checked.states(2).is_empty() && checked.others() == 0);
+    let account = Account {
+        entities: &[&[], &[(7, Stopped)]],
+        pairs: &[],
+        changes: &[],
+        others: 0,
+    };
+    let openings: [Entities<'_>; 2] = [&[], &[(7, Stopped)]];
+    let certificates: [(Steps<'_>, Said<'_>); 1] = [(&[], Yes(account))];
+    assert_eq!(rt; first_otherwise(rt.alloc(), &openings, &[], &certificates)?, None);
     Ok(())
 }
 
 #[test]
 fn create_and_acknowledge_is_explained(rt: HostRuntime) -> Result<(), Fail> {
-    let alloc = rt.alloc();
     let create = create(SEVEN, 1);
     let able = acknowledge(SEVEN, 1, 1, 1);
     let done = [
@@ -41,45 +35,30 @@ fn create_and_acknowledge_is_explained(rt: HostRuntime) -> Result<(), Fail> {
         Sent(1, &able),
         Received(0, &able),
     ];
-    let log = recorded(alloc, two(alloc, &[])?, &done)?;
-    let checked = yes(alloc, &log, &[(0, N), (1, 0), (2, 1), (3, 2)])?;
-    assert!(rt; are(&checked, 1, &[(7, Stopped)]) && checked.states(0).is_empty());
-    assert!(rt;
-        checked.pair(2) == Some(1) && checked.pair(0).is_none() && checked.pair(3).is_none()
-    );
-    assert!(rt;
-        checked.cause(3) == Some(2) && checked.cause(2).is_none() && checked.cause(4).is_none()
-    );
-    assert_eq!(rt;
-        no(alloc, &log, &[(0, N), (1, 0), (2, 1)])?,
-        bad(0, Cause::CountDiffers)
-    );
-    assert_eq!(rt;
-        no(alloc, &log, &[(0, N), (1, 0), (2, 1), (4, 2)])?,
-        bad(3, Cause::NoSuchRecord)
-    );
-    assert_eq!(rt;
-        no(alloc, &log, &[(0, N), (1, 0), (1, 0), (3, 2)])?,
-        bad(2, Cause::OutOfOrder)
-    );
-    assert_eq!(rt;
-        no(alloc, &log, &[(0, 0), (1, 0), (2, 1), (3, 2)])?,
-        bad(0, Cause::BadLink)
-    );
-    assert_eq!(rt;
-        no(alloc, &log, &[(0, N), (1, 0), (2, 0), (3, 2)])?,
-        bad(2, Cause::BadLink)
-    );
-    assert_eq!(rt;
-        no(alloc, &log, &[(0, N), (1, 0), (3, 2), (2, 1)])?,
-        bad(2, Cause::NeverSent)
-    );
+    let account = Account {
+        entities: &[&[], &[(7, Stopped)]],
+        pairs: &[(2, 1)],
+        changes: &[(3, 2)],
+        others: 0,
+    };
+    let certificates: [(Steps<'_>, Said<'_>); 7] = [
+        (&[(0, N), (1, 0), (2, 1), (3, 2)], Yes(account)),
+        (&[(0, N), (1, 0), (2, 1)], No(0, Cause::CountDiffers)),
+        (
+            &[(0, N), (1, 0), (2, 1), (4, 2)],
+            No(3, Cause::NoSuchRecord),
+        ),
+        (&[(0, N), (1, 0), (1, 0), (3, 2)], No(2, Cause::OutOfOrder)),
+        (&[(0, 0), (1, 0), (2, 1), (3, 2)], No(0, Cause::BadLink)),
+        (&[(0, N), (1, 0), (2, 0), (3, 2)], No(2, Cause::BadLink)),
+        (&[(0, N), (1, 0), (3, 2), (2, 1)], No(2, Cause::NeverSent)),
+    ];
+    assert_eq!(rt; first_otherwise(rt.alloc(), &[&[], &[]], &done, &certificates)?, None);
     Ok(())
 }
 
 #[test]
 fn entries_in_no_common_order_are_explained(rt: HostRuntime) -> Result<(), Fail> {
-    let alloc = rt.alloc();
     let create = create(SEVEN, 1);
     let able = acknowledge(SEVEN, 1, 1, 1);
     let done = [
@@ -88,48 +67,44 @@ fn entries_in_no_common_order_are_explained(rt: HostRuntime) -> Result<(), Fail>
         Sent(0, &create),
         Received(0, &able),
     ];
-    let log = recorded(alloc, two(alloc, &[])?, &done)?;
-    let checked = yes(alloc, &log, &[(2, N), (0, 2), (1, 0), (3, 1)])?;
-    assert!(rt; are(&checked, 1, &[(7, Stopped)]) && checked.pair(1) == Some(0));
-    assert_eq!(rt;
-        no(alloc, &log, &[(0, 2), (1, 0), (2, N), (3, 1)])?,
-        bad(0, Cause::NeverSent)
-    );
-    assert_eq!(rt;
-        no(alloc, &log, &[(2, N), (1, 0), (0, 2), (3, 1)])?,
-        bad(1, Cause::OutOfOrder)
-    );
+    let account = Account {
+        entities: &[&[], &[(7, Stopped)]],
+        pairs: &[(1, 0)],
+        changes: &[(3, 1)],
+        others: 0,
+    };
+    let certificates: [(Steps<'_>, Said<'_>); 3] = [
+        (&[(2, N), (0, 2), (1, 0), (3, 1)], Yes(account)),
+        (&[(0, 2), (1, 0), (2, N), (3, 1)], No(0, Cause::NeverSent)),
+        (&[(2, N), (1, 0), (0, 2), (3, 1)], No(1, Cause::OutOfOrder)),
+    ];
+    assert_eq!(rt; first_otherwise(rt.alloc(), &[&[], &[]], &done, &certificates)?, None);
     Ok(())
 }
 
-/// Entity 7 is created and started, and then told to be in a state.
-fn created_and_started(alloc: Global, told: EntityState) -> Result<Recording, Fail> {
+/// Entity 7 is created and started, and then told to be in a state; whether something else is said
+/// of what was done in this order.
+fn started_and_told(
+    alloc: Global,
+    told: EntityState,
+    said: Said<'_>,
+) -> Result<Option<usize>, Fail> {
     let create = create(SEVEN, 1);
-    let able = acknowledge(SEVEN, 1, 1, 1);
-    let created = [
+    let created = acknowledge(SEVEN, 1, 1, 1);
+    let start = start(SEVEN, 2);
+    let started = acknowledge(SEVEN, 3, 1, 2);
+    let done = [
         Sent(0, &create),
         Received(1, &create),
-        Sent(1, &able),
-        Received(0, &able),
-    ];
-    let mut log = recorded(alloc, two(alloc, &[])?, &created)?;
-    let start = start(SEVEN, 2);
-    let able = acknowledge(SEVEN, 3, 1, 2);
-    let started = [
+        Sent(1, &created),
+        Received(0, &created),
         Sent(0, &start),
         Received(1, &start),
-        Sent(1, &able),
-        Received(0, &able),
+        Sent(1, &started),
+        Received(0, &started),
+        Told(1, 7, told),
     ];
-    record(alloc, &mut log, &started)?;
-    record(alloc, &mut log, &[Told(1, 7, told)])?;
-    Ok(log)
-}
-
-#[test]
-fn a_told_state_is_the_state_of_the_run(rt: HostRuntime) -> Result<(), Fail> {
-    let alloc = rt.alloc();
-    let steps = [
+    let steps: Steps<'_> = &[
         (0, N),
         (1, 0),
         (2, 1),
@@ -140,18 +115,25 @@ fn a_told_state_is_the_state_of_the_run(rt: HostRuntime) -> Result<(), Fail> {
         (7, 6),
         (8, N),
     ];
-    let log = created_and_started(alloc, Running)?;
-    let checked = yes(alloc, &log, &steps)?;
-    assert!(rt; are(&checked, 1, &[(7, Running)]) && checked.pair(6) == Some(5));
-    assert!(rt; checked.cause(3) == Some(2) && checked.cause(7) == Some(6));
-    let log = created_and_started(alloc, Stopped)?;
-    assert_eq!(rt; no(alloc, &log, &steps)?, bad(8, Cause::WrongState));
+    first_otherwise(alloc, &[&[], &[]], &done, &[(steps, said)])
+}
+
+#[test]
+fn a_told_state_is_the_state_of_the_run(rt: HostRuntime) -> Result<(), Fail> {
+    let running = Account {
+        entities: &[&[], &[(7, Running)]],
+        pairs: &[(2, 1), (6, 5)],
+        changes: &[(3, 2), (7, 6)],
+        others: 0,
+    };
+    let wrong = No(8, Cause::WrongState);
+    assert_eq!(rt; started_and_told(rt.alloc(), Running, Yes(running))?, None);
+    assert_eq!(rt; started_and_told(rt.alloc(), Stopped, wrong)?, None);
     Ok(())
 }
 
 #[test]
 fn a_stop_to_all_is_answered_by_each(rt: HostRuntime) -> Result<(), Fail> {
-    let alloc = rt.alloc();
     let stop = stop([0xFF; 6], 1);
     let first = acknowledge(NONE, 4, 1, 1);
     let second = acknowledge([0, 2, 0, 4, 0, 0], 4, 1, 1);
@@ -163,51 +145,41 @@ fn a_stop_to_all_is_answered_by_each(rt: HostRuntime) -> Result<(), Fail> {
         Sent(2, &second),
         Received(0, &second),
     ];
-    let stations = three(alloc, &[(7, Running)], &[(8, Running), (9, Running)])?;
-    let log = recorded(alloc, stations, &done)?;
-    let checked = yes(
-        alloc,
-        &log,
-        &[(0, N), (1, 0), (2, 0), (3, 1), (4, 2), (5, 4)],
-    )?;
-    assert!(rt;
-        are(&checked, 1, &[(7, Stopped)]) && are(&checked, 2, &[(8, Stopped), (9, Stopped)])
-    );
-    assert!(rt;
-        checked.pair(3) == Some(1) && checked.pair(4) == Some(2) && checked.cause(5) == Some(4)
-    );
+    let openings: [Entities<'_>; 3] = [&[], &[(7, Running)], &[(8, Running), (9, Running)]];
+    let account = Account {
+        entities: &[&[], &[(7, Stopped)], &[(8, Stopped), (9, Stopped)]],
+        pairs: &[(3, 1), (4, 2)],
+        changes: &[(5, 4)],
+        others: 0,
+    };
+    let steps: Steps<'_> = &[(0, N), (1, 0), (2, 0), (3, 1), (4, 2), (5, 4)];
+    assert_eq!(rt; first_otherwise(rt.alloc(), &openings, &done, &[(steps, Yes(account))])?, None);
     Ok(())
 }
 
-/// The request to start 7 comes and is answered.
-fn start_comes(alloc: Global, log: &mut Recording) -> Result<(), Fail> {
+/// Entity 7 is started and stopped, the first request comes again and is answered again, and then
+/// 7 is told to be in a state; whether something else is said of what was done in this order.
+fn answered_again_and_told(
+    alloc: Global,
+    told: EntityState,
+    said: Said<'_>,
+) -> Result<Option<usize>, Fail> {
     let start = start(SEVEN, 1);
     let started = acknowledge(SEVEN, 3, 1, 1);
-    record(alloc, log, &[Received(1, &start), Sent(1, &started)])
-}
-
-/// Entity 7 is started and stopped, the first request comes again and is answered again, and then
-/// 7 is told to be in a state.
-fn answered_again(alloc: Global, told: EntityState) -> Result<Recording, Fail> {
-    let start = start(SEVEN, 1);
-    let mut log = recorded(alloc, two(alloc, &[(7, Stopped)])?, &[Sent(0, &start)])?;
-    start_comes(alloc, &mut log)?;
     let stop = stop(SEVEN, 2);
     let stopped = acknowledge(SEVEN, 4, 1, 2);
-    record(
-        alloc,
-        &mut log,
-        &[Sent(0, &stop), Received(1, &stop), Sent(1, &stopped)],
-    )?;
-    start_comes(alloc, &mut log)?;
-    record(alloc, &mut log, &[Told(1, 7, told)])?;
-    Ok(log)
-}
-
-#[test]
-fn a_repeat_changes_nothing(rt: HostRuntime) -> Result<(), Fail> {
-    let alloc = rt.alloc();
-    let steps = [
+    let done = [
+        Sent(0, &start),
+        Received(1, &start),
+        Sent(1, &started),
+        Sent(0, &stop),
+        Received(1, &stop),
+        Sent(1, &stopped),
+        Received(1, &start),
+        Sent(1, &started),
+        Told(1, 7, told),
+    ];
+    let steps: Steps<'_> = &[
         (0, N),
         (1, 0),
         (2, 1),
@@ -218,137 +190,141 @@ fn a_repeat_changes_nothing(rt: HostRuntime) -> Result<(), Fail> {
         (7, 1),
         (8, N),
     ];
-    let log = answered_again(alloc, Stopped)?;
-    let checked = yes(alloc, &log, &steps)?;
-    assert!(rt; are(&checked, 1, &[(7, Stopped)]) && checked.pair(7) == Some(1));
-    let log = answered_again(alloc, Running)?;
-    assert_eq!(rt; no(alloc, &log, &steps)?, bad(8, Cause::WrongState));
+    first_otherwise(alloc, &[&[], &[(7, Stopped)]], &done, &[(steps, said)])
+}
+
+#[test]
+fn a_repeat_changes_nothing(rt: HostRuntime) -> Result<(), Fail> {
+    let stopped = Account {
+        entities: &[&[], &[(7, Stopped)]],
+        pairs: &[(2, 1), (5, 4), (7, 1)],
+        changes: &[],
+        others: 0,
+    };
+    let wrong = No(8, Cause::WrongState);
+    assert_eq!(rt; answered_again_and_told(rt.alloc(), Stopped, Yes(stopped))?, None);
+    assert_eq!(rt; answered_again_and_told(rt.alloc(), Running, wrong)?, None);
     Ok(())
 }
 
 #[test]
 fn an_answer_given_is_not_taken_back(rt: HostRuntime) -> Result<(), Fail> {
-    let alloc = rt.alloc();
     let start = start(SEVEN, 1);
     let pending = acknowledge(SEVEN, 3, 3, 1);
     let able = acknowledge(SEVEN, 3, 1, 1);
     let unable = acknowledge(SEVEN, 3, 2, 1);
-    let steps = [(0, N), (1, 0), (2, 1), (3, 1)];
+    let openings: [Entities<'_>; 2] = [&[], &[(7, Stopped)]];
+    let changed = No(3, Cause::ChangedAnswer);
+    let started = Yes(Account {
+        entities: &[&[], &[(7, Running)]],
+        pairs: &[(2, 1), (3, 1)],
+        changes: &[],
+        others: 0,
+    });
+    for (first, second, said) in [
+        (&able, &unable, changed),
+        (&unable, &able, changed),
+        (&pending, &able, started),
+    ] {
+        let done = [
+            Sent(0, &start),
+            Received(1, &start),
+            Sent(1, first),
+            Sent(1, second),
+        ];
+        let steps: Steps<'_> = &[(0, N), (1, 0), (2, 1), (3, 1)];
+        assert_eq!(rt; first_otherwise(rt.alloc(), &openings, &done, &[(steps, said)])?, None);
+    }
+    Ok(())
+}
+
+#[test]
+fn a_cause_is_told_before_a_bad_link(rt: HostRuntime) -> Result<(), Fail> {
+    let start = start(SEVEN, 1);
+    let able = acknowledge(SEVEN, 3, 1, 1);
+    let unable = acknowledge(SEVEN, 3, 2, 1);
+    let openings: [Entities<'_>; 2] = [&[], &[(7, Stopped)]];
     let done = [
         Sent(0, &start),
         Received(1, &start),
         Sent(1, &able),
         Sent(1, &unable),
     ];
-    let log = recorded(alloc, two(alloc, &[(7, Stopped)])?, &done)?;
-    assert_eq!(rt; no(alloc, &log, &steps)?, bad(3, Cause::ChangedAnswer));
-    assert_eq!(rt;
-        no(alloc, &log, &[(0, N), (1, 0), (2, 1), (3, N)])?,
-        bad(3, Cause::ChangedAnswer)
-    );
-    let done = [
-        Sent(0, &start),
-        Received(1, &start),
-        Sent(1, &unable),
-        Sent(1, &able),
-    ];
-    let log = recorded(alloc, two(alloc, &[(7, Stopped)])?, &done)?;
-    assert_eq!(rt; no(alloc, &log, &steps)?, bad(3, Cause::ChangedAnswer));
-    let done = [
-        Sent(0, &start),
-        Received(1, &start),
-        Sent(1, &pending),
-        Sent(1, &able),
-    ];
-    let log = recorded(alloc, two(alloc, &[(7, Stopped)])?, &done)?;
-    assert!(rt; are(&yes(alloc, &log, &steps)?, 1, &[(7, Running)]));
+    let steps: Steps<'_> = &[(0, N), (1, 0), (2, 1), (3, N)];
+    let said = No(3, Cause::ChangedAnswer);
+    assert_eq!(rt; first_otherwise(rt.alloc(), &openings, &done, &[(steps, said)])?, None);
     Ok(())
 }
 
 #[test]
 fn an_overheard_request_is_not_received(rt: HostRuntime) -> Result<(), Fail> {
-    let alloc = rt.alloc();
     let create = create(SEVEN, 1);
     let able = acknowledge([0, 2, 0, 4, 0, 7], 1, 1, 1);
     let done = [Sent(0, &create), Received(2, &create), Sent(2, &able)];
-    let log = recorded(alloc, three(alloc, &[], &[])?, &done)?;
+    let steps: Steps<'_> = &[(0, N), (1, 0), (2, 1)];
+    let said = No(2, Cause::NoRequest);
     assert_eq!(rt;
-        no(alloc, &log, &[(0, N), (1, 0), (2, 1)])?,
-        bad(2, Cause::NoRequest)
+        first_otherwise(rt.alloc(), &[&[], &[], &[]], &done, &[(steps, said)])?,
+        None
     );
     Ok(())
 }
 
 #[test]
 fn a_creation_of_any_number_names_one(rt: HostRuntime) -> Result<(), Fail> {
-    let alloc = rt.alloc();
     let create = create([0, 2, 0, 3, 0xFF, 0xFE], 1);
     let nine = [0, 2, 0, 3, 0, 9];
-    let steps = [(0, N), (1, 0), (2, 1)];
-    let able = acknowledge(nine, 1, 1, 1);
-    let log = recorded(
-        alloc,
-        two(alloc, &[])?,
-        &[Sent(0, &create), Received(1, &create), Sent(1, &able)],
-    )?;
-    assert!(rt; are(&yes(alloc, &log, &steps)?, 1, &[(9, Stopped)]));
-    let able = acknowledge(NONE, 1, 1, 1);
-    let log = recorded(
-        alloc,
-        two(alloc, &[])?,
-        &[Sent(0, &create), Received(1, &create), Sent(1, &able)],
-    )?;
-    assert_eq!(rt; no(alloc, &log, &steps)?, bad(2, Cause::Impossible));
-    let able = acknowledge(nine, 3, 1, 1);
-    let log = recorded(
-        alloc,
-        two(alloc, &[])?,
-        &[Sent(0, &create), Received(1, &create), Sent(1, &able)],
-    )?;
-    assert_eq!(rt; no(alloc, &log, &steps)?, bad(2, Cause::WrongAnswer));
-    let able = acknowledge(nine, 5, 1, 1);
-    let log = recorded(
-        alloc,
-        two(alloc, &[])?,
-        &[Sent(0, &create), Received(1, &create), Sent(1, &able)],
-    )?;
-    let checked = yes(alloc, &log, &[(0, N), (1, 0), (2, N)])?;
-    assert!(rt; checked.others() == 1 && checked.states(1).is_empty() && checked.pair(2).is_none());
+    let created = Yes(Account {
+        entities: &[&[], &[(9, Stopped)]],
+        pairs: &[(2, 1)],
+        changes: &[],
+        others: 0,
+    });
+    let other = Yes(Account {
+        entities: &[&[], &[]],
+        pairs: &[],
+        changes: &[],
+        others: 1,
+    });
+    for (answer, link, said) in [
+        (acknowledge(nine, 1, 1, 1), 1, created),
+        (acknowledge(NONE, 1, 1, 1), 1, No(2, Cause::Impossible)),
+        (acknowledge(nine, 3, 1, 1), 1, No(2, Cause::WrongAnswer)),
+        (acknowledge(nine, 5, 1, 1), N, other),
+    ] {
+        let done = [Sent(0, &create), Received(1, &create), Sent(1, &answer)];
+        let steps: Steps<'_> = &[(0, N), (1, 0), (2, link)];
+        assert_eq!(rt; first_otherwise(rt.alloc(), &[&[], &[]], &done, &[(steps, said)])?, None);
+    }
     Ok(())
 }
 
 #[test]
 fn an_identifier_is_for_one_order(rt: HostRuntime) -> Result<(), Fail> {
-    let alloc = rt.alloc();
     let create_seven = create(SEVEN, 1);
-    let other = create([0, 2, 0, 3, 0, 8], 1);
+    let create_eight = create([0, 2, 0, 3, 0, 8], 1);
     let again = create_later(SEVEN, 1);
-    let steps = [(0, N), (1, N)];
-    let log = recorded(
-        alloc,
-        two(alloc, &[])?,
-        &[Sent(0, &create_seven), Sent(0, &other)],
-    )?;
-    assert_eq!(rt; no(alloc, &log, &steps)?, bad(1, Cause::ReusedIdentifier));
-    let log = recorded(
-        alloc,
-        two(alloc, &[])?,
-        &[Sent(0, &create_seven), Sent(0, &again)],
-    )?;
-    assert!(rt; yes(alloc, &log, &steps)?.others() == 0);
-    let log = recorded(
-        alloc,
-        two(alloc, &[])?,
-        &[Sent(0, &create_seven), Sent(1, &again)],
-    )?;
-    assert_eq!(rt; no(alloc, &log, &steps)?, bad(1, Cause::WrongSender));
+    let silent = Yes(Account {
+        entities: &[&[], &[]],
+        pairs: &[],
+        changes: &[],
+        others: 0,
+    });
+    for (second, said) in [
+        (Sent(0, &create_eight), No(1, Cause::ReusedIdentifier)),
+        (Sent(0, &again), silent),
+        (Sent(1, &again), No(1, Cause::WrongSender)),
+    ] {
+        let done = [Sent(0, &create_seven), second];
+        let steps: Steps<'_> = &[(0, N), (1, N)];
+        assert_eq!(rt; first_otherwise(rt.alloc(), &[&[], &[]], &done, &[(steps, said)])?, None);
+    }
     Ok(())
 }
 
 #[test]
 fn a_query_is_answered_many_times(rt: HostRuntime) -> Result<(), Fail> {
     let alloc = rt.alloc();
-    let steps = [(0, N), (1, 0), (2, 1), (3, 1), (4, 1), (5, N)];
     let done = [
         Sent(0, &QUERY),
         Received(1, &QUERY),
@@ -357,23 +333,35 @@ fn a_query_is_answered_many_times(rt: HostRuntime) -> Result<(), Fail> {
         Sent(1, &DATA),
         Received(0, &ENTITY_STATE),
     ];
-    let log = recorded(alloc, two(alloc, &[])?, &done)?;
-    let checked = yes(alloc, &log, &steps)?;
-    assert!(rt; checked.others() == 1 && checked.pair(4) == Some(1) && checked.pair(5).is_none());
-    let log = recorded(alloc, two(alloc, &[])?, &[Sent(0, &QUERY), Sent(1, &DATA)])?;
-    assert_eq!(rt;
-        no(alloc, &log, &[(0, N), (1, N)])?,
-        bad(1, Cause::NoRequest)
-    );
+    let steps: Steps<'_> = &[(0, N), (1, 0), (2, 1), (3, 1), (4, 1), (5, N)];
+    let answered = Yes(Account {
+        entities: &[&[], &[]],
+        pairs: &[(2, 1), (3, 1), (4, 1)],
+        changes: &[],
+        others: 1,
+    });
+    assert_eq!(rt; first_otherwise(alloc, &[&[], &[]], &done, &[(steps, answered)])?, None);
+    let unasked = [Sent(0, &QUERY), Sent(1, &DATA)];
+    let steps: Steps<'_> = &[(0, N), (1, N)];
+    let said = No(1, Cause::NoRequest);
+    assert_eq!(rt; first_otherwise(alloc, &[&[], &[]], &unasked, &[(steps, said)])?, None);
+    Ok(())
+}
+
+#[test]
+fn a_stranger_is_told(rt: HostRuntime) -> Result<(), Fail> {
     let stranger = comment([0, 9, 0, 9, 0, 0]);
-    let log = recorded(alloc, two(alloc, &[])?, &[Received(0, &stranger)])?;
-    assert_eq!(rt; no(alloc, &log, &[(0, N)])?, bad(0, Cause::Stranger));
+    let steps: Steps<'_> = &[(0, N)];
+    let said = No(0, Cause::Stranger);
+    assert_eq!(rt;
+        first_otherwise(rt.alloc(), &[&[], &[]], &[Received(0, &stranger)], &[(steps, said)])?,
+        None
+    );
     Ok(())
 }
 
 #[test]
 fn an_answer_takes_up_the_first_request(rt: HostRuntime) -> Result<(), Fail> {
-    let alloc = rt.alloc();
     let create = create(SEVEN, 1);
     let able = acknowledge(SEVEN, 1, 1, 1);
     let done = [
@@ -383,19 +371,25 @@ fn an_answer_takes_up_the_first_request(rt: HostRuntime) -> Result<(), Fail> {
         Received(1, &create),
         Sent(1, &able),
     ];
-    let log = recorded(alloc, two(alloc, &[])?, &done)?;
-    let checked = yes(alloc, &log, &[(0, N), (1, 0), (2, 1), (3, 0), (4, 1)])?;
-    assert!(rt; checked.pair(2) == Some(1) && checked.pair(4) == Some(1));
-    assert_eq!(rt;
-        no(alloc, &log, &[(0, N), (1, 0), (2, 1), (3, 0), (4, 3)])?,
-        bad(4, Cause::BadLink)
-    );
+    let account = Account {
+        entities: &[&[], &[(7, Stopped)]],
+        pairs: &[(2, 1), (4, 1)],
+        changes: &[],
+        others: 0,
+    };
+    let certificates: [(Steps<'_>, Said<'_>); 2] = [
+        (&[(0, N), (1, 0), (2, 1), (3, 0), (4, 1)], Yes(account)),
+        (
+            &[(0, N), (1, 0), (2, 1), (3, 0), (4, 3)],
+            No(4, Cause::BadLink),
+        ),
+    ];
+    assert_eq!(rt; first_otherwise(rt.alloc(), &[&[], &[]], &done, &certificates)?, None);
     Ok(())
 }
 
 #[test]
 fn what_waits_for_each_other_never_happens(rt: HostRuntime) -> Result<(), Fail> {
-    let alloc = rt.alloc();
     let first = comment(MANAGER);
     let second = comment(NONE);
     let done = [
@@ -404,30 +398,24 @@ fn what_waits_for_each_other_never_happens(rt: HostRuntime) -> Result<(), Fail> 
         Received(1, &first),
         Sent(1, &second),
     ];
-    let log = recorded(alloc, two(alloc, &[])?, &done)?;
-    assert_eq!(rt;
-        no(alloc, &log, &[(0, 3), (1, N), (2, 1), (3, N)])?,
-        bad(0, Cause::NeverSent)
-    );
-    assert_eq!(rt;
-        no(alloc, &log, &[(2, 1), (3, N), (0, 3), (1, N)])?,
-        bad(0, Cause::NeverSent)
-    );
-    assert_eq!(rt;
-        no(alloc, &log, &[(3, N), (0, 3), (1, N), (2, 1)])?,
-        bad(0, Cause::OutOfOrder)
-    );
+    let certificates: [(Steps<'_>, Said<'_>); 3] = [
+        (&[(0, 3), (1, N), (2, 1), (3, N)], No(0, Cause::NeverSent)),
+        (&[(2, 1), (3, N), (0, 3), (1, N)], No(0, Cause::NeverSent)),
+        (&[(3, N), (0, 3), (1, N), (2, 1)], No(0, Cause::OutOfOrder)),
+    ];
+    assert_eq!(rt; first_otherwise(rt.alloc(), &[&[], &[]], &done, &certificates)?, None);
     Ok(())
 }
 
 /// Entity 7 is created, told to be in a state, and the request comes again and gets an answer with
-/// this response.
+/// this response; the number of the first certificate of which something else is said.
 fn asked_again(
     alloc: Global,
-    opening: &[(u16, EntityState)],
+    opening: Entities<'_>,
     told: EntityState,
     response: u8,
-) -> Result<Recording, Fail> {
+    certificates: &[(Steps<'_>, Said<'_>)],
+) -> Result<Option<usize>, Fail> {
     let create = create(SEVEN, 1);
     let able = acknowledge(SEVEN, 1, 1, 1);
     let again = acknowledge(SEVEN, 1, response, 1);
@@ -440,22 +428,29 @@ fn asked_again(
         Sent(0, &create),
         Received(0, &able),
     ];
-    recorded(alloc, two(alloc, opening)?, &done)
+    first_otherwise(alloc, &[&[], opening], &done, certificates)
 }
 
 #[test]
 fn a_history_with_a_copy_is_followed_step_by_step(rt: HostRuntime) -> Result<(), Fail> {
     let alloc = rt.alloc();
-    let steps = [(5, N), (0, 5), (1, 0), (2, N), (3, 5), (4, 0), (6, 1)];
-    let log = asked_again(alloc, &[], Stopped, 1)?;
-    assert!(rt; are(&yes(alloc, &log, &steps)?, 1, &[(7, Stopped)]));
-    let sooner = [(5, N), (0, 5), (1, 0), (6, 1), (2, N), (3, 5), (4, 0)];
-    assert!(rt; are(&yes(alloc, &log, &sooner)?, 1, &[(7, Stopped)]));
-    let log = asked_again(alloc, &[(7, Running)], Stopped, 1)?;
-    assert_eq!(rt; no(alloc, &log, &steps)?, bad(2, Cause::Impossible));
-    let log = asked_again(alloc, &[], Running, 1)?;
-    assert_eq!(rt; no(alloc, &log, &steps)?, bad(3, Cause::WrongState));
-    let log = asked_again(alloc, &[], Stopped, 2)?;
-    assert_eq!(rt; no(alloc, &log, &steps)?, bad(5, Cause::ChangedAnswer));
+    let steps: Steps<'_> = &[(5, N), (0, 5), (1, 0), (2, N), (3, 5), (4, 0), (6, 1)];
+    let sooner: Steps<'_> = &[(5, N), (0, 5), (1, 0), (6, 1), (2, N), (3, 5), (4, 0)];
+    let explained = Yes(Account {
+        entities: &[&[], &[(7, Stopped)]],
+        pairs: &[(1, 0), (4, 0)],
+        changes: &[(6, 1)],
+        others: 0,
+    });
+    let good = [(steps, explained), (sooner, explained)];
+    assert_eq!(rt; asked_again(alloc, &[], Stopped, 1, &good)?, None);
+    for (opening, told, response, step, cause) in [
+        (&[(7, Running)][..], Stopped, 1, 2, Cause::Impossible),
+        (&[], Running, 1, 3, Cause::WrongState),
+        (&[], Stopped, 2, 5, Cause::ChangedAnswer),
+    ] {
+        let bad = [(steps, No(step, cause))];
+        assert_eq!(rt; asked_again(alloc, opening, told, response, &bad)?, None);
+    }
     Ok(())
 }

@@ -82,28 +82,37 @@ fn entries_in_no_common_order_are_explained(rt: HostRuntime) -> Result<(), Fail>
     Ok(())
 }
 
-/// Entity 7 is created and started, and then told to be in a state; whether something else is said
-/// of what was done in this order.
-fn started_and_told(
-    alloc: Global,
+/// Entity 7 is created and started, and then told to be in a state.
+fn started_and_told<'a>(
+    create: &'a [u8],
+    created: &'a [u8],
+    start: &'a [u8],
+    started: &'a [u8],
     told: EntityState,
-    said: Said<'_>,
-) -> Result<Option<usize>, Fail> {
-    let create = create(SEVEN, 1);
-    let created = acknowledge(SEVEN, 1, 1, 1);
-    let start = start(SEVEN, 2);
-    let started = acknowledge(SEVEN, 3, 1, 2);
-    let done = [
-        Sent(0, &create),
-        Received(1, &create),
-        Sent(1, &created),
-        Received(0, &created),
-        Sent(0, &start),
-        Received(1, &start),
-        Sent(1, &started),
-        Received(0, &started),
+) -> [Done<'a>; 9] {
+    [
+        Sent(0, create),
+        Received(1, create),
+        Sent(1, created),
+        Received(0, created),
+        Sent(0, start),
+        Received(1, start),
+        Sent(1, started),
+        Received(0, started),
         Told(1, 7, told),
-    ];
+    ]
+}
+
+#[test]
+fn a_told_state_is_the_state_of_the_run(rt: HostRuntime) -> Result<(), Fail> {
+    let (create, created) = (create(SEVEN, 1), acknowledge(SEVEN, 1, 1, 1));
+    let (start, started) = (start(SEVEN, 2), acknowledge(SEVEN, 3, 1, 2));
+    let running = Account {
+        entities: &[&[], &[(7, Running)]],
+        pairs: &[(2, 1), (6, 5)],
+        changes: &[(3, 2), (7, 6)],
+        others: 0,
+    };
     let steps: Steps<'_> = &[
         (0, N),
         (1, 0),
@@ -115,20 +124,13 @@ fn started_and_told(
         (7, 6),
         (8, N),
     ];
-    first_otherwise(alloc, &[&[], &[]], &done, &[(steps, said)])
-}
-
-#[test]
-fn a_told_state_is_the_state_of_the_run(rt: HostRuntime) -> Result<(), Fail> {
-    let running = Account {
-        entities: &[&[], &[(7, Running)]],
-        pairs: &[(2, 1), (6, 5)],
-        changes: &[(3, 2), (7, 6)],
-        others: 0,
-    };
-    let wrong = No(8, Cause::WrongState);
-    assert_eq!(rt; started_and_told(rt.alloc(), Running, Yes(running))?, None);
-    assert_eq!(rt; started_and_told(rt.alloc(), Stopped, wrong)?, None);
+    for (told, said) in [
+        (Running, Yes(running)),
+        (Stopped, No(8, Cause::WrongState)),
+    ] {
+        let done = started_and_told(&create, &created, &start, &started, told);
+        assert_eq!(rt; first_otherwise(rt.alloc(), &[&[], &[]], &done, &[(steps, said)])?, None);
+    }
     Ok(())
 }
 
@@ -158,27 +160,38 @@ fn a_stop_to_all_is_answered_by_each(rt: HostRuntime) -> Result<(), Fail> {
 }
 
 /// Entity 7 is started and stopped, the first request comes again and is answered again, and then
-/// 7 is told to be in a state; whether something else is said of what was done in this order.
-fn answered_again_and_told(
-    alloc: Global,
+/// 7 is told to be in a state.
+fn answered_again_and_told<'a>(
+    start: &'a [u8],
+    started: &'a [u8],
+    stop: &'a [u8],
+    stopped: &'a [u8],
     told: EntityState,
-    said: Said<'_>,
-) -> Result<Option<usize>, Fail> {
-    let start = start(SEVEN, 1);
-    let started = acknowledge(SEVEN, 3, 1, 1);
-    let stop = stop(SEVEN, 2);
-    let stopped = acknowledge(SEVEN, 4, 1, 2);
-    let done = [
-        Sent(0, &start),
-        Received(1, &start),
-        Sent(1, &started),
-        Sent(0, &stop),
-        Received(1, &stop),
-        Sent(1, &stopped),
-        Received(1, &start),
-        Sent(1, &started),
+) -> [Done<'a>; 9] {
+    [
+        Sent(0, start),
+        Received(1, start),
+        Sent(1, started),
+        Sent(0, stop),
+        Received(1, stop),
+        Sent(1, stopped),
+        Received(1, start),
+        Sent(1, started),
         Told(1, 7, told),
-    ];
+    ]
+}
+
+#[test]
+fn a_repeat_changes_nothing(rt: HostRuntime) -> Result<(), Fail> {
+    let (start, started) = (start(SEVEN, 1), acknowledge(SEVEN, 3, 1, 1));
+    let (stop, stopped) = (stop(SEVEN, 2), acknowledge(SEVEN, 4, 1, 2));
+    let openings: [Entities<'_>; 2] = [&[], &[(7, Stopped)]];
+    let unchanged = Account {
+        entities: &[&[], &[(7, Stopped)]],
+        pairs: &[(2, 1), (5, 4), (7, 1)],
+        changes: &[],
+        others: 0,
+    };
     let steps: Steps<'_> = &[
         (0, N),
         (1, 0),
@@ -190,20 +203,13 @@ fn answered_again_and_told(
         (7, 1),
         (8, N),
     ];
-    first_otherwise(alloc, &[&[], &[(7, Stopped)]], &done, &[(steps, said)])
-}
-
-#[test]
-fn a_repeat_changes_nothing(rt: HostRuntime) -> Result<(), Fail> {
-    let stopped = Account {
-        entities: &[&[], &[(7, Stopped)]],
-        pairs: &[(2, 1), (5, 4), (7, 1)],
-        changes: &[],
-        others: 0,
-    };
-    let wrong = No(8, Cause::WrongState);
-    assert_eq!(rt; answered_again_and_told(rt.alloc(), Stopped, Yes(stopped))?, None);
-    assert_eq!(rt; answered_again_and_told(rt.alloc(), Running, wrong)?, None);
+    for (told, said) in [
+        (Stopped, Yes(unchanged)),
+        (Running, No(8, Cause::WrongState)),
+    ] {
+        let done = answered_again_and_told(&start, &started, &stop, &stopped, told);
+        assert_eq!(rt; first_otherwise(rt.alloc(), &openings, &done, &[(steps, said)])?, None);
+    }
     Ok(())
 }
 

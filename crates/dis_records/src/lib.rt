@@ -28,6 +28,3 @@ pub use entity_number::{fits, scope};
 pub use entity_state::EntityState;
 pub use header::{HEADER_SIZE, Header, HeaderFault, LARGEST, Version, read_header, write_header};
 pub use kind::Kind;
-
-#[cfg(test)]
-mod tests;

@@ -36,8 +36,3 @@ pub use checker::{CheckFault, check};
 pub use course::{Course, Progress};
 pub use laws::{refusals_hold, text_and_reading_agree};
 pub use step_laws::good_steps_have_no_cause;
-
-#[cfg(test)]
-mod certificate_tests;
-#[cfg(test)]
-mod tests;

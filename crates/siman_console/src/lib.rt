@@ -32,8 +32,6 @@ pub use answer::answers_follow_the_grammar;
 pub use check::{LARGEST_CERTIFICATE, check_command, check_files};
 pub use datagram::{pdu_command, pdu_from};
 pub use files_fault::FilesFault;
+pub use refusal::refusal_number;
 pub use show::{LARGEST_RECORDING, show_command};
 pub use words::{Task, read_words, unopened_file, unread_words, usage_command};
-
-#[cfg(test)]
-mod tests;

@@ -28,6 +28,3 @@ pub use pdu::{ABLE, Body, Pdu, UNABLE};
 pub use ranges::{datums_are_in_range, numbers_are_in_range, ranges_and_texts_agree};
 pub use roles::Role;
 pub use size::encoded_size;
-
-#[cfg(test)]
-mod tests;

@@ -1,4 +1,6 @@
-use super::*;
+//! The records of PDUs: headers, addresses, entities and datums, byte by byte.
+
+use dis_records::*;
 use std::test::*;
 
 // The head of a Create Entity of 28 bytes, in exercise 1.

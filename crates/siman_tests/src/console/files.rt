@@ -1,12 +1,12 @@
 //! Files that `check` cannot read, and answers that it cannot write.
 
-use super::datagrams::*;
 use super::scenes::Done::{Received, Sent};
 use super::scenes::*;
 use super::{FailingReader, FailingWriter, assert_checked, assert_left};
-use crate::{FilesFault, check_command, check_files};
+use crate::datagrams::*;
 use exercise_check::{CertificateFault, CertificateFormatFault};
 use exercise_recording::{FormatFault, RecordingFault};
+use siman_console::{FilesFault, check_command, check_files};
 use std::alloc::Global;
 use std::io::ErrorKind;
 use std::str;

@@ -1,9 +1,9 @@
 //! The reports of recordings that a certificate explains, and the lines of those that it does not.
 
 use super::assert_checked;
-use super::datagrams::*;
 use super::scenes::Done::{Received, Sent, Told};
 use super::scenes::*;
+use crate::datagrams::*;
 use std::alloc::Global;
 use std::process::Abort;
 use std::test::Fail;

@@ -1,4 +1,5 @@
-mod datagrams;
+//! The commands of the program, with what goes out.
+
 mod files;
 mod pdus;
 mod reports;
@@ -6,7 +7,7 @@ mod scenes;
 mod shows;
 mod words;
 
-use crate::check_command;
+use siman_console::check_command;
 use std::alloc::Global;
 use std::io::{ErrorKind, Read, Write};
 use std::process::Abort;

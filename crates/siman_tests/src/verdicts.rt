@@ -1,13 +1,15 @@
 //! What is answered to certificates, good and bad.
 
-use crate::NO_LINK as N;
-use crate::tests::datagrams::*;
-use crate::tests::scenes::Done::{Received, Sent, Told};
-use crate::tests::scenes::Said::{No, Yes};
-use crate::tests::scenes::*;
+mod scenes;
+
+use crate::datagrams::*;
 use dis_records::EntityState;
 use dis_records::EntityState::{Running, Stopped};
+use exercise_check::NO_LINK as N;
 use exercise_model::Cause;
+use scenes::Done::{Received, Sent, Told};
+use scenes::Said::{No, Yes};
+use scenes::*;
 use std::alloc::Global;
 use std::test::Fail;
 

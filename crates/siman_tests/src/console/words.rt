@@ -1,6 +1,6 @@
 //! The words of a command line, and files that cannot be opened.
 
-use crate::{Task, read_words, unopened_file, unread_words, usage_command};
+use siman_console::{Task, read_words, unopened_file, unread_words, usage_command};
 use std::alloc::Global;
 use std::io::ErrorKind;
 use std::test::*;

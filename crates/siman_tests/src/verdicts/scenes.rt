@@ -1,7 +1,7 @@
 //! What stations of exercise 1 did, and what is said of certificates for it.
 
-use crate::{Certificate, CheckFault, Checked, Step, check};
 use dis_records::{Address, EntityState};
+use exercise_check::{Certificate, CheckFault, Checked, Step, check};
 use exercise_model::{Cause, ExerciseLog, LogEntry, Recording, Station};
 use std::alloc::Global;
 use std::test::Fail;

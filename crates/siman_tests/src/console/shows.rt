@@ -1,7 +1,7 @@
 //! Recordings, shown line by line.
 
 use super::{FailingReader, FailingWriter, assert_left};
-use crate::show_command;
+use siman_console::show_command;
 use std::alloc::Global;
 use std::io::ErrorKind;
 use std::process::Abort;

@@ -1,4 +1,6 @@
-use super::*;
+//! PDUs and their datagrams, byte by byte.
+
+use siman_pdus::*;
 use dis_records::{ClockTime, EntityId, FixedDatum, HeaderFault, Kind, VariableDatum, Version};
 use std::alloc::Global;
 use std::process::Abort;

@@ -1,9 +1,8 @@
 //! Datagrams in hex text, shown or refused.
 
 use super::{FailingReader, FailingWriter, assert_left};
-use crate::refusal::refusal_number;
-use crate::{pdu_command, pdu_from};
 use dis_records::HeaderFault;
+use siman_console::{pdu_command, pdu_from, refusal_number};
 use siman_pdus::PduFault;
 use std::alloc::{AllocError, Global};
 use std::io::{ErrorKind, Read};

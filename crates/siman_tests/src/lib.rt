@@ -1,0 +1,17 @@
+//! The tests of all crates: worked rows, with literal datagrams, files and PDUs and with readers
+//! and writers that fail. They use what each crate offers, and stand in a crate of their own since
+//! a crate with tests is proved twice.
+#![tactic(auto)]
+
+#[cfg(test)]
+mod certificates;
+#[cfg(test)]
+mod console;
+#[cfg(test)]
+mod datagrams;
+#[cfg(test)]
+mod pdus;
+#[cfg(test)]
+mod records;
+#[cfg(test)]
+mod verdicts;

@@ -4,3 +4,4 @@ pub mod Course
 pub mod Sent
 pub mod Checked
 pub mod Certificate
+pub mod FaultText

@@ -1,45 +1,92 @@
 //! Why a certificate was not read or written.
 
-ghost use Rattle.std.specs.Prelude.{◌≡◌};
+ghost use Rattle.std.specs.Prelude.{◌≡◌, Some};
 ghost use Rattle.exercise_check.specs.Certificate.{said};
+ghost use Rattle.exercise_check.specs.FaultText.{name_of, place_of, format_fault_text, certificate_fault_text};
 ghost use Rattle.exercise_check.specs.declared.certificate_fault.CertificateFault.TheVariants.{Memory};
 
 use byte_files::FieldFault;
 use std::alloc::{AllocError, AllocFailed};
-use thiserror::Error;
+use std::error::Error;
+use std::fmt;
 
 /// The first field of a certificate's file that is bad, missing or past the limit, in the order of
 /// the format, with the offset in bytes, from 0, of that field; Truncated has the length of the
 /// input.
-#[derive(Clone, Copy, Debug, PartialEq, Eq, Error)]
+#[derive(Clone, Copy, Debug, PartialEq, Eq)]
 pub enum CertificateFormatFault {
     /// The first eight bytes are not the ASCII text `DSCT0001`.
-    #[error("magic at {0}")]
     Magic(u64),
     /// A field is not wholly there.
-    #[error("truncated at {0}")]
     Truncated(u64),
     /// A byte stands after the last step.
-    #[error("trailing at {0}")]
     Trailing(u64),
     /// The number of steps is above the limit.
-    #[error("over-limit at {0}")]
     OverLimit(u64),
 }
 
+impl CertificateFormatFault {
+    /// Its name.
+    pub fn name(self) -> &'static str
+        ensures { result.now ≡ name_of self }
+    {
+        match self {
+            CertificateFormatFault::Magic(_) => "magic",
+            CertificateFormatFault::Truncated(_) => "truncated",
+            CertificateFormatFault::Trailing(_) => "trailing",
+            CertificateFormatFault::OverLimit(_) => "over-limit",
+        }
+    }
+
+    /// Its offset in bytes, from 0.
+    pub fn place(self) -> u64
+        ensures { result ≡ place_of self }
+    {
+        match self {
+            CertificateFormatFault::Magic(at)
+            | CertificateFormatFault::Truncated(at)
+            | CertificateFormatFault::Trailing(at)
+            | CertificateFormatFault::OverLimit(at) => at,
+        }
+    }
+}
+
+/// `NAME at OFFSET`.
+impl fmt::Display for CertificateFormatFault {
+    ghost output = { λ f. Some (format_fault_text f) };
+
+    fn fmt<W: fmt::Write>(&self, f: &mut fmt::Formatter<W>) -> fmt::Result {
+        write!(f, "{} at {}", self.name(), self.place())
+    }
+}
+
+impl Error for CertificateFormatFault {}
+
 /// Why a certificate was not read.
-#[derive(Clone, Copy, Debug, PartialEq, Eq, Error)]
+#[derive(Clone, Copy, Debug, PartialEq, Eq)]
 pub enum CertificateFault {
     /// The bytes are no certificate within the limit.
-    #[error(transparent)]
     Format(CertificateFormatFault),
     /// A read failed.
-    #[error("read")]
     Read,
     /// There is no memory for what was read.
-    #[error("memory")]
     Memory,
 }
+
+/// The format's fault, `read` or `memory`.
+impl fmt::Display for CertificateFault {
+    ghost output = { λ f. Some (certificate_fault_text f) };
+
+    fn fmt<W: fmt::Write>(&self, f: &mut fmt::Formatter<W>) -> fmt::Result {
+        match self {
+            CertificateFault::Format(fault) => write!(f, "{fault}"),
+            CertificateFault::Read => write!(f, "read"),
+            CertificateFault::Memory => write!(f, "memory"),
+        }
+    }
+}
+
+impl Error for CertificateFault {}
 
 impl From<FieldFault> for CertificateFault {
     ghost from_gives = { λ fault e. e ≡ said fault };
@@ -74,7 +121,7 @@ impl<T: Drop> From<AllocFailed<T>> for CertificateFault {
 }
 
 /// Why a certificate was not written.
-#[derive(Clone, Copy, Debug, PartialEq, Eq, Error)]
+#[derive(Clone, Copy, Debug, PartialEq, Eq, thiserror::Error)]
 pub enum CertificateWriterFault {
     /// A write failed or took no byte; a prefix of the text is out.
     #[error("write")]

@@ -1,4 +1,3 @@
-pub mod Endings
 pub mod Fetches
 pub mod HexTexts
 pub mod Passings

@@ -7,8 +7,7 @@ use Rattle.std.proofs.Math.Seq.{take-append_seam, take-append-add}
 use Rattle.std.proofs.lemmas.List.{take-append-le}
 use Rattle.std.proofs.lemmas.Bool.{cases_lt}
 use Rattle.byte_files.specs.Writing.{WritesPart}
-use Rattle.siman_console.specs.declared.show_fault.ShowFault.{ShowFault}
-use Rattle.siman_console.specs.declared.show_fault.ShowFault.TheVariants.{Recording, Output, Memory}
+use Rattle.siman_console.specs.declared.fault.Fault.{Fault}
 use Rattle.siman_console.specs.Report.{texts_below}
 use Rattle.siman_console.specs.Show.{IsPassedOn, PassesOn}
 use Rattle.siman_console.proofs.Texts.{texts_below-more}
@@ -49,18 +48,14 @@ passed-then old mid new held text more after first second =
     append_assoc first.0 second.0 after ∙ ap (λ t. first.0 ++ t) second.2 ∙ sym (append_assoc first.0 held more) ∙ ap (λ t. t ++ more) first.2 in
     (first.0 ++ second.0, Appends-trans old mid new first.0 second.0 first.1 second.1, whole)
 
-pub passes-then : (result : Result (Unit {0}) ShowFault) (old mid new : Option (List ℕ)) (held text more after : List ℕ) → IsPassedOn old mid held text → PassesOn result mid new after (held ++ more) → PassesOn result old new after (text ++ more)
+pub passes-then : (result : Result (Unit {0}) Fault) (old mid new : Option (List ℕ)) (held text more after : List ℕ) → IsPassedOn old mid held text → PassesOn result mid new after (held ++ more) → PassesOn result old new after (text ++ more)
 passes-then (Ok x) old mid new held text more after first second = passed-then old mid new held text more after first second
-passes-then (Err (Recording fault)) old mid new held text more after first second = second
-passes-then (Err Output) old mid new held text more after first second = part-then old mid new held text more first second
-passes-then (Err Memory) old mid new held text more after first second = part-then old mid new held text more first second
+passes-then (Err fault) old mid new held text more after first second = (second.0, part-then old mid new held text more first second.1)
 
 -- a fault that was passed on, in a longer text
-pub fails-longer : (fault : ShowFault) (result : Result (Unit {0}) ShowFault) (old new : Option (List ℕ)) (held after text rest : List ℕ) → IsErrAnd result (λ e. e ≡ fault) → PassesOn (Err fault) old new held text → PassesOn result old new after (text ++ rest)
+pub fails-longer : (fault : Fault) (result : Result (Unit {0}) Fault) (old new : Option (List ℕ)) (held after text rest : List ℕ) → IsErrAnd result (λ e. e ≡ fault) → PassesOn (Err fault) old new held text → PassesOn result old new after (text ++ rest)
 fails-longer fault (Ok x) old new held after text rest passed failed = absurd passed
-fails-longer (Recording f) (Err e) old new held after text rest passed failed = absurd failed
-fails-longer Output (Err e) old new held after text rest passed failed = rw passed (part-longer old new text rest failed)
-fails-longer Memory (Err e) old new held after text rest passed failed = rw passed (part-longer old new text rest failed)
+fails-longer fault (Err e) old new held after text rest passed failed = rw passed (failed.0, part-longer old new text rest failed.1)
 
 -- the texts for all numbers begin with those for the numbers so far
 texts-split : (text : ℕ → List ℕ) (i n : ℕ) → i ≤ n → (rest : List ℕ) × (texts_below text n ≡ texts_below text i ++ rest)
@@ -79,7 +74,7 @@ loop-passes text i old mid new start held after so_far step =
     subst (IsPassedOn old new after) more (passed-then old mid new held (start ++ texts_below text i) (text i) after so_far step)
 
 -- a loop ended with a fault
-pub loop-fails : (text : ℕ → List ℕ) (i n : ℕ) (fault : ShowFault) (result : Result (Unit {0}) ShowFault) (old mid new : Option (List ℕ)) (start held after last : List ℕ) → i < n → IsErrAnd result (λ e. e ≡ fault)
+pub loop-fails : (text : ℕ → List ℕ) (i n : ℕ) (fault : Fault) (result : Result (Unit {0}) Fault) (old mid new : Option (List ℕ)) (start held after last : List ℕ) → i < n → IsErrAnd result (λ e. e ≡ fault)
     → IsPassedOn old mid held (start ++ texts_below text i) → PassesOn (Err fault) mid new after (held ++ text i) → PassesOn result old new last (start ++ texts_below text n)
 loop-fails text i n fault result old mid new start held after last within passed so_far step =
     let more : (start ++ texts_below text i) ++ text i ≡ start ++ texts_below text (i + 1) = append_assoc start (texts_below text i) (text i) ∙ ap (λ t. start ++ t) (sym (texts_below-more text i)) in
@@ -89,24 +84,20 @@ loop-fails text i n fault result old mid new start held after last within passed
     subst (PassesOn result old new last) all (fails-longer fault result old new after last (start ++ texts_below text (i + 1)) split.0 passed (subst (PassesOn (Err fault) old new after) more failed))
 
 -- a fault that was passed on, in the same text
-pub fails-same : (fault : ShowFault) (result : Result (Unit {0}) ShowFault) (old new : Option (List ℕ)) (held after text : List ℕ) → IsErrAnd result (λ e. e ≡ fault) → PassesOn (Err fault) old new held text → PassesOn result old new after text
+pub fails-same : (fault : Fault) (result : Result (Unit {0}) Fault) (old new : Option (List ℕ)) (held after text : List ℕ) → IsErrAnd result (λ e. e ≡ fault) → PassesOn (Err fault) old new held text → PassesOn result old new after text
 fails-same fault (Ok x) old new held after text passed failed = absurd passed
-fails-same (Recording f) (Err e) old new held after text passed failed = absurd failed
-fails-same Output (Err e) old new held after text passed failed = rw passed failed
-fails-same Memory (Err e) old new held after text passed failed = rw passed failed
+fails-same fault (Err e) old new held after text passed failed = rw passed failed
 
 none_left : (xs : List ℕ) → length xs ≤ 0 → xs ≡ []
 none_left [] within = refl
 none_left (x ∷ xs) within = absurd (omega arith)
 
-emptied : (result : Result (Unit {0}) ShowFault) (old new : Option (List ℕ)) (last text : List ℕ) → OnOk result (length last ≤ 0) → PassesOn result old new last text → PassesOn result old new [] text
+emptied : (result : Result (Unit {0}) Fault) (old new : Option (List ℕ)) (last text : List ℕ) → OnOk result (length last ≤ 0) → PassesOn result old new last text → PassesOn result old new [] text
 emptied (Ok x) old new last text within passed = subst (λ held. IsPassedOn old new held text) (none_left last within) passed
-emptied (Err (Recording f)) old new last text within passed = passed
-emptied (Err Output) old new last text within passed = passed
-emptied (Err Memory) old new last text within passed = passed
+emptied (Err fault) old new last text within passed = passed
 
 -- all that was held is passed on
-pub passes-last : (result : Result (Unit {0}) ShowFault) (old mid new : Option (List ℕ)) (held text last : List ℕ) → IsPassedOn old mid held text → PassesOn result mid new last held → OnOk result (length last ≤ 0) → PassesOn result old new [] text
+pub passes-last : (result : Result (Unit {0}) Fault) (old mid new : Option (List ℕ)) (held text last : List ℕ) → IsPassedOn old mid held text → PassesOn result mid new last held → OnOk result (length last ≤ 0) → PassesOn result old new [] text
 passes-last result old mid new held text last first second within =
     let whole = passes-then result old mid new held text [] last first (subst (PassesOn result mid new last) (sym (append-nil held)) second) in
     emptied result old new last text within (subst (PassesOn result old new last) (append-nil text) whole)

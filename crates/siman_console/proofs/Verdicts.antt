@@ -1,6 +1,5 @@
 -- How `check` ends that judged two files, or could not read one.
-use Rattle.std.proofs.Common.{◌≡◌, ℕ, List, Option, Bool, true, false, Result, Ok, Err, refl, arith, inl, inr}
-use Rattle.std.specs.Prelude.{Some, None, IfSome}
+use Rattle.std.proofs.Common.{◌≡◌, ℕ, List, Option, Bool, true, false, Result, Ok, Err, refl, inl, inr}
 use Rattle.std.specs.Result.{IsErrAnd}
 use Rattle.std.specs.Io.KnownBytes.{Keeps}
 use Rattle.exercise_model.specs.declared.cause.Cause.{Cause}
@@ -10,7 +9,6 @@ use Rattle.exercise_recording.specs.declared.format_fault.RecordingFault.TheVari
 use Rattle.exercise_model.specs.Recording.{PlainRecording}
 use Rattle.byte_files.specs.Fields.{Fails}
 use Rattle.exercise_recording.specs.Reading as reading
-use Rattle.exercise_recording.specs.Reading.{recording_at}
 use Rattle.exercise_check.specs.declared.certificate.Step.{Step}
 use Rattle.exercise_check.specs.declared.certificate_fault.CertificateFormatFault.TheVariants as certificate_faults
 use Rattle.exercise_check.specs.declared.certificate_fault.CertificateFault.{CertificateFault}
@@ -18,10 +16,9 @@ use Rattle.exercise_check.specs.declared.certificate_fault.CertificateFault.TheV
 use Rattle.exercise_check.specs.declared.checker.CheckFault.TheVariants.{Bad}
 use Rattle.exercise_check.specs.Goodness.{IsGood, Refuses}
 use Rattle.exercise_check.specs.Certificate as certificate
-use Rattle.exercise_check.specs.Certificate.{certificate_at}
 use Rattle.siman_console.specs.declared.files_fault.FilesFault.{FilesFault}
 use Rattle.siman_console.specs.declared.files_fault.FilesFault.TheVariants.{Recording, Certificate, Write, Memory}
-use Rattle.siman_console.specs.Check.{Recorded, Certified, Judges, of_recording, of_certificate, check_status, EndsCheck}
+use Rattle.siman_console.specs.Check.{Recorded, Certified, Judges, of_recording, of_certificate}
 
 -- what is refused is not good
 pub not_good : (r : PlainRecording) (steps : List Step) (k : ℕ) (cause : Cause) → Refuses r steps (Bad k cause) → ¬ IsGood r steps
@@ -64,22 +61,3 @@ some_certified certificates.Memory = (Err (certificate_faults.Magic 0), tt)
 pub judged_files : (recorded : Recorded) (certified : Certified) (r : PlainRecording) (steps : List Step) (result : Result Bool FilesFault) (old new : Option (List ℕ)) → recorded ≡ Ok r → certified ≡ Ok steps
     → Judges (Ok r) (Ok steps) result old new → Judges recorded certified result old new
 judged_files recorded certified r steps result old new read read_too judged = rw read (rw read_too judged)
-
-check_ends : (recorded : Recorded) (certified : Certified) (told : Result Bool FilesFault) (old new : Option (List ℕ)) → Judges recorded certified told old new → EndsCheck recorded certified (check_status told) old new
-check_ends recorded certified (Ok true) old new judged = record { status_is = omega arith; yes = λ _. judged; no = λ e. absurd (omega arith); faulty = λ e. absurd (omega arith); none = λ e. absurd (omega arith) }
-check_ends recorded certified (Ok false) old new judged = record { status_is = omega arith; yes = λ e. absurd (omega arith); no = λ _. judged; faulty = λ e. absurd (omega arith); none = λ e. absurd (omega arith) }
-check_ends recorded certified (Err (Recording fault)) old new judged = record { status_is = omega arith; yes = λ e. absurd (omega arith); no = λ e. absurd (omega arith); faulty = λ _. (Recording fault, refl, judged); none = λ e. absurd (omega arith) }
-check_ends recorded certified (Err (Certificate fault)) old new judged = record { status_is = omega arith; yes = λ e. absurd (omega arith); no = λ e. absurd (omega arith); faulty = λ _. (Certificate fault, refl, judged); none = λ e. absurd (omega arith) }
-check_ends recorded certified (Err Write) old new judged = record { status_is = omega arith; yes = λ e. absurd (omega arith); no = λ e. absurd (omega arith); faulty = λ _. (Write, refl, judged); none = λ e. absurd (omega arith) }
-check_ends recorded certified (Err Memory) old new judged = record { status_is = omega arith; yes = λ e. absurd (omega arith); no = λ e. absurd (omega arith); faulty = λ e. absurd (omega arith); none = λ _. judged }
-
--- The same with the status that was answered, and of what two readers have, where that is known.
-pub check_ends_with : (recorded : Recorded) (certified : Certified) (told : Result Bool FilesFault) (status : ℕ) (old new : Option (List ℕ)) → status ≡ check_status told → Judges recorded certified told old new → EndsCheck recorded certified status old new
-check_ends_with recorded certified told status old new e judged = rw e (check_ends recorded certified told old new judged)
-
-pub known_ends_with : (first second : Option (List ℕ)) (told : Result Bool FilesFault) (status : ℕ) (old new : Option (List ℕ)) → status ≡ check_status told
-    → IfSome first (λ r. IfSome second (λ c. Judges (recording_at 268435456 r) (certificate_at 1048576 c) told old new))
-    → IfSome first (λ r. IfSome second (λ c. EndsCheck (recording_at 268435456 r) (certificate_at 1048576 c) status old new))
-known_ends_with None second told status old new e judged = tt
-known_ends_with (Some r) None told status old new e judged = tt
-known_ends_with (Some r) (Some c) told status old new e judged = check_ends_with (recording_at 268435456 r) (certificate_at 1048576 c) told status old new e judged

@@ -5,8 +5,9 @@ use Rattle.dis_records.specs.Header.{header_at}
 use Rattle.siman_pdus.specs.declared.fault.PduFault.{PduFault}
 use Rattle.siman_pdus.specs.declared.pdu.Pdu.{Pdu}
 use Rattle.siman_pdus.specs.Reading.{pdu_from, refusal_of}
-use Rattle.siman_console.specs.declared.fault.CommandFault.{CommandFault}
-use Rattle.siman_console.specs.declared.fault.CommandFault.TheVariants.{NotBytePairs, Input, Output, Memory}
+use Rattle.siman_console.specs.declared.fault.Fault.{Fault}
+use Rattle.siman_console.specs.declared.fault.Fault.TheVariants.{NotBytePairs, Input, File, Words, Recording, Certificate, Output, Memory}
+use Rattle.siman_console.specs.Ending.{Ends}
 use Rattle.siman_console.specs.HexText.{bytes_of}
 use Rattle.siman_console.specs.Records.{pdu_lines}
 use Rattle.siman_console.specs.Refusal.{refusal_line}
@@ -50,17 +51,17 @@ abbrev pub said_of_input : List ℕ → Said
 said_of_input bytes = if nat_lt 65536 (length bytes) then not_byte_pairs else said_of_hex (without_line_end bytes)
 
 -- An answer was written whole, or of its text a prefix, and none of it where memory ran out or there is none to give.
-abbrev pub IsTold : Said → Result ℕ CommandFault → Option (List ℕ) → Option (List ℕ) → Type 0
+abbrev pub IsTold : Said → Result ℕ Fault → Option (List ℕ) → Option (List ℕ) → Type 0
 IsTold said (Ok status) old new = (status ≡ said.status) × (status ≤ 1) × Appends old new said.text
 IsTold said (Err NotBytePairs) old new = (said ≡ not_byte_pairs) × Keeps old new
 IsTold said (Err Input) old new = Keeps old new
+IsTold said (Err (File name)) old new = ⊥
+IsTold said (Err Words) old new = ⊥
+IsTold said (Err (Recording fault)) old new = ⊥
+IsTold said (Err (Certificate fault)) old new = ⊥
 IsTold said (Err Output) old new = (n : ℕ) × Appends old new (take n said.text)
 IsTold said (Err Memory) old new = Keeps old new
 
--- A command ended with this status, having had to say this.
-pub record Ends (said : Said) (status : ℕ) (old new : Option (List ℕ)) : Type 0 where
-  -- its own status, or that of a fault
-  pub status_is : (status ≡ said.status) ⊎ (status ≡ 2) ⊎ (status ≡ 3)
-  pub whole : status ≤ 1 → Appends old new said.text
-  pub part : status ≡ 2 → (n : ℕ) × Appends old new (take n said.text)
-  pub none : status ≡ 3 → Keeps old new
+-- HOW `pdu` ENDS that had to say this: what it told is out, and it ends as that asks for
+abbrev pub EndsPdu : Said → (status : ℕ) → (old new : Option (List ℕ)) → (told_old told_new : Option (List ℕ)) → Type 0
+EndsPdu said status old new told_old told_new = (told : Result ℕ Fault) × IsTold said told old new × Ends told status told_old told_new

@@ -17,6 +17,8 @@ use Rattle.exercise_check.specs.Order.{order_of}
 use Rattle.exercise_check.specs.Goodness.{IsGood, Refuses}
 use Rattle.siman_console.specs.declared.files_fault.FilesFault.{FilesFault}
 use Rattle.siman_console.specs.declared.files_fault.FilesFault.TheVariants.{Recording, Certificate, Write, Memory}
+use Rattle.siman_console.specs.declared.fault.Fault.{Fault}
+use Rattle.siman_console.specs.Ending.{Ends, of_files}
 use Rattle.siman_console.specs.Report.{report_text, no_line}
 
 -- what reading a recording gives, and what reading a certificate gives: its steps
@@ -101,15 +103,12 @@ files_fault_status (Certificate fault) = 2
 files_fault_status Write = 2
 files_fault_status Memory = 3
 
-abbrev pub check_status : Result Bool FilesFault → ℕ
-check_status (Ok true) = 0
-check_status (Ok false) = 1
-check_status (Err fault) = files_fault_status fault
+-- the status of what was judged: 0 yes, 1 no
+abbrev pub judged_status : Result Bool FilesFault → Result ℕ Fault
+judged_status (Ok true) = Ok 0
+judged_status (Ok false) = Ok 1
+judged_status (Err fault) = Err (of_files fault)
 
--- HOW `check` ENDS, with this status
-pub record EndsCheck (recorded : Recorded) (certified : Certified) (status : ℕ) (old new : Option (List ℕ)) : Type 0 where
-  pub status_is : status ≤ 3
-  pub yes : status ≡ 0 → SaysYes recorded certified old new
-  pub no : status ≡ 1 → SaysNo recorded certified old new
-  pub faulty : status ≡ 2 → (fault : FilesFault) × (files_fault_status fault ≡ 2) × Judges recorded certified (Err fault) old new
-  pub none : status ≡ 3 → Keeps old new
+-- HOW `check` ENDS: what it judged is out, and it ends as that asks for
+abbrev pub EndsCheck : Recorded → Certified → (status : ℕ) → (old new : Option (List ℕ)) → (told_old told_new : Option (List ℕ)) → Type 0
+EndsCheck recorded certified status old new told_old told_new = (judged : Result Bool FilesFault) × Judges recorded certified judged old new × Ends (judged_status judged) status told_old told_new

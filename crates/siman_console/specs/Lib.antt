@@ -2,9 +2,10 @@ pub mod Head
 pub mod Records
 pub mod Refusal
 pub mod HexText
-pub mod CommandFault
 pub mod Answer
-pub mod ShowFault
 pub mod Report
 pub mod Check
 pub mod Show
+pub mod Ending
+pub mod Outside
+pub mod Program

@@ -14,12 +14,12 @@ use Rattle.exercise_model.specs.Recording.{PlainRecording}
 use Rattle.exercise_model.specs.History.{station_at}
 use Rattle.exercise_model.specs.Meaning.{meaning}
 use Rattle.byte_files.specs.Writing.{WritesPart}
-use Rattle.siman_console.specs.declared.show_fault.ShowFault.{ShowFault}
-use Rattle.siman_console.specs.declared.show_fault.ShowFault.TheVariants.{Recording, Output, Memory}
+use Rattle.siman_console.specs.declared.fault.Fault.{Fault}
+use Rattle.siman_console.specs.declared.fault.Fault.TheVariants.{NotBytePairs, Input, File, Words, Recording, Certificate, Output, Memory}
+use Rattle.siman_console.specs.Ending.{Ends}
 use Rattle.siman_console.specs.Head.{head_text}
 use Rattle.siman_console.specs.Records.{line_end}
 use Rattle.siman_console.specs.Report.{state_text, texts_below}
-use Rattle.siman_console.specs.ShowFault.{show_fault_status}
 
 -- exercise=X stations=N records=N
 abbrev pub counts_line : PlainRecording → List ℕ
@@ -66,12 +66,14 @@ show_text r = counts_line r ++ texts_below (station_shown r) (length r.setting.s
 abbrev pub IsPassedOn : Option (List ℕ) → Option (List ℕ) → (held text : List ℕ) → Type 0
 IsPassedOn old new held text = (out : List ℕ) × Appends old new out × (out ++ held ≡ text)
 
+-- Lines are not passed on where a write fails or memory runs out.
+abbrev pub IsUnpassed : Fault → Type 0
+IsUnpassed fault = (fault ≡ Output) ⊎ (fault ≡ Memory)
+
 -- Lines were passed on, or of their text a prefix is out.
-abbrev pub PassesOn : Result (Unit {0}) ShowFault → Option (List ℕ) → Option (List ℕ) → (held text : List ℕ) → Type 0
+abbrev pub PassesOn : Result (Unit {0}) Fault → Option (List ℕ) → Option (List ℕ) → (held text : List ℕ) → Type 0
 PassesOn (Ok x) old new held text = IsPassedOn old new held text
-PassesOn (Err (Recording fault)) old new held text = ⊥
-PassesOn (Err Output) old new held text = WritesPart old new text
-PassesOn (Err Memory) old new held text = WritesPart old new text
+PassesOn (Err fault) old new held text = IsUnpassed fault × WritesPart old new text
 
 -- the recording that was read is out whole, or a prefix of its text
 abbrev pub ShowsWhole : Result PlainRecording FormatFault → Option (List ℕ) → Option (List ℕ) → Type 0
@@ -81,25 +83,24 @@ abbrev pub ShowsPart : Result PlainRecording FormatFault → Option (List ℕ) �
 ShowsPart recorded old new = (r : PlainRecording) × (recorded ≡ Ok r) × WritesPart old new (show_text r)
 
 -- A recording was shown, or there was none to show; a failed read may come in its place, want of memory before it and while it is shown.
-abbrev pub Shows : Result PlainRecording FormatFault → Result (Unit {0}) ShowFault → Option (List ℕ) → Option (List ℕ) → Type 0
+abbrev pub Shows : Result PlainRecording FormatFault → Result (Unit {0}) Fault → Option (List ℕ) → Option (List ℕ) → Type 0
 Shows recorded (Ok x) old new = ShowsWhole recorded old new
 Shows recorded (Err (Recording (recordings.Format fault))) old new = (recorded ≡ Err fault) × Keeps old new
 Shows recorded (Err (Recording recordings.Read)) old new = Keeps old new
 Shows recorded (Err (Recording recordings.Memory)) old new = ⊥
+Shows recorded (Err NotBytePairs) old new = ⊥
+Shows recorded (Err Input) old new = ⊥
+Shows recorded (Err (File name)) old new = ⊥
+Shows recorded (Err Words) old new = ⊥
+Shows recorded (Err (Certificate fault)) old new = ⊥
 Shows recorded (Err Output) old new = ShowsPart recorded old new
 Shows recorded (Err Memory) old new = Keeps old new ⊎ ShowsPart recorded old new
 
--- how a recording's fault is told
-abbrev pub of_recording : RecordingFault → ShowFault
-of_recording (recordings.Format fault) = Recording (recordings.Format fault)
-of_recording recordings.Read = Recording recordings.Read
-of_recording recordings.Memory = Memory
+-- the status of a recording that was shown is 0
+abbrev pub shown_status : Result (Unit {0}) Fault → Result ℕ Fault
+shown_status (Ok x) = Ok 0
+shown_status (Err fault) = Err fault
 
--- HOW `show` ENDS, with this status
-pub record EndsShow (recorded : Result PlainRecording FormatFault) (status : ℕ) (old new : Option (List ℕ)) : Type 0 where
-  -- the text of the recording is out, behind what was there
-  pub whole : status ≡ 0 → ShowsWhole recorded old new
-  -- a fault of the recording, with nothing out, or a failed write, with a prefix out
-  pub faulty : status ≡ 2 → (fault : ShowFault) × (show_fault_status fault ≡ 2) × Shows recorded (Err fault) old new
-  -- want of memory, with nothing or a prefix out
-  pub none : status ≡ 3 → Shows recorded (Err Memory) old new
+-- HOW `show` ENDS: what it showed is out, and it ends as that asks for
+abbrev pub EndsShow : Result PlainRecording FormatFault → (status : ℕ) → (old new : Option (List ℕ)) → (told_old told_new : Option (List ℕ)) → Type 0
+EndsShow recorded status old new told_old told_new = (shown : Result (Unit {0}) Fault) × Shows recorded shown old new × Ends (shown_status shown) status told_old told_new

@@ -4,8 +4,9 @@ ghost use Rattle.std.specs.Prelude.{◌≡◌, ◌≤◌, IfSome, OnOk, Ok};
 ghost use Rattle.std.specs.Io.KnownBytes.{Keeps};
 ghost use Rattle.exercise_recording.specs.Reading.{recording_at};
 ghost use Rattle.exercise_check.specs.Certificate.{certificate_at};
-ghost use Rattle.siman_console.specs.Check.{Recorded, Certified, Judges, check_status, EndsCheck};
+ghost use Rattle.siman_console.specs.Check.{Recorded, Certified, Judges, judged_status, EndsCheck};
 
+use crate::fault::{Fault, end};
 use crate::files_fault::FilesFault;
 use crate::report::{no_line, report_text};
 use crate::show::LARGEST_RECORDING;
@@ -52,13 +53,13 @@ pub fn check_command<R: Read + Drop, C: Read + Drop, W: Write, E: Write>(
     out: &mut W,
     errors: &mut E,
 ) -> u8
-    ensures known { IfSome (R.remaining recording) (λ r. IfSome (C.remaining certificate) (λ c. EndsCheck (recording_at 268435456 r) (certificate_at 1048576 c) result (W.contents out.old) (W.contents out.new))) }
+    ensures known { IfSome (R.remaining recording) (λ r. IfSome (C.remaining certificate) (λ c. EndsCheck (recording_at 268435456 r) (certificate_at 1048576 c) result (W.contents out.old) (W.contents out.new) (E.contents errors.old) (E.contents errors.new))) }
     // Whatever it read, it ended as that asks for.
-    ensures ends { (recorded : Recorded) × (certified : Certified) × EndsCheck recorded certified result (W.contents out.old) (W.contents out.new) }
+    ensures ends { (recorded : Recorded) × (certified : Certified) × EndsCheck recorded certified result (W.contents out.old) (W.contents out.new) (E.contents errors.old) (E.contents errors.new) }
     ensures silent { result ≤ 1 → Keeps (E.contents errors.old) (E.contents errors.new) }
 {
-    let told = check_files(alloc, recording, certificate, out);
-    end(told, errors)
+    let judged = check_files(alloc, recording, certificate, out);
+    end(status_of(judged), errors)
 }
 
 /// Writes what is to be said of a log and a certificate.
@@ -90,18 +91,13 @@ fn judge<L: ExerciseLog, W: Write>(
     }
 }
 
-/// The status that the command ends with, after it told its fault.
-fn end<E: Write>(told: Result<bool, FilesFault>, errors: &mut E) -> u8
-    ensures status { result ≡ check_status told }
-    ensures silent { OnOk told (Keeps (E.contents errors.old) (E.contents errors.new)) }
+/// The status of what was judged: 0 is a yes, 1 a no.
+fn status_of(judged: Result<bool, FilesFault>) -> Result<u8, Fault<'static>>
+    ensures { result ≡ judged_status judged }
 {
-    match told {
-        Ok(true) => 0,
-        Ok(false) => 1,
-        Err(fault) => {
-            // A fault that can't be written has nowhere to be told.
-            let _ = writeln!(errors, "{fault}");
-            fault.status()
-        }
+    match judged {
+        Ok(true) => Ok(0),
+        Ok(false) => Ok(1),
+        Err(fault) => Err(Fault::from(fault)),
     }
 }

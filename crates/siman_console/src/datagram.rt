@@ -2,11 +2,10 @@
 
 ghost use Rattle.std.specs.Prelude.{◌≡◌, ◌≤◌, ℕ, List, OnOk, IfSome};
 ghost use Rattle.std.specs.Io.KnownBytes.{Keeps};
-ghost use Rattle.siman_console.specs.CommandFault.{status_of};
-ghost use Rattle.siman_console.specs.Answer.{said_of_hex, said_of_input, without_line_end, IsTold, Ends};
+ghost use Rattle.siman_console.specs.Answer.{said_of_hex, said_of_input, without_line_end, IsTold, EndsPdu};
 
 use crate::answer::Answer;
-use crate::fault::CommandFault;
+use crate::fault::{Fault, end};
 use crate::hex_text::{LONGEST, hex_bytes};
 use crate::input::read_text;
 use byte_files::put;
@@ -20,7 +19,7 @@ use std::io::{Read, Write};
 /// pairs`), or that a write to `out` failed (`output: write`), after which a prefix of the text is
 /// out. Status 3 is want of memory (`memory`), and nothing is out.
 pub fn pdu_command<W: Write, E: Write>(alloc: Global, hex: &str, out: &mut W, errors: &mut E) -> u8
-    ensures ends { Ends (said_of_hex hex.now) result (W.contents out.old) (W.contents out.new) }
+    ensures ends { EndsPdu (said_of_hex hex.now) result (W.contents out.old) (W.contents out.new) (E.contents errors.old) (E.contents errors.new) }
     ensures silent { result ≤ 1 → Keeps (E.contents errors.old) (E.contents errors.new) }
 {
     let told = tell(alloc, hex.as_bytes(), out);
@@ -36,9 +35,9 @@ pub fn pdu_from<R: Read + Drop, W: Write, E: Write>(
     out: &mut W,
     errors: &mut E,
 ) -> u8
-    ensures known { IfSome (R.remaining reader) (λ bytes. Ends (said_of_input bytes) result (W.contents out.old) (W.contents out.new)) }
+    ensures known { IfSome (R.remaining reader) (λ bytes. EndsPdu (said_of_input bytes) result (W.contents out.old) (W.contents out.new) (E.contents errors.old) (E.contents errors.new)) }
     // Whatever it read, it answered for that.
-    ensures ends { (bytes : List ℕ) × Ends (said_of_input bytes) result (W.contents out.old) (W.contents out.new) }
+    ensures ends { (bytes : List ℕ) × EndsPdu (said_of_input bytes) result (W.contents out.old) (W.contents out.new) (E.contents errors.old) (E.contents errors.new) }
     ensures silent { result ≤ 1 → Keeps (E.contents errors.old) (E.contents errors.new) }
 {
     let mut reader = reader;
@@ -47,23 +46,23 @@ pub fn pdu_from<R: Read + Drop, W: Write, E: Write>(
 }
 
 /// Writes the answer for hex text, and gives its status.
-fn tell<W: Write>(alloc: Global, hex: &[u8], out: &mut W) -> Result<u8, CommandFault>
+fn tell<W: Write>(alloc: Global, hex: &[u8], out: &mut W) -> Result<u8, Fault<'static>>
     ensures { IsTold (said_of_hex hex.now) result (W.contents out.old) (W.contents out.new) }
 {
     let datagram = hex_bytes(alloc, hex)?;
     let answer = Answer::to(alloc, &datagram)?;
     match put(out, answer.text().as_bytes()) {
         Ok(()) => Ok(answer.status()),
-        Err(_) => Err(CommandFault::Output),
+        Err(_) => Err(Fault::Output),
     }
 }
 
 /// Writes the answer for hex text that one line end may follow, and gives its status.
-fn tell_line<W: Write>(alloc: Global, text: &[u8], out: &mut W) -> Result<u8, CommandFault>
+fn tell_line<W: Write>(alloc: Global, text: &[u8], out: &mut W) -> Result<u8, Fault<'static>>
     ensures { IsTold (said_of_input text.now) result (W.contents out.old) (W.contents out.new) }
 {
     if text.len() > LONGEST {
-        return Err(CommandFault::NotBytePairs);
+        return Err(Fault::NotBytePairs);
     }
     tell(alloc, before_line_end(text), out)
 }
@@ -82,25 +81,10 @@ fn tell_input<R: Read, W: Write>(
     alloc: Global,
     reader: &mut R,
     out: &mut W,
-) -> Result<u8, CommandFault>
+) -> Result<u8, Fault<'static>>
     ensures known { IfSome (R.remaining reader.old) (λ bytes. IsTold (said_of_input bytes) result (W.contents out.old) (W.contents out.new)) }
     ensures some { (bytes : List ℕ) × IsTold (said_of_input bytes) result (W.contents out.old) (W.contents out.new) }
 {
     let text = read_text(alloc, reader)?;
     tell_line(alloc, &text, out)
-}
-
-/// The status that a command ends with, after it told its fault.
-fn end<E: Write>(told: Result<u8, CommandFault>, errors: &mut E) -> u8
-    ensures status { result ≡ status_of told }
-    ensures silent { OnOk told (Keeps (E.contents errors.old) (E.contents errors.new)) }
-{
-    match told {
-        Ok(status) => status,
-        Err(fault) => {
-            // A fault that can't be written has nowhere to be told.
-            let _ = writeln!(errors, "{fault}");
-            fault.status()
-        }
-    }
 }

@@ -1,29 +1,28 @@
 //! Why a certificate was not judged.
 
-ghost use Rattle.std.specs.Prelude.{◌≡◌};
+ghost use Rattle.std.specs.Prelude.{◌≡◌, Some};
 ghost use Rattle.siman_console.specs.declared.files_fault.FilesFault.TheVariants.{Memory};
 ghost use Rattle.siman_console.specs.Check.{of_recording, of_certificate, files_fault_status};
+ghost use Rattle.siman_console.specs.Ending.{of_files, fault_text};
 
+use crate::fault::Fault;
 use exercise_check::CertificateFault;
 use exercise_recording::RecordingFault;
 use std::alloc::AllocError;
-use thiserror::Error;
+use std::error::Error;
+use std::fmt;
 
 /// Why a certificate was not judged, or the answer not written whole. Its `Display` is the line of
 /// the fault.
-#[derive(Clone, Copy, Debug, PartialEq, Eq, Error)]
+#[derive(Clone, Copy, Debug, PartialEq, Eq)]
 pub enum FilesFault {
     /// The recording could not be read; never for want of memory.
-    #[error("recording: {0}")]
     Recording(RecordingFault),
     /// The certificate could not be read; never for want of memory.
-    #[error("certificate: {0}")]
     Certificate(CertificateFault),
     /// The answer could not be written whole; a prefix of it is out.
-    #[error("output: write")]
     Write,
     /// Memory ran out; nothing is out.
-    #[error("memory")]
     Memory,
 }
 
@@ -38,6 +37,16 @@ impl FilesFault {
         }
     }
 }
+
+impl fmt::Display for FilesFault {
+    ghost output = { λ f. Some (fault_text (of_files f)) };
+
+    fn fmt<W: fmt::Write>(&self, f: &mut fmt::Formatter<W>) -> fmt::Result {
+        write!(f, "{}", Fault::from(*self))
+    }
+}
+
+impl Error for FilesFault {}
 
 impl From<RecordingFault> for FilesFault {
     ghost from_gives = { λ fault e. e ≡ of_recording fault };

@@ -3,7 +3,7 @@
 ghost use Rattle.std.specs.Prelude.{◌≡◌, ◌⊎◌, IfOk, IfErr, Some, None};
 ghost use Rattle.siman_console.specs.HexText.{bytes_of};
 
-use crate::fault::CommandFault;
+use crate::fault::Fault;
 use std::alloc::Global;
 
 /// The size in bytes of the longest hex text that is read.
@@ -11,16 +11,16 @@ pub const LONGEST: usize = 65_536;
 
 /// The bytes that a text spells in pairs of hex digits of either case, with nothing else before,
 /// between or after them.
-pub fn hex_bytes(alloc: Global, text: &[u8]) -> Result<Vec<u8>, CommandFault>
+pub fn hex_bytes(alloc: Global, text: &[u8]) -> Result<Vec<u8>, Fault<'static>>
     ensures read { IfOk result (λ bytes. bytes_of text.now ≡ Some bytes.items) }
-    ensures refused { IfErr result (λ fault. (fault ≡ CommandFault.Memory) ⊎ ((fault ≡ CommandFault.NotBytePairs) × (bytes_of text.now ≡ None))) }
+    ensures refused { IfErr result (λ fault. (fault ≡ Fault.Memory) ⊎ ((fault ≡ Fault.NotBytePairs) × (bytes_of text.now ≡ None))) }
 {
     if text.len() > LONGEST {
-        return Err(CommandFault::NotBytePairs);
+        return Err(Fault::NotBytePairs);
     }
     match hex::decode(alloc, text) {
         Ok(bytes) => Ok(bytes),
-        Err(hex::FromHexError::OutOfMemory) => Err(CommandFault::Memory),
-        Err(_) => Err(CommandFault::NotBytePairs),
+        Err(hex::FromHexError::OutOfMemory) => Err(Fault::Memory),
+        Err(_) => Err(Fault::NotBytePairs),
     }
 }

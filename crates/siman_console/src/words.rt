@@ -5,7 +5,7 @@ ghost use Rattle.std.specs.Io.KnownBytes.{Keeps};
 ghost use Rattle.std.specs.IoError.{error_kind};
 ghost use Rattle.clap.specs.Values.{kind_of};
 
-use crate::fault::CommandFault;
+use crate::fault::Fault;
 use clap::error::ErrorKind;
 use clap::{Arg, ArgAction, Command, Error};
 use std::alloc::Global;
@@ -104,8 +104,8 @@ pub fn usage_command<W: Write, E: Write>(error: &Error, out: &mut W, errors: &mu
     ensures no_help { (kind_of error.now ≢ ErrorKind.DisplayHelp) → (kind_of error.now ≢ ErrorKind.DisplayVersion) → (2 ≤ result) × Keeps (W.contents out.old) (W.contents out.new) }
 {
     if error.kind() == ErrorKind::OutOfMemory {
-        let _ = writeln!(errors, "{}", CommandFault::Memory);
-        return CommandFault::Memory.status();
+        let _ = writeln!(errors, "{}", Fault::Memory);
+        return Fault::Memory.status();
     }
     if error.use_stderr() {
         let _ = write!(errors, "{error}");
@@ -114,8 +114,8 @@ pub fn usage_command<W: Write, E: Write>(error: &Error, out: &mut W, errors: &mu
     match write!(out, "{error}") {
         Ok(()) => 0,
         Err(_) => {
-            let _ = writeln!(errors, "{}", CommandFault::Output);
-            CommandFault::Output.status()
+            let _ = writeln!(errors, "{}", Fault::Output);
+            Fault::Output.status()
         }
     }
 }
@@ -127,8 +127,8 @@ pub fn unread_words<E: Write>(error: &io::Error, errors: &mut E) -> u8
     ensures memory { (result ≡ 3) ↔ (error_kind error.now ≡ IoKind.OutOfMemory) }
 {
     if error.kind() == IoKind::OutOfMemory {
-        let _ = writeln!(errors, "{}", CommandFault::Memory);
-        return CommandFault::Memory.status();
+        let _ = writeln!(errors, "{}", Fault::Memory);
+        return Fault::Memory.status();
     }
     let _ = writeln!(errors, "words: not UTF-8");
     2
@@ -141,8 +141,8 @@ pub fn unopened_file<E: Write>(name: &str, error: &io::Error, errors: &mut E) ->
     ensures memory { (result ≡ 3) ↔ (error_kind error.now ≡ IoKind.OutOfMemory) }
 {
     if error.kind() == IoKind::OutOfMemory {
-        let _ = writeln!(errors, "{}", CommandFault::Memory);
-        return CommandFault::Memory.status();
+        let _ = writeln!(errors, "{}", Fault::Memory);
+        return Fault::Memory.status();
     }
     let _ = writeln!(errors, "file: {name}");
     2

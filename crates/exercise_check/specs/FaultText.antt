@@ -1,0 +1,30 @@
+-- The texts of a certificate's faults (profile).
+use Rattle.std.specs.Prelude.{ℕ, List, ◌++◌, codes, decimal}
+use Rattle.exercise_check.specs.declared.certificate_fault.CertificateFormatFault.{CertificateFormatFault}
+use Rattle.exercise_check.specs.declared.certificate_fault.CertificateFormatFault.TheVariants.{Magic, Truncated, Trailing, OverLimit}
+use Rattle.exercise_check.specs.declared.certificate_fault.CertificateFault.{CertificateFault}
+use Rattle.exercise_check.specs.declared.certificate_fault.CertificateFault.TheVariants.{Format, Read, Memory}
+
+-- the name of a fault of the format
+abbrev pub name_of : CertificateFormatFault → List ℕ
+name_of (Magic n) = codes "magic"
+name_of (Truncated n) = codes "truncated"
+name_of (Trailing n) = codes "trailing"
+name_of (OverLimit n) = codes "over-limit"
+
+-- its offset in bytes
+abbrev pub place_of : CertificateFormatFault → ℕ
+place_of (Magic n) = n
+place_of (Truncated n) = n
+place_of (Trailing n) = n
+place_of (OverLimit n) = n
+
+-- NAME at OFFSET
+abbrev pub format_fault_text : CertificateFormatFault → List ℕ
+format_fault_text f = name_of f ++ codes " at " ++ decimal (place_of f)
+
+-- why a certificate was not read
+abbrev pub certificate_fault_text : CertificateFault → List ℕ
+certificate_fault_text (Format f) = format_fault_text f
+certificate_fault_text Read = codes "read"
+certificate_fault_text Memory = codes "memory"

@@ -1,0 +1,71 @@
+-- How the program ends, from the words of its command line to its status.
+use Rattle.std.specs.Prelude.{◌≡◌, ◌≢◌, ◌⊎◌, ℕ, List, [], ◌∷◌, ◌++◌, codes, Option, Some, None, Result, Ok, Err}
+use Rattle.std.specs.Io.KnownBytes.{Keeps}
+use Rattle.std_io.specs.declared.io.kind.ErrorKind.{ErrorKind}
+use Rattle.std_io.specs.declared.io.kind.ErrorKind.TheVariants.{OutOfMemory}
+use Rattle.exercise_model.specs.Recording.{PlainRecording}
+use Rattle.exercise_recording.specs.declared.format_fault.FormatFault.{FormatFault}
+use Rattle.exercise_recording.specs.Reading.{recording_at}
+use Rattle.exercise_check.specs.Certificate.{certificate_at}
+use Rattle.siman_console.specs.declared.fault.Fault.{Fault}
+use Rattle.siman_console.specs.declared.fault.Fault.TheVariants.{File, Memory}
+use Rattle.siman_console.specs.declared.words.Task.{Task}
+use Rattle.siman_console.specs.declared.words.Task.TheVariants.{Input, Pdu, Show, Check}
+use Rattle.siman_console.specs.Answer.{said_of_hex, said_of_input, EndsPdu}
+use Rattle.siman_console.specs.Check.{Recorded, Certified, EndsCheck}
+use Rattle.siman_console.specs.Ending.{Ends, fault_text}
+use Rattle.siman_console.specs.Outside.{Found, Deed, Opens, Makes}
+use Rattle.siman_console.specs.Show.{EndsShow}
+
+-- what stood on a writer before, and what stands on it now, where that is known
+pub record Stream : Type 0 where
+  pub old : Option (List ℕ)
+  pub new : Option (List ℕ)
+
+-- how a command ended: its status, the writer of answers and the writer of faults
+pub record Outcome : Type 0 where
+  pub status : ℕ
+  pub out : Stream
+  pub told : Stream
+
+-- `pdu` had to say what these bytes of standard input ask for, where they are known, or what some bytes do
+abbrev pub EndsInput : Option (List ℕ) → Outcome → Type 0
+EndsInput (Some bytes) o = EndsPdu (said_of_input bytes) o.status o.out.old o.out.new o.told.old o.told.new
+EndsInput None o = (bytes : List ℕ) × EndsPdu (said_of_input bytes) o.status o.out.old o.out.new o.told.old o.told.new
+
+-- `show` had these bytes to show, or some
+abbrev pub EndsShowing : Option (List ℕ) → Outcome → Type 0
+EndsShowing (Some bytes) o = EndsShow (recording_at 268435456 bytes) o.status o.out.old o.out.new o.told.old o.told.new
+EndsShowing None o = (recorded : Recorded) × EndsShow recorded o.status o.out.old o.out.new o.told.old o.told.new
+
+-- `check` had these bytes to judge, where both are known, or some
+abbrev pub EndsChecking : Option (List ℕ) → Option (List ℕ) → Outcome → Type 0
+EndsChecking (Some r) (Some c) o = EndsCheck (recording_at 268435456 r) (certificate_at 1048576 c) o.status o.out.old o.out.new o.told.old o.told.new
+EndsChecking r c o = (recorded : Recorded) × (certified : Certified) × EndsCheck recorded certified o.status o.out.old o.out.new o.told.old o.told.new
+
+-- how a file that was not opened is told: want of memory, or else `file: NAME` with the name as it was given
+abbrev pub IsUnopened : List ℕ → ErrorKind → Fault → Type 0
+IsUnopened name kind fault = ((kind ≡ OutOfMemory) × (fault ≡ Memory)) ⊎ ((kind ≢ OutOfMemory) × (fault_text fault ≡ codes "file: " ++ name))
+
+abbrev pub EndsUnopened : List ℕ → ErrorKind → Outcome → Type 0
+EndsUnopened name kind o = Keeps o.out.old o.out.new × ((fault : Fault) × IsUnopened name kind fault × Ends (Err fault) o.status o.told.old o.told.new)
+
+-- ONE FILE IS OPENED for `show`
+abbrev pub ShowsFile : List ℕ → List Deed → Outcome → Type 0
+ShowsFile name (Opens opened (Ok bytes) ∷ []) o = (opened ≡ name) × EndsShowing bytes o
+ShowsFile name (Opens opened (Err kind) ∷ []) o = (opened ≡ name) × EndsUnopened name kind o
+ShowsFile name deeds o = ⊥
+
+-- TWO FILES ARE OPENED for `check`, the recording first; where that fails the other is not
+abbrev pub ChecksFiles : (recording certificate : List ℕ) → List Deed → Outcome → Type 0
+ChecksFiles recording certificate (Opens first (Err kind) ∷ []) o = (first ≡ recording) × EndsUnopened recording kind o
+ChecksFiles recording certificate (Opens first (Ok r) ∷ Opens second (Err kind) ∷ []) o = (first ≡ recording) × (second ≡ certificate) × EndsUnopened certificate kind o
+ChecksFiles recording certificate (Opens first (Ok r) ∷ Opens second (Ok c) ∷ []) o = (first ≡ recording) × (second ≡ certificate) × EndsChecking r c o
+ChecksFiles recording certificate deeds o = ⊥
+
+-- HOW A TASK ENDS: which files it opened, in their order, and what it left; standard input has these bytes where they are known
+abbrev pub EndsTask : Task → List Deed → Option (List ℕ) → Outcome → Type 0
+EndsTask Input deeds input o = (deeds ≡ []) × EndsInput input o
+EndsTask (Pdu hex) deeds input o = (deeds ≡ []) × EndsPdu (said_of_hex hex.now) o.status o.out.old o.out.new o.told.old o.told.new
+EndsTask (Show name) deeds input o = ShowsFile name.now deeds o
+EndsTask (Check recording certificate) deeds input o = ChecksFiles recording.now certificate.now deeds o

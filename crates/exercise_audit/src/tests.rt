@@ -1,11 +1,12 @@
 //! The search at work, with literal datagrams and certificates.
 
+use crate::tests::Done::{Received, Sent, Told};
+use crate::tests::Found::{Blocks, Steps};
 use crate::{Audit, Block, audit};
 use dis_records::{Address, EntityState};
 use exercise_check::{NO_LINK, Step, check};
 use exercise_model::{Cause, LogEntry, Recording, Station};
 use std::alloc::Global;
-use std::test::Fail;
 
 /// A Create Entity 1 of exercise 1, from 1:1:0 to 2:3:7.
 const CREATE: [u8; 28] = [
@@ -30,50 +31,76 @@ const FROM_SECOND: [u8; 32] = [
     0,
 ];
 
+/// What happened at a station of an index.
+#[derive(Clone, Copy)]
+enum Done<'a> {
+    Sent(u16, &'a [u8]),
+    Received(u16, &'a [u8]),
+    Told(u16, u16, EntityState),
+}
+
+/// What a search finds: the steps of a certificate that the checker accepts, or what stands in the
+/// way.
+#[derive(Clone, Copy)]
+enum Found<'a> {
+    Steps(&'a [Step]),
+    Blocks(&'a [Block]),
+}
+
 /// A recording of exercise 1 with the stations 1:1 and 2:3, where no entity is there, and nothing
-/// yet.
-fn nothing(alloc: Global) -> Result<Recording, Fail> {
-    let mut stations = Vec::new(alloc);
-    for (site, application) in [(1, 1), (2, 3)] {
-        let address = Address::new(site, application).ok_or("an address")?;
-        stations.push(Station::new(address, Vec::new(alloc)).ok_or("an opening")?)?;
+/// yet, if there is memory for it.
+fn nothing(alloc: Global) -> Option<Recording> {
+    let first = Station::new(Address::new(1, 1)?, Vec::new(alloc))?;
+    let second = Station::new(Address::new(2, 3)?, Vec::new(alloc))?;
+    Recording::start(alloc, 1, vec![in alloc; first, second].ok()?).ok()
+}
+
+/// An entry that says what was done, if there is memory for it.
+fn entry(alloc: Global, done: &Done<'_>) -> Option<LogEntry> {
+    Some(match *done {
+        Sent(station, bytes) => LogEntry::Sent {
+            station,
+            stamp: 0,
+            bytes: Vec::from_slice(alloc, bytes).ok()?,
+        },
+        Received(station, bytes) => LogEntry::Received {
+            station,
+            stamp: 0,
+            bytes: Vec::from_slice(alloc, bytes).ok()?,
+        },
+        Told(station, entity, state) => LogEntry::Told {
+            station,
+            entity,
+            state,
+        },
+    })
+}
+
+/// The recording of what the two stations did, in the order of the file, if it may be built.
+fn recorded(alloc: Global, done: &[Done<'_>]) -> Option<Recording> {
+    let mut recording = nothing(alloc)?;
+    for done in done {
+        recording.push(entry(alloc, done)?).ok()?;
     }
-    Ok(Recording::start(alloc, 1, stations)?)
+    Some(recording)
 }
 
-fn send(alloc: Global, log: &mut Recording, station: u16, datagram: &[u8]) -> Result<(), Fail> {
-    let bytes = Vec::from_slice(alloc, datagram)?;
-    Ok(log.push(LogEntry::Sent {
-        station,
-        stamp: 0,
-        bytes,
-    })?)
-}
-
-fn receive(alloc: Global, log: &mut Recording, station: u16, datagram: &[u8]) -> Result<(), Fail> {
-    let bytes = Vec::from_slice(alloc, datagram)?;
-    Ok(log.push(LogEntry::Received {
-        station,
-        stamp: 0,
-        bytes,
-    })?)
-}
-
-/// Whether the search finds these steps, and the checker accepts them.
-fn finds(alloc: Global, log: &Recording, steps: &[Step]) -> Result<bool, Fail> {
-    match audit(alloc, log)? {
-        Audit::Explained(certificate) => {
-            Ok(certificate.steps.as_slice() == steps && check(alloc, log, &certificate).is_ok())
+/// Whether the search in a recording finds this.
+fn is_found(alloc: Global, log: &Recording, found: &Found<'_>) -> bool {
+    match (audit(alloc, log), found) {
+        (Ok(Audit::Explained(certificate)), Steps(steps)) => {
+            certificate.steps.as_slice() == *steps && check(alloc, log, &certificate).is_ok()
         }
-        Audit::Blocked(_) => Ok(false),
+        (Ok(Audit::Blocked(blocks)), Blocks(all)) => blocks.as_slice() == *all,
+        _ => false,
     }
 }
 
-/// Whether the search finds these blocks.
-fn is_blocked(alloc: Global, log: &Recording, blocks: &[Block]) -> Result<bool, Fail> {
-    match audit(alloc, log)? {
-        Audit::Explained(_) => Ok(false),
-        Audit::Blocked(found) => Ok(found.as_slice() == blocks),
+/// Whether the search finds this in what the two stations did.
+fn finds(alloc: Global, done: &[Done<'_>], found: &Found<'_>) -> bool {
+    match recorded(alloc, done) {
+        Some(recording) => is_found(alloc, &recording, found),
+        None => false,
     }
 }
 
@@ -82,34 +109,30 @@ fn step(place: u32, link: u32) -> Step {
 }
 
 #[test]
-fn nothing_is_explained_by_nothing(rt: HostRuntime) -> Result<(), Fail> {
-    let alloc = rt.alloc();
-    let log = nothing(alloc)?;
-    assert!(rt; finds(alloc, &log, &[])?);
-    Ok(())
+fn nothing_is_explained_by_nothing(rt: HostRuntime) {
+    assert!(rt; finds(rt.alloc(), &[], &Steps(&[])));
 }
 
 #[test]
-fn entries_in_no_common_order_have_one_certificate(rt: HostRuntime) -> Result<(), Fail> {
-    let alloc = rt.alloc();
-    let mut log = nothing(alloc)?;
-    receive(alloc, &mut log, 1, &CREATE)?;
-    send(alloc, &mut log, 1, &ABLE)?;
-    send(alloc, &mut log, 0, &CREATE)?;
-    receive(alloc, &mut log, 0, &ABLE)?;
+fn entries_in_no_common_order_have_one_certificate(rt: HostRuntime) {
+    let done = [
+        Received(1, &CREATE),
+        Sent(1, &ABLE),
+        Sent(0, &CREATE),
+        Received(0, &ABLE),
+    ];
     let steps = [step(2, NO_LINK), step(0, 2), step(1, 0), step(3, 1)];
-    assert!(rt; finds(alloc, &log, &steps)?);
-    Ok(())
+    assert!(rt; finds(rt.alloc(), &done, &Steps(&steps)));
 }
 
 #[test]
-fn stations_that_wait_for_each_other_are_blocked(rt: HostRuntime) -> Result<(), Fail> {
-    let alloc = rt.alloc();
-    let mut log = nothing(alloc)?;
-    receive(alloc, &mut log, 0, &FROM_SECOND)?;
-    send(alloc, &mut log, 0, &FROM_FIRST)?;
-    receive(alloc, &mut log, 1, &FROM_FIRST)?;
-    send(alloc, &mut log, 1, &FROM_SECOND)?;
+fn stations_that_wait_for_each_other_are_blocked(rt: HostRuntime) {
+    let done = [
+        Received(0, &FROM_SECOND),
+        Sent(0, &FROM_FIRST),
+        Received(1, &FROM_FIRST),
+        Sent(1, &FROM_SECOND),
+    ];
     let first = Block {
         station: 0,
         entry: 0,
@@ -120,25 +143,16 @@ fn stations_that_wait_for_each_other_are_blocked(rt: HostRuntime) -> Result<(), 
         entry: 2,
         cause: Cause::NeverSent,
     };
-    assert!(rt; is_blocked(alloc, &log, &[first, second])?);
-    Ok(())
+    assert!(rt; finds(rt.alloc(), &done, &Blocks(&[first, second])));
 }
 
 #[test]
-fn a_station_that_can_go_on_is_not_blocked(rt: HostRuntime) -> Result<(), Fail> {
-    let alloc = rt.alloc();
-    let mut log = nothing(alloc)?;
-    log.push(LogEntry::Told {
-        station: 1,
-        entity: 7,
-        state: EntityState::Running,
-    })?;
-    send(alloc, &mut log, 0, &CREATE)?;
+fn a_station_that_can_go_on_is_not_blocked(rt: HostRuntime) {
+    let done = [Told(1, 7, EntityState::Running), Sent(0, &CREATE)];
     let told = Block {
         station: 1,
         entry: 0,
         cause: Cause::WrongState,
     };
-    assert!(rt; is_blocked(alloc, &log, &[told])?);
-    Ok(())
+    assert!(rt; finds(rt.alloc(), &done, &Blocks(&[told])));
 }

@@ -3,11 +3,31 @@
 ghost use Rattle.std.specs.Prelude.{◌≤◌, IsTrue, IfOk};
 ghost use Rattle.siman_pdus.specs.Role.{is_request_body};
 
+use crate::OrderStatus::{GivenUp, Waiting};
+use crate::Taken::{Answered, Foreign, Pending, Repeat};
+use crate::tests::Step::{AllGivenUp, Came, Creation, Setting, Stands, Ticked};
 use crate::{Manager, Order, OrderFault, OrderStatus, Taken};
 use dis_records::{Address, EntityId, FixedDatum, Version};
 use siman_pdus::{Body, Datums, Pdu};
 use std::alloc::{AllocError, Global};
 use std::test::Fail;
+
+/// A step of a scene.
+#[derive(Clone, Copy)]
+enum Step {
+    /// A creation is ordered at time 0: the identifier under which, if its PDU is as it should be.
+    Creation(Result<u32, OrderFault>),
+    /// A Set Data with so many fixed datum records is ordered at time 0: the identifier under which.
+    Setting(usize, Result<u32, OrderFault>),
+    /// A tick at a time and with a timestamp sends a creation once more: the identifier of which.
+    Ticked(u64, u32, Option<u32>),
+    /// An Acknowledge comes, of an exercise, with a response and to a request, and means this.
+    Came(u8, u16, u32, Taken),
+    /// The order of an identifier stands so.
+    Stands(u32, Option<OrderStatus>),
+    /// So many orders are given up.
+    AllGivenUp(usize),
+}
 
 /// The station that is ordered about.
 const STATION: EntityId = EntityId {
@@ -108,65 +128,125 @@ fn setting(alloc: Global, records: usize) -> Result<Order, AllocError>
     })
 }
 
+/// The identifier under which a Set Data was ordered at time 0.
+fn order_setting(
+    alloc: Global,
+    manager: &mut Manager,
+    records: usize,
+) -> Result<Result<u32, OrderFault>, Fail> {
+    let order = setting(alloc, records)?;
+    Ok(match manager.request(order, 0, 70) {
+        Ok((id, _)) => Ok(id),
+        Err(fault) => Err(fault),
+    })
+}
+
+/// What an Acknowledge that comes means to the manager.
+fn take(manager: &mut Manager, exercise: u8, response: u16, request: u32) -> Taken {
+    let pdu = acknowledge(exercise, response, request);
+    manager.take(&pdu)
+}
+
+/// Whether a step goes so.
+fn goes_so(alloc: Global, manager: &mut Manager, step: Step) -> Result<bool, Fail> {
+    Ok(match step {
+        Creation(id) => order_creation(manager) == id,
+        Setting(records, id) => order_setting(alloc, manager, records)? == id,
+        Ticked(now, stamp, id) => repeated_creation(manager, now, stamp) == id,
+        Came(exercise, response, request, taken) => {
+            take(manager, exercise, response, request) == taken
+        }
+        Stands(id, status) => manager.status(id) == status,
+        AllGivenUp(count) => manager.given_up() == count,
+    })
+}
+
+/// Of steps that a manager goes through from its beginning: the number of the first, from 0, that
+/// goes otherwise, if there is one.
+fn first_otherwise(
+    alloc: Global,
+    first_id: u32,
+    tries: u32,
+    steps: &[Step],
+) -> Result<Option<usize>, Fail>
+    requires { 1 ≤ tries }
+{
+    let mut manager = begin(alloc, first_id, tries)?;
+    for (i, step) in steps.iter().enumerate() {
+        if !goes_so(alloc, &mut manager, *step)? {
+            return Ok(Some(i));
+        }
+    }
+    Ok(None)
+}
+
 #[test]
 fn an_order_is_repeated_given_up_and_answered_late(rt: HostRuntime) -> Result<(), Fail> {
-    let mut manager = begin(rt.alloc(), 1, 3)?;
-    assert_eq!(rt; order_creation(&mut manager), Ok(1));
-    assert_eq!(rt; repeated_creation(&mut manager, 9, 71), None);
-    assert_eq!(rt; repeated_creation(&mut manager, 10, 72), Some(1));
-    assert_eq!(rt; repeated_creation(&mut manager, 20, 73), Some(1));
-    assert_eq!(rt; repeated_creation(&mut manager, 30, 74), None);
-    assert_eq!(rt; manager.status(1), Some(OrderStatus::GivenUp));
-    assert_eq!(rt; manager.given_up(), 1);
-    assert_eq!(rt; manager.take(&acknowledge(3, 1, 1)), Taken::Answered(1));
-    assert_eq!(rt; manager.take(&acknowledge(3, 1, 1)), Taken::Repeat(1));
-    assert_eq!(rt; manager.given_up(), 0);
+    let steps = [
+        Creation(Ok(1)),
+        Ticked(9, 71, None),
+        Ticked(10, 72, Some(1)),
+        Ticked(20, 73, Some(1)),
+        Ticked(30, 74, None),
+        Stands(1, Some(GivenUp)),
+        AllGivenUp(1),
+        Came(3, 1, 1, Answered(1)),
+        Came(3, 1, 1, Repeat(1)),
+        AllGivenUp(0),
+    ];
+    assert_eq!(rt; first_otherwise(rt.alloc(), 1, 3, &steps)?, None);
     Ok(())
 }
 
 #[test]
 fn the_last_identifier_is_given_out_once(rt: HostRuntime) -> Result<(), Fail> {
-    let mut manager = begin(rt.alloc(), 0xFFFF_FFFF, 3)?;
-    assert_eq!(rt; order_creation(&mut manager), Ok(0xFFFF_FFFF));
-    assert_eq!(rt; order_creation(&mut manager), Err(OrderFault::IdsSpent));
+    let steps = [
+        Creation(Ok(0xFFFF_FFFF)),
+        Creation(Err(OrderFault::IdsSpent)),
+    ];
+    assert_eq!(rt; first_otherwise(rt.alloc(), 0xFFFF_FFFF, 3, &steps)?, None);
     Ok(())
 }
 
 #[test]
 fn orders_are_repeated_in_turn_one_a_tick(rt: HostRuntime) -> Result<(), Fail> {
-    let mut manager = begin(rt.alloc(), 1, 2)?;
-    assert_eq!(rt; order_creation(&mut manager), Ok(1));
-    assert_eq!(rt; order_creation(&mut manager), Ok(2));
-    assert_eq!(rt; repeated_creation(&mut manager, 10, 71), Some(1));
-    assert_eq!(rt; repeated_creation(&mut manager, 10, 72), Some(2));
-    assert_eq!(rt; repeated_creation(&mut manager, 10, 73), None);
-    assert_eq!(rt; repeated_creation(&mut manager, 20, 74), None);
-    assert_eq!(rt; manager.given_up(), 2);
+    let steps = [
+        Creation(Ok(1)),
+        Creation(Ok(2)),
+        Ticked(10, 71, Some(1)),
+        Ticked(10, 72, Some(2)),
+        Ticked(10, 73, None),
+        Ticked(20, 74, None),
+        AllGivenUp(2),
+    ];
+    assert_eq!(rt; first_otherwise(rt.alloc(), 1, 2, &steps)?, None);
     Ok(())
 }
 
 #[test]
 fn only_what_settles_an_order_changes_it(rt: HostRuntime) -> Result<(), Fail> {
-    let mut manager = begin(rt.alloc(), 1, 2)?;
-    assert_eq!(rt; order_creation(&mut manager), Ok(1));
-    assert_eq!(rt; manager.take(&acknowledge(3, 1, 9)), Taken::Foreign);
-    assert_eq!(rt; manager.take(&acknowledge(4, 1, 1)), Taken::Foreign);
-    assert_eq!(rt; manager.take(&acknowledge(3, 3, 1)), Taken::Pending(1));
-    assert_eq!(rt; manager.status(1), Some(OrderStatus::Waiting(1)));
-    assert_eq!(rt; manager.take(&acknowledge(3, 2, 1)), Taken::Answered(1));
-    assert_eq!(rt; manager.take(&acknowledge(3, 1, 1)), Taken::Repeat(1));
-    assert_eq!(rt; repeated_creation(&mut manager, 10, 71), None);
+    let steps = [
+        Creation(Ok(1)),
+        Came(3, 1, 9, Foreign),
+        Came(4, 1, 1, Foreign),
+        Came(3, 3, 1, Pending(1)),
+        Stands(1, Some(Waiting(1))),
+        Came(3, 2, 1, Answered(1)),
+        Came(3, 1, 1, Repeat(1)),
+        Ticked(10, 71, None),
+    ];
+    assert_eq!(rt; first_otherwise(rt.alloc(), 1, 2, &steps)?, None);
     Ok(())
 }
 
 #[test]
 fn an_order_too_long_uses_no_identifier(rt: HostRuntime) -> Result<(), Fail> {
-    let mut manager = begin(rt.alloc(), 1, 2)?;
-    let order = setting(rt.alloc(), 1020)?;
-    assert!(rt; matches!(manager.request(order, 0, 70), Err(OrderFault::TooLong)));
-    assert_eq!(rt; manager.status(1), None);
-    assert_eq!(rt; order_creation(&mut manager), Ok(1));
-    let order = setting(rt.alloc(), 1019)?;
-    assert!(rt; matches!(manager.request(order, 0, 70), Ok((2, _))));
+    let steps = [
+        Setting(1020, Err(OrderFault::TooLong)),
+        Stands(1, None),
+        Creation(Ok(1)),
+        Setting(1019, Ok(2)),
+    ];
+    assert_eq!(rt; first_otherwise(rt.alloc(), 1, 2, &steps)?, None);
     Ok(())
 }

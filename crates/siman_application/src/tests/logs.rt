@@ -7,9 +7,14 @@ ghost use Rattle.siman_pdus.specs.Role.{is_request_body};
 ghost use Rattle.siman_pdus.specs.Spelling.{pdu_size};
 ghost use Rattle.siman_application.specs.OwnLog.{Orders, Takes, log_in, AnswersStand};
 
-use super::*;
-use crate::own_logs_stand;
-use siman_pdus::{Pdu, numbers_are_in_range};
+use crate::tests::datagrams::*;
+use crate::tests::scenes::station;
+use crate::{AppFault, Application, own_logs_stand};
+use dis_records::EntityState;
+use exercise_model::Station;
+use siman_pdus::{Pdu, decode, numbers_are_in_range};
+use std::alloc::Global;
+use std::test::Fail;
 
 /// An application in whose log of two turns each answer stands: an order is sent, and a request is
 /// taken and answered at once.
@@ -29,13 +34,21 @@ fn begin_to_answer(
     Application::begin(alloc, exercise, station, &[], Vec::new(alloc), &[])
 }
 
+/// The state of entity 7 in an application that begins to answer a request, once an order is sent.
+fn state_of_seven(alloc: Global, order: &[u8], request: &[u8]) -> Result<EntityState, Fail> {
+    let station = station(alloc, &[])?;
+    let order = decode(alloc, order)?;
+    let application = begin_to_answer(alloc, 1, &station, &order, request, 0)?;
+    Ok(application.state(7))
+}
+
 #[test]
 fn an_answer_stands(rt: HostRuntime) -> Result<(), Fail> {
-    let alloc = rt.alloc();
-    let station = station(alloc, &[])?;
-    let request = order(11, 0, 7, 1);
-    let order = decode(alloc, &start(7, 1))?;
-    let application = begin_to_answer(alloc, 1, &station, &order, &request, 0)?;
-    assert_eq!(rt; application.state(7), EntityState::Absent);
+    let start = start(7, 1);
+    let create = order(11, 0, 7, 1);
+    assert_eq!(rt;
+        state_of_seven(rt.alloc(), &start, &create)?,
+        EntityState::Absent
+    );
     Ok(())
 }

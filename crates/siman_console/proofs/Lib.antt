@@ -1,3 +1,4 @@
+pub mod Endings
 pub mod Fetches
 pub mod HexTexts
 pub mod Passings
@@ -5,3 +6,4 @@ pub mod Readings
 pub mod Shown
 pub mod Texts
 pub mod Verdicts
+pub mod Programs

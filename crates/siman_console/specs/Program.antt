@@ -1,8 +1,8 @@
 -- How the program ends, from the words of its command line to its status.
 use Rattle.std.specs.Prelude.{◌≡◌, ◌≢◌, ◌⊎◌, ℕ, List, [], ◌∷◌, ◌++◌, codes, Option, Some, None, Result, Ok, Err}
 use Rattle.std.specs.Io.KnownBytes.{Keeps}
-use Rattle.std_io.specs.declared.io.kind.ErrorKind.{ErrorKind}
-use Rattle.std_io.specs.declared.io.kind.ErrorKind.TheVariants.{OutOfMemory}
+use Rattle.std.specs.declared.io.ErrorKind.{ErrorKind}
+use Rattle.std.specs.declared.io.ErrorKind.TheVariants.{OutOfMemory}
 use Rattle.exercise_model.specs.Recording.{PlainRecording}
 use Rattle.exercise_recording.specs.declared.format_fault.FormatFault.{FormatFault}
 use Rattle.exercise_recording.specs.Reading.{recording_at}

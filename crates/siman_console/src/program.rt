@@ -54,7 +54,7 @@ fn check_named<O: Outside, W: Write, E: Write>(
     errors: &mut E,
 ) -> u8
     ensures { let o : Outcome = record { status = result; out = record { old = W.contents out.old; new = W.contents out.new }; told = record { old = E.contents errors.old; new = E.contents errors.new } } in
-        (deeds : List Deed) × Adds (O.deeds outside.old) (O.deeds outside.new) deeds × All (WasHeld (O.holds outside.old)) deeds × ChecksFiles names.0.now names.1.now deeds o }
+        (deeds : List Deed) × Adds (O.deeds outside.old) (O.deeds outside.new) deeds × All (WasHeld (O.holds outside.old)) deeds × ChecksFiles names.entry.0.now names.entry.1.now deeds o }
 {
     let (recording, certificate) = names;
     let recorded = match outside.open(recording) {
@@ -77,7 +77,7 @@ pub fn run_task<O: Outside, R: Read + Drop, W: Write, E: Write>(
     errors: &mut E,
 ) -> u8
     ensures { let o : Outcome = record { status = result; out = record { old = W.contents out.old; new = W.contents out.new }; told = record { old = E.contents errors.old; new = E.contents errors.new } } in
-        (deeds : List Deed) × Adds (O.deeds outside.old) (O.deeds outside.new) deeds × All (WasHeld (O.holds outside.old)) deeds × EndsTask task deeds (R.remaining input) o }
+        (deeds : List Deed) × Adds (O.deeds outside.old) (O.deeds outside.new) deeds × All (WasHeld (O.holds outside.old)) deeds × EndsTask task.entry deeds (R.remaining input) o }
 {
     match task {
         Task::Input => pdu_from(alloc, input, out, errors),

@@ -1,0 +1,48 @@
+-- What is done outside in two steps, and how a command ends with what was found.
+use Rattle.std.proofs.Common.{◌≡◌, ℕ, zero, suc, ◌<◌, List, [], ◌∷◌, ◌++◌, length, slice_index_or, Option, Some, None, sym, ap, ◌∙◌, append-nil, append_assoc, refl, arith}
+use Rattle.std.specs.Prelude.{IfSome}
+use Rattle.std.specs.List.{All}
+use Rattle.std.specs.Io.KnownBytes.{Keeps}
+use Rattle.exercise_recording.specs.Reading.{recording_at}
+use Rattle.exercise_check.specs.Certificate.{certificate_at}
+use Rattle.siman_console.specs.Answer.{said_of_input, EndsPdu}
+use Rattle.siman_console.specs.Check.{Recorded, Certified, EndsCheck}
+use Rattle.siman_console.specs.Outside.{Deed, Adds}
+use Rattle.siman_console.specs.Program.{Outcome, EndsInput, EndsChecking}
+
+-- nothing was written
+pub keeps_all : (a : Option (List ℕ)) → Keeps a a
+keeps_all None = tt
+keeps_all (Some xs) = refl
+
+-- nothing was done
+pub adds_none : (a : Option (List Deed)) → Adds a a []
+adds_none None = tt
+adds_none (Some before) = sym (append-nil before)
+
+-- one deed after the other
+pub adds_two : (a b c : Option (List Deed)) (x y : Deed) → Adds a b (x ∷ []) → Adds b c (y ∷ []) → Adds a c (x ∷ y ∷ [])
+adds_two None b c x y first second = tt
+adds_two (Some before) None c x y first second = absurd first
+adds_two (Some before) (Some mid) None x y first second = absurd second
+adds_two (Some before) (Some mid) (Some after) x y first second = second ∙ ap (λ deeds. deeds ++ y ∷ []) first ∙ append_assoc before (x ∷ []) (y ∷ [])
+
+pub all_none : {X : Type 0} (P : X → Type 0) → All P []
+all_none P k d within = absurd (omega arith)
+
+pub all_two : {X : Type 0} (P : X → Type 0) (x y : X) → P x → P y → All P (x ∷ y ∷ [])
+all_two P x y first second zero d within = first
+all_two P x y first second (suc zero) d within = second
+all_two P x y first second (suc (suc k)) d within = absurd (omega arith)
+
+-- what is known of the files, or of some
+pub checking : (r c : Option (List ℕ)) (o : Outcome) → IfSome r (λ r. IfSome c (λ c. EndsCheck (recording_at 268435456 r) (certificate_at 1048576 c) o.status o.out.old o.out.new o.told.old o.told.new))
+    → (recorded : Recorded) × (certified : Certified) × EndsCheck recorded certified o.status o.out.old o.out.new o.told.old o.told.new → EndsChecking r c o
+checking (Some r) (Some c) o known ends = known
+checking (Some r) None o known ends = ends
+checking None c o known ends = ends
+
+pub from_input : (input : Option (List ℕ)) (o : Outcome) → IfSome input (λ bytes. EndsPdu (said_of_input bytes) o.status o.out.old o.out.new o.told.old o.told.new)
+    → (bytes : List ℕ) × EndsPdu (said_of_input bytes) o.status o.out.old o.out.new o.told.old o.told.new → EndsInput input o
+from_input (Some bytes) o known ends = known
+from_input None o known ends = ends

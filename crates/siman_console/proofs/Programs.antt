@@ -8,7 +8,8 @@ use Rattle.exercise_check.specs.Certificate.{certificate_at}
 use Rattle.siman_console.specs.Answer.{said_of_input, EndsPdu}
 use Rattle.siman_console.specs.Check.{Recorded, Certified, EndsCheck}
 use Rattle.siman_console.specs.Outside.{Deed, Adds}
-use Rattle.siman_console.specs.Program.{Outcome, EndsInput, EndsChecking}
+use Rattle.siman_console.specs.Outcome.{Outcome}
+use Rattle.siman_console.specs.Program.{EndsInput, EndsChecking}
 
 -- nothing was written
 pub keeps_all : (a : Option (List ℕ)) → Keeps a a

@@ -8,4 +8,6 @@ pub mod Check
 pub mod Show
 pub mod Ending
 pub mod Outside
+pub mod Words
+pub mod Outcome
 pub mod Program

@@ -1,32 +1,23 @@
 -- How the program ends, from the words of its command line to its status.
-use Rattle.std.specs.Prelude.{◌≡◌, ◌≢◌, ◌⊎◌, ℕ, List, [], ◌∷◌, ◌++◌, codes, Option, Some, None, Result, Ok, Err}
+use Rattle.std.specs.Prelude.{◌≡◌, ◌≢◌, ◌⊎◌, ℕ, List, [], ◌∷◌, ◌++◌, codes, Option, Some, None, Result, Ok, Err, map, string_bytes, Vec, String}
+use Rattle.std.specs.declared.alloc.Global.{Global}
 use Rattle.std.specs.Io.KnownBytes.{Keeps}
 use Rattle.std.specs.declared.io.ErrorKind.{ErrorKind}
 use Rattle.std.specs.declared.io.ErrorKind.TheVariants.{OutOfMemory}
+use Rattle.clap.specs.declared.error.kind.ErrorKind.{ErrorKind as UsageKind}
 use Rattle.exercise_model.specs.Recording.{PlainRecording}
 use Rattle.exercise_recording.specs.declared.format_fault.FormatFault.{FormatFault}
 use Rattle.exercise_recording.specs.Reading.{recording_at}
 use Rattle.exercise_check.specs.Certificate.{certificate_at}
 use Rattle.siman_console.specs.declared.fault.Fault.{Fault}
 use Rattle.siman_console.specs.declared.fault.Fault.TheVariants.{File, Memory}
-use Rattle.siman_console.specs.declared.words.Task.{Task}
-use Rattle.siman_console.specs.declared.words.Task.TheVariants.{Input, Pdu, Show, Check}
 use Rattle.siman_console.specs.Answer.{said_of_hex, said_of_input, EndsPdu}
 use Rattle.siman_console.specs.Check.{Recorded, Certified, EndsCheck}
 use Rattle.siman_console.specs.Ending.{Ends, fault_text}
 use Rattle.siman_console.specs.Outside.{Found, Deed, Opens, Makes}
+use Rattle.siman_console.specs.Outcome.{Outcome, IsUnread, EndsUsage}
 use Rattle.siman_console.specs.Show.{EndsShow}
-
--- what stood on a writer before, and what stands on it now, where that is known
-pub record Stream : Type 0 where
-  pub old : Option (List ℕ)
-  pub new : Option (List ℕ)
-
--- how a command ended: its status, the writer of answers and the writer of faults
-pub record Outcome : Type 0 where
-  pub status : ℕ
-  pub out : Stream
-  pub told : Stream
+use Rattle.siman_console.specs.Words.{Asked, Input, Pdu, Show, Check, asked}
 
 -- `pdu` had to say what these bytes of standard input ask for, where they are known, or what some bytes do
 abbrev pub EndsInput : Option (List ℕ) → Outcome → Type 0
@@ -64,8 +55,23 @@ ChecksFiles recording certificate (Opens first (Ok r) ∷ Opens second (Ok c) �
 ChecksFiles recording certificate deeds o = ⊥
 
 -- HOW A TASK ENDS: which files it opened, in their order, and what it left; standard input has these bytes where they are known
-abbrev pub EndsTask : Task → List Deed → Option (List ℕ) → Outcome → Type 0
+abbrev pub EndsTask : Asked → List Deed → Option (List ℕ) → Outcome → Type 0
 EndsTask Input deeds input o = (deeds ≡ []) × EndsInput input o
-EndsTask (Pdu hex) deeds input o = (deeds ≡ []) × EndsPdu (said_of_hex hex.now) o.status o.out.old o.out.new o.told.old o.told.new
-EndsTask (Show name) deeds input o = ShowsFile name.now deeds o
-EndsTask (Check recording certificate) deeds input o = ChecksFiles recording.now certificate.now deeds o
+EndsTask (Pdu hex) deeds input o = (deeds ≡ []) × EndsPdu (said_of_hex hex) o.status o.out.old o.out.new o.told.old o.told.new
+EndsTask (Show recording) deeds input o = ShowsFile recording deeds o
+EndsTask (Check recording certificate) deeds input o = ChecksFiles recording certificate deeds o
+
+-- Words that ask for nothing of the table ask for help or break the usage, and no file is opened.
+abbrev pub EndsAsked : Option Asked → List Deed → Option (List ℕ) → Outcome → Type 0
+EndsAsked (Some task) deeds input o = EndsTask task deeds input o
+EndsAsked None deeds input o = (deeds ≡ []) × ((kind : UsageKind) × EndsUsage kind o)
+
+-- the words, or why they could not be had
+abbrev pub words_by : {E : Type 0} → (E → ErrorKind) → Result (Vec (String Global) Global) E → Result (List (List ℕ)) ErrorKind
+words_by kind (Ok words) = Ok (map string_bytes words.items)
+words_by kind (Err error) = Err (kind error)
+
+-- HOW THE PROGRAM ENDS whose words are these, the program's name first, or could not be had
+abbrev pub EndsProgram : Result (List (List ℕ)) ErrorKind → List Deed → Option (List ℕ) → Outcome → Type 0
+EndsProgram (Ok words) deeds input o = EndsAsked (asked words) deeds input o
+EndsProgram (Err kind) deeds input o = (deeds ≡ []) × (Keeps o.out.old o.out.new × ((fault : Fault) × IsUnread kind fault × Ends (Err fault) o.status o.told.old o.told.new))

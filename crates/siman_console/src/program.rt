@@ -5,14 +5,16 @@ ghost use Rattle.std.specs.Io.KnownBytes.{Keeps};
 ghost use Rattle.std.specs.IoError.{error_kind};
 ghost use Rattle.std.specs.List.{All};
 ghost use Rattle.siman_console.specs.Outside.{Deed, Adds, WasHeld};
-ghost use Rattle.siman_console.specs.Program.{Outcome, IsUnopened, ShowsFile, ChecksFiles, EndsTask};
+ghost use Rattle.siman_console.specs.Outcome.{Outcome};
+ghost use Rattle.siman_console.specs.Program.{IsUnopened, ShowsFile, ChecksFiles, EndsTask, EndsProgram, words_by};
+ghost use Rattle.siman_console.specs.Words.{asked_by};
 
 use crate::check::check_command;
 use crate::datagram::{pdu_command, pdu_from};
 use crate::fault::{Fault, end};
 use crate::outside::Outside;
 use crate::show::show_command;
-use crate::words::Task;
+use crate::words::{Task, read_words, unread, usage_command};
 use std::alloc::Global;
 use std::io;
 use std::io::{ErrorKind, Read, Write};
@@ -68,7 +70,7 @@ fn check_named<O: Outside, W: Write, E: Write>(
 }
 
 /// Does what the words ask for, and answers the status.
-pub fn run_task<O: Outside, R: Read + Drop, W: Write, E: Write>(
+fn run_task<O: Outside, R: Read + Drop, W: Write, E: Write>(
     alloc: Global,
     task: Task<'_>,
     outside: &mut O,
@@ -77,7 +79,7 @@ pub fn run_task<O: Outside, R: Read + Drop, W: Write, E: Write>(
     errors: &mut E,
 ) -> u8
     ensures { let o : Outcome = record { status = result; out = record { old = W.contents out.old; new = W.contents out.new }; told = record { old = E.contents errors.old; new = E.contents errors.new } } in
-        (deeds : List Deed) × Adds (O.deeds outside.old) (O.deeds outside.new) deeds × All (WasHeld (O.holds outside.old)) deeds × EndsTask task.entry deeds (R.remaining input) o }
+        (deeds : List Deed) × Adds (O.deeds outside.old) (O.deeds outside.new) deeds × All (WasHeld (O.holds outside.old)) deeds × EndsTask (asked_by task.entry) deeds (R.remaining input) o }
 {
     match task {
         Task::Input => pdu_from(alloc, input, out, errors),
@@ -86,5 +88,29 @@ pub fn run_task<O: Outside, R: Read + Drop, W: Write, E: Write>(
         Task::Check(recording, certificate) => {
             check_named(alloc, (recording, certificate), outside, out, errors)
         }
+    }
+}
+
+/// Runs the program: does what the words of its command line ask for, the program's name first, and
+/// answers the status to exit with. Files are opened in the order of the words before any of them
+/// is read; answers and help go to `out`, faults to `errors`.
+pub fn run<O: Outside, R: Read + Drop, W: Write, E: Write>(
+    alloc: Global,
+    words: io::Result<Vec<String>>,
+    outside: &mut O,
+    input: R,
+    out: &mut W,
+    errors: &mut E,
+) -> u8
+    ensures { let o : Outcome = record { status = result; out = record { old = W.contents out.old; new = W.contents out.new }; told = record { old = E.contents errors.old; new = E.contents errors.new } } in
+        (deeds : List Deed) × Adds (O.deeds outside.old) (O.deeds outside.new) deeds × All (WasHeld (O.holds outside.old)) deeds × EndsProgram (words_by error_kind words) deeds (R.remaining input) o }
+{
+    let words = match words {
+        Ok(words) => words,
+        Err(error) => return end(Err(unread(&error)), errors),
+    };
+    match read_words(alloc, words.as_slice()) {
+        Ok(task) => run_task(alloc, task, outside, input, out, errors),
+        Err(error) => usage_command(&error, out, errors),
     }
 }

@@ -1,14 +1,17 @@
 //! What the words of a command line ask for.
 
-ghost use Rattle.std.specs.Prelude.{◌≡◌, ◌≢◌, ◌≤◌, ◌↔◌, ◌⊎◌};
-ghost use Rattle.std.specs.Io.KnownBytes.{Keeps};
+ghost use Rattle.std.specs.Prelude.{◌≡◌, map, option_map};
+ghost use Rattle.std.specs.Result.{result_ok};
 ghost use Rattle.std.specs.IoError.{error_kind};
 ghost use Rattle.clap.specs.Values.{kind_of};
+ghost use Rattle.siman_console.specs.Outcome.{Outcome, EndsUsage, IsUnread};
+ghost use Rattle.siman_console.specs.Words.{asked_by, is_option, pdu_asked, show_asked, check_asked, asked};
 
-use crate::fault::Fault;
+use crate::fault::{Fault, end};
 use clap::error::ErrorKind;
 use clap::{Arg, ArgAction, Command, Error};
 use std::alloc::Global;
+use std::convert::AsStr;
 use std::io;
 use std::io::{ErrorKind as IoKind, Write};
 
@@ -78,18 +81,80 @@ fn siman<'a>(alloc: Global) -> Result<Command<'a>, Error> {
     )
 }
 
+/// Whether a word is an option: it begins with a hyphen, and has more.
+fn is_option(word: &str) -> bool
+    ensures { result ≡ is_option word.now }
+{
+    let word = word.as_bytes();
+    word.len() > 1 && word[0] == b'-'
+}
+
+fn pdu_task<S: AsStr>(words: &[S]) -> Option<Task<'_>>
+    ensures { option_map asked_by result ≡ pdu_asked (map S.text words.now) }
+{
+    match words {
+        [hex] if !is_option(hex.as_str()) => Some(Task::Pdu(hex.as_str())),
+        _ => None,
+    }
+}
+
+fn show_task<S: AsStr>(words: &[S]) -> Option<Task<'_>>
+    ensures { option_map asked_by result ≡ show_asked (map S.text words.now) }
+{
+    match words {
+        [recording] if !is_option(recording.as_str()) => Some(Task::Show(recording.as_str())),
+        _ => None,
+    }
+}
+
+fn check_task<S: AsStr>(words: &[S]) -> Option<Task<'_>>
+    ensures { option_map asked_by result ≡ check_asked (map S.text words.now) }
+{
+    match words {
+        [recording, certificate]
+            if !is_option(recording.as_str()) && !is_option(certificate.as_str()) =>
+        {
+            Some(Task::Check(recording.as_str(), certificate.as_str()))
+        }
+        _ => None,
+    }
+}
+
+/// The task that words ask for by the table of commands, the program's name first.
+fn task_of<S: AsStr>(words: &[S]) -> Option<Task<'_>>
+    ensures { option_map asked_by result ≡ asked (map S.text words.now) }
+{
+    match words {
+        [] | [_] => Some(Task::Input),
+        [_, command, rest @ ..] => match command.as_str() {
+            "pdu" => pdu_task(rest),
+            "show" => show_task(rest),
+            "check" => check_task(rest),
+            _ => None,
+        },
+    }
+}
+
+/// The help that words ask for, or how they break the usage.
+fn usage_of<S: AsStr>(alloc: Global, words: &[S]) -> Result<Error, Error> {
+    let mut command = siman(alloc)?;
+    match command.try_get_matches_from_mut(words) {
+        Err(error) => Ok(error),
+        // `--` ends the options elsewhere; here no word needs it.
+        Ok(_) => Ok(command.error(ErrorKind::UnknownArgument, "unexpected argument '--' found")?),
+    }
+}
+
 /// What the words ask for, the program's name first. Words that ask for help or break the usage
-/// give an error, which [`usage_command`] tells.
-pub fn read_words<'a>(alloc: Global, words: &'a [&'a str]) -> Result<Task<'a>, Error> {
-    let matches = siman(alloc)?.try_get_matches_from(words)?;
-    match matches.subcommand() {
-        None => Ok(Task::Input),
-        Some(("pdu", found)) => Ok(Task::Pdu(found.get_str("HEX").unwrap_or(""))),
-        Some(("show", found)) => Ok(Task::Show(found.get_str("REC").unwrap_or(""))),
-        Some((_, found)) => Ok(Task::Check(
-            found.get_str("REC").unwrap_or(""),
-            found.get_str("CERT").unwrap_or(""),
-        )),
+/// give an error, which [`usage_command`] tells; so does want of memory then, and a task takes none.
+pub fn read_words<S: AsStr>(alloc: Global, words: &[S]) -> Result<Task<'_>, Error>
+    ensures { option_map asked_by (result_ok result) ≡ asked (map S.text words.now) }
+{
+    match task_of(words) {
+        Some(task) => Ok(task),
+        None => match usage_of(alloc, words) {
+            Ok(error) | Err(error) => Err(error),
+        },
     }
 }
 
@@ -97,15 +162,11 @@ pub fn read_words<'a>(alloc: Global, words: &'a [&'a str]) -> Result<Task<'a>, E
 /// usage, told on `errors`, or a failed write of the help (`output: write`); 3 want of memory
 /// (`memory`).
 pub fn usage_command<W: Write, E: Write>(error: &Error, out: &mut W, errors: &mut E) -> u8
-    ensures status { (result ≡ 0) ⊎ (result ≡ 2) ⊎ (result ≡ 3) }
-    ensures memory { (result ≡ 3) ↔ (kind_of error.now ≡ ErrorKind.OutOfMemory) }
-    ensures silent { result ≡ 0 → Keeps (E.contents errors.old) (E.contents errors.new) }
-    // Words that ask for no help have none shown.
-    ensures no_help { (kind_of error.now ≢ ErrorKind.DisplayHelp) → (kind_of error.now ≢ ErrorKind.DisplayVersion) → (2 ≤ result) × Keeps (W.contents out.old) (W.contents out.new) }
+    ensures { let o : Outcome = record { status = result; out = record { old = W.contents out.old; new = W.contents out.new }; told = record { old = E.contents errors.old; new = E.contents errors.new } } in
+        EndsUsage (kind_of error.now) o }
 {
     if error.kind() == ErrorKind::OutOfMemory {
-        let _ = writeln!(errors, "{}", Fault::Memory);
-        return Fault::Memory.status();
+        return end(Err(Fault::Memory), errors);
     }
     if error.use_stderr() {
         let _ = write!(errors, "{error}");
@@ -113,37 +174,17 @@ pub fn usage_command<W: Write, E: Write>(error: &Error, out: &mut W, errors: &mu
     }
     match write!(out, "{error}") {
         Ok(()) => 0,
-        Err(_) => {
-            let _ = writeln!(errors, "{}", Fault::Output);
-            Fault::Output.status()
-        }
+        Err(_) => end(Err(Fault::Output), errors),
     }
 }
 
-/// Tells that the words of a command line could not be had: status 3 is want of memory (`memory`),
-/// 2 that a word is not UTF-8.
-pub fn unread_words<E: Write>(error: &io::Error, errors: &mut E) -> u8
-    ensures status { (result ≡ 2) ⊎ (result ≡ 3) }
-    ensures memory { (result ≡ 3) ↔ (error_kind error.now ≡ IoKind.OutOfMemory) }
+/// Why the words of a command line could not be had: for want of memory, or since a word is not
+/// UTF-8.
+pub(crate) fn unread(error: &io::Error) -> Fault<'static>
+    ensures { IsUnread (error_kind error.now) result }
 {
     if error.kind() == IoKind::OutOfMemory {
-        let _ = writeln!(errors, "{}", Fault::Memory);
-        return Fault::Memory.status();
+        return Fault::Memory;
     }
-    let _ = writeln!(errors, "words: not UTF-8");
-    2
-}
-
-/// Tells that a file could not be opened: status 3 is want of memory (`memory`), 2 any other cause
-/// (`file: NAME`, with the name as it was given).
-pub fn unopened_file<E: Write>(name: &str, error: &io::Error, errors: &mut E) -> u8
-    ensures status { (result ≡ 2) ⊎ (result ≡ 3) }
-    ensures memory { (result ≡ 3) ↔ (error_kind error.now ≡ IoKind.OutOfMemory) }
-{
-    if error.kind() == IoKind::OutOfMemory {
-        let _ = writeln!(errors, "{}", Fault::Memory);
-        return Fault::Memory.status();
-    }
-    let _ = writeln!(errors, "file: {name}");
-    2
+    Fault::Words
 }

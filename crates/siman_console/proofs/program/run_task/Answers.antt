@@ -1,7 +1,8 @@
 -- What standard input asks for is answered with no file.
 use Rattle.std.proofs.Common.{[], refl, subst, sym}
-use Rattle.siman_console.specs.declared.words.Task.TheVariants.{Input}
-use Rattle.siman_console.specs.Program.{Outcome, EndsTask}
+use Rattle.siman_console.specs.Outcome.{Outcome}
+use Rattle.siman_console.specs.Program.{EndsTask}
+use Rattle.siman_console.specs.Words.{Input, asked_by}
 use Rattle.siman_console.specs.Outside.{WasHeld}
 use Rattle.siman_console.proofs.Programs.{adds_none, all_none, from_input}
 use Rattle.siman_console.proofs.program.run_task.Goals as goal
@@ -15,4 +16,4 @@ returns-in-Input g c =
       told = record { old = g.E.Write.contents c.args.errors.now; new = g.E.Write.contents c.pdu_from.new.errors };
     } in
     let ends : EndsTask Input [] input o = (refl, from_input input o c.pdu_from.ensures.known c.pdu_from.ensures.ends) in
-    ([], adds_none _, all_none (WasHeld (g.O.Outside.holds c.args.outside.now)), subst (λ task. EndsTask task [] input o) (sym c.in-Input.is) ends)
+    ([], adds_none _, all_none (WasHeld (g.O.Outside.holds c.args.outside.now)), subst (λ task. EndsTask (asked_by task) [] input o) (sym c.in-Input.is) ends)

@@ -1,0 +1,46 @@
+-- The words could not be had, ask for a task, or ask for none.
+use Rattle.std.proofs.Common.{◌≡◌, ℕ, List, [], Some, None, Err, map, string_bytes, refl, sym, ap, ◌∙◌, subst}
+use Rattle.std.specs.IoError.{error_kind}
+use Rattle.siman_console.specs.Outside.{WasHeld}
+use Rattle.siman_console.specs.Outcome.{Outcome}
+use Rattle.siman_console.specs.Program.{EndsAsked, EndsProgram, words_by}
+use Rattle.siman_console.specs.Words.{asked_by, asked}
+use Rattle.siman_console.proofs.Programs.{adds_none, all_none, keeps_all}
+use Rattle.siman_console.proofs.program.run.Goals as goal
+
+pub returns-in-Err : goal.returns-in-Err
+returns-in-Err g c =
+    let input = g.R.Read.remaining c.args.input in
+    let o : Outcome = record {
+      status = c.end.result;
+      out = record { old = g.W.Write.contents c.args.out.now; new = g.W.Write.contents c.args.out.now };
+      told = record { old = g.E.Write.contents c.args.errors.now; new = g.E.Write.contents c.end.new.errors };
+    } in
+    let ends : EndsProgram (Err (error_kind c.in-Err.error)) [] input o = (refl, (keeps_all (g.W.Write.contents c.args.out.now), (c.unread.result, c.unread.ensures, c.end.ensures))) in
+    ([], adds_none _, all_none (WasHeld (g.O.Outside.holds c.args.outside.now)), subst (λ words. EndsProgram (words_by error_kind words) [] input o) (sym c.in-Err.is) ends)
+
+pub returns-in-Ok-read_words : goal.returns-in-Ok-read_words
+returns-in-Ok-read_words g c =
+    let input = g.R.Read.remaining c.args.input in
+    let o : Outcome = record {
+      status = c.run_task.result;
+      out = record { old = g.W.Write.contents c.args.out.now; new = g.W.Write.contents c.run_task.new.out };
+      told = record { old = g.E.Write.contents c.args.errors.now; new = g.E.Write.contents c.run_task.new.errors };
+    } in
+    let ran = c.run_task.ensures in
+    let known : Some (asked_by c.in-Ok-read_words.task) ≡ asked (map string_bytes c.in-Ok.words.items) = c.in-Ok-read_words.ensures ∙ ap (λ words. asked (map string_bytes words)) c.as_slice.ensures.value in
+    let ends : EndsAsked (asked (map string_bytes c.in-Ok.words.items)) ran.0 input o = subst (λ task. EndsAsked task ran.0 input o) known ran.3 in
+    (ran.0, ran.1, ran.2, subst (λ words. EndsProgram (words_by error_kind words) ran.0 input o) (sym c.in-Ok.is) ends)
+
+pub returns-in-Err-read_words : goal.returns-in-Err-read_words
+returns-in-Err-read_words g c =
+    let input = g.R.Read.remaining c.args.input in
+    let o : Outcome = record {
+      status = c.usage_command.result;
+      out = record { old = g.W.Write.contents c.args.out.now; new = g.W.Write.contents c.usage_command.new.out };
+      told = record { old = g.E.Write.contents c.args.errors.now; new = g.E.Write.contents c.usage_command.new.errors };
+    } in
+    let known : None ≡ asked (map string_bytes c.in-Ok.words.items) = c.in-Err-read_words.ensures ∙ ap (λ words. asked (map string_bytes words)) c.as_slice.ensures.value in
+    let ends : EndsAsked None [] input o = (refl, (_, c.usage_command.ensures)) in
+    let asks : EndsAsked (asked (map string_bytes c.in-Ok.words.items)) [] input o = subst (λ task. EndsAsked task [] input o) known ends in
+    ([], adds_none _, all_none (WasHeld (g.O.Outside.holds c.args.outside.now)), subst (λ words. EndsProgram (words_by error_kind words) [] input o) (sym c.in-Ok.is) asks)

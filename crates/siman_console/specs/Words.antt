@@ -1,0 +1,48 @@
+-- What the words of a command line ask for (profile).
+use Rattle.std.specs.Prelude.{ℕ, Bool, true, false, List, [], ◌∷◌, length, nat_lt, slice_index, ◌==◌, ◌&&◌, ◌||◌, codes, Option, Some, None, if◌then◌else◌}
+use Rattle.std.specs.Str.{bytes_eq}
+use Rattle.siman_console.specs.declared.words.Task.{Task}
+use Rattle.siman_console.specs.declared.words.Task.TheVariants as tasks
+
+-- what is asked for, by the words that it takes
+pub data Asked : Type 0 where
+  Input : Asked
+  Pdu : (hex : List ℕ) → Asked
+  Show : (recording : List ℕ) → Asked
+  Check : (recording certificate : List ℕ) → Asked
+
+abbrev pub asked_by : Task → Asked
+asked_by tasks.Input = Input
+asked_by (tasks.Pdu hex) = Pdu hex.now
+asked_by (tasks.Show recording) = Show recording.now
+asked_by (tasks.Check recording certificate) = Check recording.now certificate.now
+
+-- a word that begins with a hyphen, and has more, is an option
+abbrev pub is_option : List ℕ → Bool
+is_option word = nat_lt 1 (length word) && (slice_index word 0 == 45)
+
+-- the words after the command's name
+abbrev pub pdu_asked : List (List ℕ) → Option Asked
+pdu_asked (hex ∷ []) = if is_option hex then None else Some (Pdu hex)
+pdu_asked words = None
+
+abbrev pub show_asked : List (List ℕ) → Option Asked
+show_asked (recording ∷ []) = if is_option recording then None else Some (Show recording)
+show_asked words = None
+
+abbrev pub check_asked : List (List ℕ) → Option Asked
+check_asked (recording ∷ certificate ∷ []) = if is_option recording || is_option certificate then None else Some (Check recording certificate)
+check_asked words = None
+
+abbrev pub command_asked : List ℕ → List (List ℕ) → Option Asked
+command_asked command words =
+    if bytes_eq command (codes "pdu") then pdu_asked words
+    else if bytes_eq command (codes "show") then show_asked words
+    else if bytes_eq command (codes "check") then check_asked words
+    else None
+
+-- THE TABLE OF COMMANDS: what words ask for, the program's name first; other words ask for help, or break the usage
+abbrev pub asked : List (List ℕ) → Option Asked
+asked [] = Some Input
+asked (program ∷ []) = Some Input
+asked (program ∷ command ∷ words) = command_asked command words

@@ -12,6 +12,10 @@ mod datagrams;
 #[cfg(test)]
 mod pdus;
 #[cfg(test)]
+mod recordings;
+#[cfg(test)]
 mod records;
+#[cfg(test)]
+mod searches;
 #[cfg(test)]
 mod verdicts;

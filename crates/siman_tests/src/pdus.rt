@@ -1,7 +1,7 @@
 //! PDUs and their datagrams, byte by byte.
 
-use siman_pdus::*;
 use dis_records::{ClockTime, EntityId, FixedDatum, HeaderFault, Kind, VariableDatum, Version};
+use siman_pdus::*;
 use std::alloc::Global;
 use std::process::Abort;
 use std::test::*;

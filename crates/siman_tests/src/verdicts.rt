@@ -23,7 +23,10 @@ fn no_entries_are_explained_by_no_steps(rt: HostRuntime) -> Result<(), Fail> {
     };
     let openings: [Entities<'_>; 2] = [&[], &[(7, Stopped)]];
     let certificates: [(Steps<'_>, Said<'_>); 1] = [(&[], Yes(account))];
-    assert_eq!(rt; first_otherwise(rt.alloc(), &openings, &[], &certificates)?, None);
+    assert_eq!(rt;
+        first_otherwise(rt.alloc(), &openings, &[], &certificates)?,
+        None
+    );
     Ok(())
 }
 
@@ -55,7 +58,10 @@ fn create_and_acknowledge_is_explained(rt: HostRuntime) -> Result<(), Fail> {
         (&[(0, N), (1, 0), (2, 0), (3, 2)], No(2, Cause::BadLink)),
         (&[(0, N), (1, 0), (3, 2), (2, 1)], No(2, Cause::NeverSent)),
     ];
-    assert_eq!(rt; first_otherwise(rt.alloc(), &[&[], &[]], &done, &certificates)?, None);
+    assert_eq!(rt;
+        first_otherwise(rt.alloc(), &[&[], &[]], &done, &certificates)?,
+        None
+    );
     Ok(())
 }
 
@@ -80,7 +86,10 @@ fn entries_in_no_common_order_are_explained(rt: HostRuntime) -> Result<(), Fail>
         (&[(0, 2), (1, 0), (2, N), (3, 1)], No(0, Cause::NeverSent)),
         (&[(2, N), (1, 0), (0, 2), (3, 1)], No(1, Cause::OutOfOrder)),
     ];
-    assert_eq!(rt; first_otherwise(rt.alloc(), &[&[], &[]], &done, &certificates)?, None);
+    assert_eq!(rt;
+        first_otherwise(rt.alloc(), &[&[], &[]], &done, &certificates)?,
+        None
+    );
     Ok(())
 }
 
@@ -126,12 +135,12 @@ fn a_told_state_is_the_state_of_the_run(rt: HostRuntime) -> Result<(), Fail> {
         (7, 6),
         (8, N),
     ];
-    for (told, said) in [
-        (Running, Yes(running)),
-        (Stopped, No(8, Cause::WrongState)),
-    ] {
+    for (told, said) in [(Running, Yes(running)), (Stopped, No(8, Cause::WrongState))] {
         let done = started_and_told(&create, &created, &start, &started, told);
-        assert_eq!(rt; first_otherwise(rt.alloc(), &[&[], &[]], &done, &[(steps, said)])?, None);
+        assert_eq!(rt;
+            first_otherwise(rt.alloc(), &[&[], &[]], &done, &[(steps, said)])?,
+            None
+        );
     }
     Ok(())
 }
@@ -157,7 +166,10 @@ fn a_stop_to_all_is_answered_by_each(rt: HostRuntime) -> Result<(), Fail> {
         others: 0,
     };
     let steps: Steps<'_> = &[(0, N), (1, 0), (2, 0), (3, 1), (4, 2), (5, 4)];
-    assert_eq!(rt; first_otherwise(rt.alloc(), &openings, &done, &[(steps, Yes(account))])?, None);
+    assert_eq!(rt;
+        first_otherwise(rt.alloc(), &openings, &done, &[(steps, Yes(account))])?,
+        None
+    );
     Ok(())
 }
 
@@ -210,7 +222,10 @@ fn a_repeat_changes_nothing(rt: HostRuntime) -> Result<(), Fail> {
         (Running, No(8, Cause::WrongState)),
     ] {
         let done = answered_again_and_told(&start, &started, &stop, &stopped, told);
-        assert_eq!(rt; first_otherwise(rt.alloc(), &openings, &done, &[(steps, said)])?, None);
+        assert_eq!(rt;
+            first_otherwise(rt.alloc(), &openings, &done, &[(steps, said)])?,
+            None
+        );
     }
     Ok(())
 }
@@ -241,7 +256,10 @@ fn an_answer_given_is_not_taken_back(rt: HostRuntime) -> Result<(), Fail> {
             Sent(1, second),
         ];
         let steps: Steps<'_> = &[(0, N), (1, 0), (2, 1), (3, 1)];
-        assert_eq!(rt; first_otherwise(rt.alloc(), &openings, &done, &[(steps, said)])?, None);
+        assert_eq!(rt;
+            first_otherwise(rt.alloc(), &openings, &done, &[(steps, said)])?,
+            None
+        );
     }
     Ok(())
 }
@@ -260,7 +278,10 @@ fn a_cause_is_told_before_a_bad_link(rt: HostRuntime) -> Result<(), Fail> {
     ];
     let steps: Steps<'_> = &[(0, N), (1, 0), (2, 1), (3, N)];
     let said = No(3, Cause::ChangedAnswer);
-    assert_eq!(rt; first_otherwise(rt.alloc(), &openings, &done, &[(steps, said)])?, None);
+    assert_eq!(rt;
+        first_otherwise(rt.alloc(), &openings, &done, &[(steps, said)])?,
+        None
+    );
     Ok(())
 }
 
@@ -302,7 +323,10 @@ fn a_creation_of_any_number_names_one(rt: HostRuntime) -> Result<(), Fail> {
     ] {
         let done = [Sent(0, &create), Received(1, &create), Sent(1, &answer)];
         let steps: Steps<'_> = &[(0, N), (1, 0), (2, link)];
-        assert_eq!(rt; first_otherwise(rt.alloc(), &[&[], &[]], &done, &[(steps, said)])?, None);
+        assert_eq!(rt;
+            first_otherwise(rt.alloc(), &[&[], &[]], &done, &[(steps, said)])?,
+            None
+        );
     }
     Ok(())
 }
@@ -325,7 +349,10 @@ fn an_identifier_is_for_one_order(rt: HostRuntime) -> Result<(), Fail> {
     ] {
         let done = [Sent(0, &create_seven), second];
         let steps: Steps<'_> = &[(0, N), (1, N)];
-        assert_eq!(rt; first_otherwise(rt.alloc(), &[&[], &[]], &done, &[(steps, said)])?, None);
+        assert_eq!(rt;
+            first_otherwise(rt.alloc(), &[&[], &[]], &done, &[(steps, said)])?,
+            None
+        );
     }
     Ok(())
 }
@@ -348,11 +375,17 @@ fn a_query_is_answered_many_times(rt: HostRuntime) -> Result<(), Fail> {
         changes: &[],
         others: 1,
     });
-    assert_eq!(rt; first_otherwise(alloc, &[&[], &[]], &done, &[(steps, answered)])?, None);
+    assert_eq!(rt;
+        first_otherwise(alloc, &[&[], &[]], &done, &[(steps, answered)])?,
+        None
+    );
     let unasked = [Sent(0, &QUERY), Sent(1, &DATA)];
     let steps: Steps<'_> = &[(0, N), (1, N)];
     let said = No(1, Cause::NoRequest);
-    assert_eq!(rt; first_otherwise(alloc, &[&[], &[]], &unasked, &[(steps, said)])?, None);
+    assert_eq!(rt;
+        first_otherwise(alloc, &[&[], &[]], &unasked, &[(steps, said)])?,
+        None
+    );
     Ok(())
 }
 
@@ -362,7 +395,12 @@ fn a_stranger_is_told(rt: HostRuntime) -> Result<(), Fail> {
     let steps: Steps<'_> = &[(0, N)];
     let said = No(0, Cause::Stranger);
     assert_eq!(rt;
-        first_otherwise(rt.alloc(), &[&[], &[]], &[Received(0, &stranger)], &[(steps, said)])?,
+        first_otherwise(
+            rt.alloc(),
+            &[&[], &[]],
+            &[Received(0, &stranger)],
+            &[(steps, said)]
+        )?,
         None
     );
     Ok(())
@@ -392,7 +430,10 @@ fn an_answer_takes_up_the_first_request(rt: HostRuntime) -> Result<(), Fail> {
             No(4, Cause::BadLink),
         ),
     ];
-    assert_eq!(rt; first_otherwise(rt.alloc(), &[&[], &[]], &done, &certificates)?, None);
+    assert_eq!(rt;
+        first_otherwise(rt.alloc(), &[&[], &[]], &done, &certificates)?,
+        None
+    );
     Ok(())
 }
 
@@ -411,7 +452,10 @@ fn what_waits_for_each_other_never_happens(rt: HostRuntime) -> Result<(), Fail> 
         (&[(2, 1), (3, N), (0, 3), (1, N)], No(0, Cause::NeverSent)),
         (&[(3, N), (0, 3), (1, N), (2, 1)], No(0, Cause::OutOfOrder)),
     ];
-    assert_eq!(rt; first_otherwise(rt.alloc(), &[&[], &[]], &done, &certificates)?, None);
+    assert_eq!(rt;
+        first_otherwise(rt.alloc(), &[&[], &[]], &done, &certificates)?,
+        None
+    );
     Ok(())
 }
 

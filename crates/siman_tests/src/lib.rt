@@ -18,4 +18,6 @@ mod records;
 #[cfg(test)]
 mod searches;
 #[cfg(test)]
+mod streams;
+#[cfg(test)]
 mod verdicts;

@@ -178,6 +178,16 @@ fn a_repeated_answer_changes_nothing(rt: HostRuntime) {
     assert_eq!(rt; first_left_otherwise(rt.alloc(), &[ONE, TWO_STOPPED], &scenes), None);
 }
 
+/// A request is received and answered twice.
+fn answered_twice<'a>(start: &'a [u8], first: &'a [u8], second: &'a [u8]) -> [Done<'a>; 4] {
+    [
+        Sent(0, start),
+        Received(1, start),
+        Sent(1, first),
+        Sent(1, second),
+    ]
+}
+
 #[test]
 fn an_answer_is_not_taken_back(rt: HostRuntime) {
     let start = start(SEVEN, 1);
@@ -185,18 +195,8 @@ fn an_answer_is_not_taken_back(rt: HostRuntime) {
     let unable = acknowledge(SEVEN, 3, 2, 1);
     let pending = acknowledge(SEVEN, 3, 3, 1);
     let steps = [(0, N), (1, 0), (2, 1), (3, 1)];
-    let taken_back = [
-        Sent(0, &start),
-        Received(1, &start),
-        Sent(1, &able),
-        Sent(1, &unable),
-    ];
-    let kept = [
-        Sent(0, &start),
-        Received(1, &start),
-        Sent(1, &pending),
-        Sent(1, &able),
-    ];
+    let taken_back = answered_twice(&start, &able, &unable);
+    let kept = answered_twice(&start, &pending, &able);
     let text = "yes records=4 others=0\n\
                 answer 2 request 1\n\
                 answer 3 request 1\n\
@@ -254,14 +254,19 @@ fn a_station_chooses_the_number_of_an_entity(rt: HostRuntime) {
     assert_eq!(rt; first_chosen_otherwise(rt.alloc(), &answers), None);
 }
 
+/// A datagram is sent by station 0, and then this is done.
+fn sent_before<'a>(first: &'a [u8], second: Done<'a>) -> [Done<'a>; 2] {
+    [Sent(0, first), second]
+}
+
 #[test]
 fn one_identifier_is_for_one_order(rt: HostRuntime) {
     let first = create(SEVEN, 1);
     let other = create([0, 2, 0, 3, 0, 8], 1);
     let again = create_later(SEVEN, 1);
-    let reused = [Sent(0, &first), Sent(0, &other)];
-    let repeated = [Sent(0, &first), Sent(0, &again)];
-    let foreign = [Sent(0, &first), Sent(1, &again)];
+    let reused = sent_before(&first, Sent(0, &other));
+    let repeated = sent_before(&first, Sent(0, &again));
+    let foreign = sent_before(&first, Sent(1, &again));
     let steps = [(0, N), (1, N)];
     let scenes: [Scene<'_>; 3] = [
         (&reused, &steps, (1, "no step=1 cause=6 reused-identifier\n", "")),
@@ -291,22 +296,25 @@ fn each_answer_to_a_query_is_reported(rt: HostRuntime) {
 }
 
 #[test]
-fn data_that_nobody_asked_for_and_strangers_are_refused(rt: HostRuntime) {
-    let unasked = [
+fn data_that_nobody_asked_for_is_refused(rt: HostRuntime) {
+    let done = [
         Sent(0, &QUERY),
         Sent(1, &DATA),
         Sent(1, &DATA),
         Sent(1, &DATA),
     ];
-    let unasked_steps = [(0, N), (1, N), (2, N), (3, N)];
-    let comment = comment([0, 9, 0, 9, 0, 0]);
-    let stranger = [Sent(0, &QUERY), Received(1, &QUERY), Received(0, &comment)];
-    let stranger_steps = [(0, N), (1, 0), (2, N)];
-    let scenes: [Scene<'_>; 2] = [
-        (&unasked, &unasked_steps, (1, "no step=1 cause=7 no-request\n", "")),
-        (&stranger, &stranger_steps, (1, "no step=2 cause=11 stranger\n", "")),
-    ];
-    assert_eq!(rt; first_left_otherwise(rt.alloc(), &[ONE, TWO], &scenes), None);
+    let steps = [(0, N), (1, N), (2, N), (3, N)];
+    let scene: Scene<'_> = (&done, &steps, (1, "no step=1 cause=7 no-request\n", ""));
+    assert_eq!(rt; is_left(rt.alloc(), &[ONE, TWO], &scene), Some(true));
+}
+
+#[test]
+fn a_stranger_is_refused(rt: HostRuntime) {
+    let stranger = comment([0, 9, 0, 9, 0, 0]);
+    let done = [Sent(0, &QUERY), Received(1, &QUERY), Received(0, &stranger)];
+    let steps = [(0, N), (1, 0), (2, N)];
+    let scene: Scene<'_> = (&done, &steps, (1, "no step=2 cause=11 stranger\n", ""));
+    assert_eq!(rt; is_left(rt.alloc(), &[ONE, TWO], &scene), Some(true));
 }
 
 /// Of certificates for a Create Entity and its Acknowledge, sent and received, and the lines that

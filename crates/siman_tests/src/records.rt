@@ -176,14 +176,19 @@ enum Why {
     WrongSize,
 }
 
+/// Why bytes are no datum of so many bits, with the bytes that are handed back, if they are none.
+fn refusal(bits: u32, bytes: Vec<u8>) -> Option<(Why, Vec<u8>)> {
+    match VariableDatum::new(5, bits, bytes) {
+        Ok(_) => None,
+        Err(DatumFault::UnusedBits(back)) => Some((Why::UnusedBits, back)),
+        Err(DatumFault::WrongSize(back)) => Some((Why::WrongSize, back)),
+    }
+}
+
 /// Whether bytes are no datum of so many bits for this reason, and handed back.
 fn is_refused(alloc: Global, bits: u32, bytes: &[u8], why: Why) -> Option<bool> {
-    let given = Vec::from_slice(alloc, bytes).ok()?;
-    Some(match VariableDatum::new(5, bits, given) {
-        Ok(_) => false,
-        Err(DatumFault::UnusedBits(back)) => why == Why::UnusedBits && back.as_slice() == bytes,
-        Err(DatumFault::WrongSize(back)) => why == Why::WrongSize && back.as_slice() == bytes,
-    })
+    let (found, back) = refusal(bits, Vec::from_slice(alloc, bytes).ok()?)?;
+    Some(found == why && back.as_slice() == bytes)
 }
 
 #[test]
@@ -191,7 +196,10 @@ fn variable_datums_hold_no_unused_bits(rt: HostRuntime) {
     let alloc = rt.alloc();
     let same = are_same(alloc, (0, &[]), (12, &[0xAB, 0xC0]));
     assert_eq!(rt; is_held(alloc, 12, &[0xAB, 0xC0]), Some(true));
-    assert_eq!(rt; is_refused(alloc, 12, &[0xAB, 0xC1], Why::UnusedBits), Some(true));
+    assert_eq!(rt;
+        is_refused(alloc, 12, &[0xAB, 0xC1], Why::UnusedBits),
+        Some(true)
+    );
     assert_eq!(rt; is_refused(alloc, 12, &[0xAB], Why::WrongSize), Some(true));
     assert_eq!(rt; same, Some(false));
 }

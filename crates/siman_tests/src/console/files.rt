@@ -39,12 +39,7 @@ fn created_and_explained(alloc: Global) -> Option<(Vec<u8>, Vec<u8>)> {
 /// What `check` of both leaves is this, if there is memory for them.
 fn explained_leaves(alloc: Global, left: Left<'_>) -> Option<bool> {
     let (recording, good) = created_and_explained(alloc)?;
-    Some(is_checked(
-        alloc,
-        recording.as_slice(),
-        good.as_slice(),
-        left,
-    ))
+    Some(is_checked(alloc, recording.as_slice(), good.as_slice(), left))
 }
 
 #[test]
@@ -78,7 +73,11 @@ fn first_of_answers_otherwise(alloc: Global, text: &str) -> Option<Option<usize>
         (&recording, &good, Ok(true)),
         (&recording, NO_STEPS, Ok(false)),
         (&[], &good, Err(FilesFault::Recording(no_recording))),
-        (&recording, &[], Err(FilesFault::Certificate(no_certificate))),
+        (
+            &recording,
+            &[],
+            Err(FilesFault::Certificate(no_certificate)),
+        ),
     ];
     Some(first_answer_otherwise(alloc, &rows, text))
 }
@@ -91,7 +90,13 @@ fn the_answer_is_yes_or_no_or_a_fault(rt: HostRuntime) {
 }
 
 /// Whether it is told that a file is cut off at this size, if there is memory for that.
-fn is_cut(alloc: Global, file: &str, recording: &[u8], certificate: &[u8], size: usize) -> Option<bool> {
+fn is_cut(
+    alloc: Global,
+    file: &str,
+    recording: &[u8],
+    certificate: &[u8],
+    size: usize,
+) -> Option<bool> {
     let told = format!(in alloc; "{file}: truncated at {size}\n").ok()?;
     Some(is_checked(alloc, recording, certificate, (2, "", &told)))
 }
@@ -125,11 +130,18 @@ fn a_damaged_recording_is_told(rt: HostRuntime) {
         (NO_STEPS, "recording: magic at 0\n"),
     ];
     assert_eq!(rt; first_recording_otherwise(rt.alloc(), &ONE_STATION), None);
-    assert_eq!(rt; first_recording_told_otherwise(rt.alloc(), &recordings), None);
+    assert_eq!(rt;
+        first_recording_told_otherwise(rt.alloc(), &recordings),
+        None
+    );
 }
 
 /// The first size at which a certificate that is cut off is not told as truncated there.
-fn first_certificate_otherwise(alloc: Global, recording: &[u8], certificate: &[u8]) -> Option<usize> {
+fn first_certificate_otherwise(
+    alloc: Global,
+    recording: &[u8],
+    certificate: &[u8],
+) -> Option<usize> {
     for size in 0..certificate.len() {
         if is_cut(alloc, "certificate", recording, &certificate[..size], size) != Some(true) {
             return Some(size);
@@ -167,7 +179,10 @@ fn a_damaged_certificate_is_told(rt: HostRuntime) {
     let magic = other_is_told(alloc, None, "certificate: magic at 0\n");
     let over_limit = other_is_told(alloc, Some(many), "certificate: over-limit at 8\n");
     assert_eq!(rt; first_cut_otherwise(alloc), Some(None));
-    assert_eq!(rt; longer_is_told(alloc, "certificate: trailing at 44\n"), Some(true));
+    assert_eq!(rt;
+        longer_is_told(alloc, "certificate: trailing at 44\n"),
+        Some(true)
+    );
     assert_eq!(rt; magic, Some(true));
     assert_eq!(rt; over_limit, Some(true));
 }
@@ -175,7 +190,14 @@ fn a_damaged_certificate_is_told(rt: HostRuntime) {
 #[test]
 fn of_two_damaged_files_the_recording_is_told(rt: HostRuntime) {
     let left = (2, "", "recording: truncated at 7\n");
-    assert!(rt; is_checked(rt.alloc(), b"DSRC000".as_slice(), b"DSCT000".as_slice(), left));
+    assert!(rt;
+        is_checked(
+            rt.alloc(),
+            b"DSRC000".as_slice(),
+            b"DSCT000".as_slice(),
+            left
+        )
+    );
 }
 
 /// A reader whose first call fails, or its second where it has more than ten bytes.
@@ -270,5 +292,8 @@ fn unwritten_no_keeps(alloc: Global, most: usize, fails_at: u64, kept: &str) -> 
 
 #[test]
 fn a_no_that_cannot_be_written_leaves_a_prefix(rt: HostRuntime) {
-    assert_eq!(rt; unwritten_no_keeps(rt.alloc(), 10, 2, "no step=0 "), Some(true));
+    assert_eq!(rt;
+        unwritten_no_keeps(rt.alloc(), 10, 2, "no step=0 "),
+        Some(true)
+    );
 }

@@ -207,7 +207,10 @@ fn zeros_are_shown(alloc: Global, before: &str, times: u32, left: Left<'_>) -> O
 #[test]
 fn a_datagram_of_more_than_8192_bytes_is_long(rt: HostRuntime) {
     let left = (1, "refused 5 long\n", "");
-    assert_eq!(rt; zeros_are_shown(rt.alloc(), "07010B05", 8189, left), Some(true));
+    assert_eq!(rt;
+        zeros_are_shown(rt.alloc(), "07010B05", 8189, left),
+        Some(true)
+    );
 }
 
 #[test]
@@ -236,8 +239,14 @@ fn only_pairs_of_digits_are_hex_text(rt: HostRuntime) {
     ];
     let longest = (1, "refused 2 version 0\n", "");
     assert_eq!(rt; first_taken(rt.alloc(), &texts), None);
-    assert_eq!(rt; zeros_are_shown(rt.alloc(), "", 32_768, longest), Some(true));
-    assert_eq!(rt; zeros_are_shown(rt.alloc(), "", 32_769, NOT_PAIRS), Some(true));
+    assert_eq!(rt;
+        zeros_are_shown(rt.alloc(), "", 32_768, longest),
+        Some(true)
+    );
+    assert_eq!(rt;
+        zeros_are_shown(rt.alloc(), "", 32_769, NOT_PAIRS),
+        Some(true)
+    );
 }
 
 /// Whether the command leaves this of an input, which is a text and more, if there is memory for
@@ -284,8 +293,14 @@ fn longest_is_read(alloc: Global, more: &str, left: Left<'_>, unread: &str) -> O
 fn no_more_than_one_byte_past_the_limit_is_read(rt: HostRuntime) {
     let longest = (1, "refused 2 version 0\n", "");
     assert_eq!(rt; longest_is_read(rt.alloc(), "", longest, ""), Some(true));
-    assert_eq!(rt; longest_is_read(rt.alloc(), "\n", NOT_PAIRS, ""), Some(true));
-    assert_eq!(rt; longest_is_read(rt.alloc(), "\n00", NOT_PAIRS, "00"), Some(true));
+    assert_eq!(rt;
+        longest_is_read(rt.alloc(), "\n", NOT_PAIRS, ""),
+        Some(true)
+    );
+    assert_eq!(rt;
+        longest_is_read(rt.alloc(), "\n00", NOT_PAIRS, "00"),
+        Some(true)
+    );
 }
 
 /// Whether the command leaves this of the Create Entity from a reader that gives so many bytes a
@@ -327,7 +342,10 @@ fn input_comes_in_pieces_and_reads_are_interrupted(rt: HostRuntime) {
     let readers = [(1, 0), (7, 3), (1000, 1), (1000, 2)];
     let left = (0, CREATE_TEXT, "");
     let kind = ErrorKind::Interrupted;
-    assert_eq!(rt; first_reader_otherwise(rt.alloc(), &readers, kind, left), None);
+    assert_eq!(rt;
+        first_reader_otherwise(rt.alloc(), &readers, kind, left),
+        None
+    );
 }
 
 #[test]
@@ -335,16 +353,17 @@ fn a_failed_read_is_told_and_nothing_is_out(rt: HostRuntime) {
     let readers = [(10, 1), (10, 2), (1000, 1), (1000, 2)];
     let left = (2, "", "file: -\n");
     let kind = ErrorKind::Other;
-    assert_eq!(rt; first_reader_otherwise(rt.alloc(), &readers, kind, left), None);
+    assert_eq!(rt;
+        first_reader_otherwise(rt.alloc(), &readers, kind, left),
+        None
+    );
 }
 
 /// Whether so many bytes of the Comment's text are out and the rest is told of, as a status asks
 /// for it.
 fn is_begun(ended: u8, out: &[u8], told: &[u8], status: u8, size: usize) -> bool {
     let fault = if status == 0 { "" } else { "output: write\n" };
-    ended == status
-        && told == fault.as_bytes()
-        && COMMENT_TEXT.as_bytes().get(..size) == Some(out)
+    ended == status && told == fault.as_bytes() && COMMENT_TEXT.as_bytes().get(..size) == Some(out)
 }
 
 /// Whether a writer that takes so many bytes a call, and whose call of this number fails so, from

@@ -14,20 +14,11 @@ fn is_left(alloc: Global, stations: &[&[u8]], scene: &Scene<'_>) -> Option<bool>
     let (done, steps, left) = *scene;
     let recording = recording(alloc, stations, done)?;
     let certificate = certificate(alloc, steps)?;
-    Some(is_checked(
-        alloc,
-        recording.as_slice(),
-        certificate.as_slice(),
-        left,
-    ))
+    Some(is_checked(alloc, recording.as_slice(), certificate.as_slice(), left))
 }
 
 /// The number of the first scene, from 0, of which something else is left.
-fn first_left_otherwise(
-    alloc: Global,
-    stations: &[&[u8]],
-    scenes: &[Scene<'_>],
-) -> Option<usize> {
+fn first_left_otherwise(alloc: Global, stations: &[&[u8]], scenes: &[Scene<'_>]) -> Option<usize> {
     for (i, scene) in scenes.iter().enumerate() {
         if is_left(alloc, stations, scene) != Some(true) {
             return Some(i);
@@ -88,9 +79,16 @@ fn a_state_is_reported_and_told(rt: HostRuntime) {
     let stopped = started_after_creation(&create, &able, &start, &started, 1);
     let scenes: [Scene<'_>; 2] = [
         (&running, &steps, (0, report, "")),
-        (&stopped, &steps, (1, "no step=8 cause=13 wrong-state\n", "")),
+        (
+            &stopped,
+            &steps,
+            (1, "no step=8 cause=13 wrong-state\n", ""),
+        ),
     ];
-    assert_eq!(rt; first_left_otherwise(rt.alloc(), &[ONE, TWO], &scenes), None);
+    assert_eq!(rt;
+        first_left_otherwise(rt.alloc(), &[ONE, TWO], &scenes),
+        None
+    );
 }
 
 #[test]
@@ -173,39 +171,43 @@ fn a_repeated_answer_changes_nothing(rt: HostRuntime) {
     let running = started_and_stopped(&start, &started, &stop, &stopped, 2);
     let scenes: [Scene<'_>; 2] = [
         (&still_stopped, &steps, (0, report, "")),
-        (&running, &steps, (1, "no step=8 cause=13 wrong-state\n", "")),
+        (
+            &running,
+            &steps,
+            (1, "no step=8 cause=13 wrong-state\n", ""),
+        ),
     ];
-    assert_eq!(rt; first_left_otherwise(rt.alloc(), &[ONE, TWO_STOPPED], &scenes), None);
+    assert_eq!(rt;
+        first_left_otherwise(rt.alloc(), &[ONE, TWO_STOPPED], &scenes),
+        None
+    );
 }
 
-/// A request is received and answered twice.
-fn answered_twice<'a>(start: &'a [u8], first: &'a [u8], second: &'a [u8]) -> [Done<'a>; 4] {
-    [
-        Sent(0, start),
-        Received(1, start),
+/// Whether `check` leaves this of a start, received by a stopped 7 and answered twice.
+fn twice_is_left(alloc: Global, first: &[u8], second: &[u8], left: Left<'_>) -> bool {
+    let start = start(SEVEN, 1);
+    let done = [
+        Sent(0, &start),
+        Received(1, &start),
         Sent(1, first),
         Sent(1, second),
-    ]
+    ];
+    let steps = [(0, N), (1, 0), (2, 1), (3, 1)];
+    is_left(alloc, &[ONE, TWO_STOPPED], &(&done, &steps, left)) == Some(true)
 }
 
 #[test]
 fn an_answer_is_not_taken_back(rt: HostRuntime) {
-    let start = start(SEVEN, 1);
     let able = acknowledge(SEVEN, 3, 1, 1);
     let unable = acknowledge(SEVEN, 3, 2, 1);
     let pending = acknowledge(SEVEN, 3, 3, 1);
-    let steps = [(0, N), (1, 0), (2, 1), (3, 1)];
-    let taken_back = answered_twice(&start, &able, &unable);
-    let kept = answered_twice(&start, &pending, &able);
+    let changed = (1, "no step=3 cause=9 changed-answer\n", "");
     let text = "yes records=4 others=0\n\
                 answer 2 request 1\n\
                 answer 3 request 1\n\
                 entity 2:3:7 running\n";
-    let scenes: [Scene<'_>; 2] = [
-        (&taken_back, &steps, (1, "no step=3 cause=9 changed-answer\n", "")),
-        (&kept, &steps, (0, text, "")),
-    ];
-    assert_eq!(rt; first_left_otherwise(rt.alloc(), &[ONE, TWO_STOPPED], &scenes), None);
+    assert!(rt; twice_is_left(rt.alloc(), &able, &unable, changed));
+    assert!(rt; twice_is_left(rt.alloc(), &pending, &able, (0, text, "")));
 }
 
 #[test]
@@ -254,26 +256,24 @@ fn a_station_chooses_the_number_of_an_entity(rt: HostRuntime) {
     assert_eq!(rt; first_chosen_otherwise(rt.alloc(), &answers), None);
 }
 
-/// A datagram is sent by station 0, and then this is done.
-fn sent_before<'a>(first: &'a [u8], second: Done<'a>) -> [Done<'a>; 2] {
-    [Sent(0, first), second]
+/// Whether `check` leaves this where the Create Entity of 7 is sent, and then this is done.
+fn second_is_left(alloc: Global, second: Done<'_>, left: Left<'_>) -> bool {
+    let create = create(SEVEN, 1);
+    let done = [Sent(0, &create), second];
+    let steps = [(0, N), (1, N)];
+    is_left(alloc, &[ONE, TWO], &(&done, &steps, left)) == Some(true)
 }
 
 #[test]
 fn one_identifier_is_for_one_order(rt: HostRuntime) {
-    let first = create(SEVEN, 1);
     let other = create([0, 2, 0, 3, 0, 8], 1);
     let again = create_later(SEVEN, 1);
-    let reused = sent_before(&first, Sent(0, &other));
-    let repeated = sent_before(&first, Sent(0, &again));
-    let foreign = sent_before(&first, Sent(1, &again));
-    let steps = [(0, N), (1, N)];
-    let scenes: [Scene<'_>; 3] = [
-        (&reused, &steps, (1, "no step=1 cause=6 reused-identifier\n", "")),
-        (&repeated, &steps, (0, "yes records=2 others=0\n", "")),
-        (&foreign, &steps, (1, "no step=1 cause=5 wrong-sender\n", "")),
-    ];
-    assert_eq!(rt; first_left_otherwise(rt.alloc(), &[ONE, TWO], &scenes), None);
+    let reused = (1, "no step=1 cause=6 reused-identifier\n", "");
+    let repeated = (0, "yes records=2 others=0\n", "");
+    let foreign = (1, "no step=1 cause=5 wrong-sender\n", "");
+    assert!(rt; second_is_left(rt.alloc(), Sent(0, &other), reused));
+    assert!(rt; second_is_left(rt.alloc(), Sent(0, &again), repeated));
+    assert!(rt; second_is_left(rt.alloc(), Sent(1, &again), foreign));
 }
 
 #[test]

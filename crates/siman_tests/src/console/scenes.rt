@@ -34,7 +34,10 @@ pub(crate) const THREE_RUNNING: &[u8] = &[0, 2, 0, 4, 0, 2, 0, 8, 2, 0, 9, 2];
 pub(crate) const N: u32 = 0xFFFF_FFFF;
 
 /// The file of the recording of station 2:3 alone, entity 7 stopped, no entries.
-pub(crate) const ONE_STATION: [u8; 25] = [0x44, 0x53, 0x52, 0x43, 0x30, 0x30, 0x30, 0x31, 0x01, 0x00, 0x01, 0x00, 0x02, 0x00, 0x03, 0x00, 0x01, 0x00, 0x07, 0x01, 0x00, 0x00, 0x00, 0x00, 0x00];
+pub(crate) const ONE_STATION: [u8; 25] = [
+    0x44, 0x53, 0x52, 0x43, 0x30, 0x30, 0x30, 0x31, 0x01, 0x00, 0x01, 0x00, 0x02, 0x00, 0x03, 0x00,
+    0x01, 0x00, 0x07, 0x01, 0x00, 0x00, 0x00, 0x00, 0x00,
+];
 
 /// The file of the certificate without steps.
 pub(crate) const NO_STEPS: &[u8] = b"DSCT0001\x00\x00\x00\x00";
@@ -68,7 +71,8 @@ fn put_entry(file: &mut Vec<u8>, entry: &Done<'_>) -> Option<()> {
         Done::Sent(station, bytes) => put_datagram(file, 1, station, bytes),
         Done::Received(station, bytes) => put_datagram(file, 2, station, bytes),
         Done::Told(station, entity, state) => {
-            file.extend_from_slice(&[3, 0, station, 0, entity, state]).ok()
+            file.extend_from_slice(&[3, 0, station, 0, entity, state])
+                .ok()
         }
     }
 }

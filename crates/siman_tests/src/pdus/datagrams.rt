@@ -275,10 +275,7 @@ fn actions_are_requested_and_answered(rt: HostRuntime) {
         &[(10, 5), (11, 0xFFFF_FFFE)],
         &[(5, 40, b"HELLO"), (6, 0, b""), (7, 12, b"\xAB\xC0")],
     );
-    let answered: Lists<'_> = (
-        &[],
-        &[(8, 65, b"\x01\x02\x03\x04\x05\x06\x07\x08\x80")],
-    );
+    let answered: Lists<'_> = (&[], &[(8, 65, b"\x01\x02\x03\x04\x05\x06\x07\x08\x80")]);
     let rows: [(&[u8], Says<'_>); 2] = [
         (&ACTION_REQUEST, Says::ActionRequest(5, 77, requested)),
         (&ACTION_RESPONSE, Says::ActionResponse(5, 4, answered)),
@@ -288,19 +285,23 @@ fn actions_are_requested_and_answered(rt: HostRuntime) {
 
 #[test]
 fn data_is_asked_for_set_and_told(rt: HostRuntime) {
+    let set: Lists<'_> = (&[(10, 9)], &[]);
+    let told: Lists<'_> = (&[(10, 9)], &[(5, 8, b"A")]);
     let rows: [(&[u8], Says<'_>); 3] = [
         (&DATA_QUERY, Says::DataQuery(6, 60, &[10, 12], &[5])),
-        (&SET_DATA, Says::SetData(7, (&[(10, 9)], &[]))),
-        (&DATA, Says::DataPdu(6, (&[(10, 9)], &[(5, 8, b"A")]))),
+        (&SET_DATA, Says::SetData(7, set)),
+        (&DATA, Says::DataPdu(6, told)),
     ];
     assert_eq!(rt; first_otherwise(rt.alloc(), &rows), None);
 }
 
 #[test]
 fn notices_are_told(rt: HostRuntime) {
+    let none: Lists<'_> = (&[], &[]);
+    let one: Lists<'_> = (&[(1, 2)], &[]);
     let rows: [(&[u8], Says<'_>); 2] = [
-        (&EVENT_REPORT, Says::EventReport(3, (&[], &[]))),
-        (&COMMENT, Says::Comment((&[(1, 2)], &[]))),
+        (&EVENT_REPORT, Says::EventReport(3, none)),
+        (&COMMENT, Says::Comment(one)),
     ];
     assert_eq!(rt; first_otherwise(rt.alloc(), &rows), None);
 }

@@ -38,12 +38,7 @@ pub(crate) enum Said<'a> {
 pub(crate) type Steps<'a> = &'a [(u32, u32)];
 
 /// The station with an address, which opens with these entities, if there is memory for it.
-fn station(
-    alloc: Global,
-    site: u16,
-    application: u16,
-    opening: Entities<'_>,
-) -> Option<Station> {
+fn station(alloc: Global, site: u16, application: u16, opening: Entities<'_>) -> Option<Station> {
     let opening = Vec::from_slice(alloc, opening).ok()?;
     Station::new(Address::new(site, application)?, opening)
 }
@@ -53,7 +48,9 @@ fn station(
 fn stations(alloc: Global, openings: &[Entities<'_>]) -> Option<Vec<Station>> {
     let mut stations = Vec::new(alloc);
     for (opening, (site, application)) in openings.iter().zip([(1, 1), (2, 3), (2, 4)]) {
-        stations.push(station(alloc, site, application, opening)?).ok()?;
+        stations
+            .push(station(alloc, site, application, opening)?)
+            .ok()?;
     }
     Some(stations)
 }

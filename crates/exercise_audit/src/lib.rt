@@ -10,6 +10,3 @@ mod sweeps;
 
 pub use blocks::{Audit, Block};
 pub use sweeps::audit;
-
-#[cfg(test)]
-mod tests;

@@ -12,6 +12,12 @@ mod datagrams;
 #[cfg(test)]
 mod pdus;
 #[cfg(test)]
+mod recordings;
+#[cfg(test)]
 mod records;
+#[cfg(test)]
+mod searches;
+#[cfg(test)]
+mod streams;
 #[cfg(test)]
 mod verdicts;

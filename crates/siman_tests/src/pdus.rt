@@ -1,11 +1,5 @@
 //! PDUs and their datagrams, byte by byte.
 
-use siman_pdus::*;
-use dis_records::{ClockTime, EntityId, FixedDatum, HeaderFault, Kind, VariableDatum, Version};
-use std::alloc::Global;
-use std::process::Abort;
-use std::test::*;
-
 mod datagrams;
 mod exchanges;
 mod refusals;

@@ -11,10 +11,9 @@ use scenes::Done::{Received, Sent, Told};
 use scenes::Said::{No, Yes};
 use scenes::*;
 use std::alloc::Global;
-use std::test::Fail;
 
 #[test]
-fn no_entries_are_explained_by_no_steps(rt: HostRuntime) -> Result<(), Fail> {
+fn no_entries_are_explained_by_no_steps(rt: HostRuntime) {
     let account = Account {
         entities: &[&[], &[(7, Stopped)]],
         pairs: &[],
@@ -23,12 +22,14 @@ fn no_entries_are_explained_by_no_steps(rt: HostRuntime) -> Result<(), Fail> {
     };
     let openings: [Entities<'_>; 2] = [&[], &[(7, Stopped)]];
     let certificates: [(Steps<'_>, Said<'_>); 1] = [(&[], Yes(account))];
-    assert_eq!(rt; first_otherwise(rt.alloc(), &openings, &[], &certificates)?, None);
-    Ok(())
+    assert_eq!(rt;
+        first_otherwise(rt.alloc(), &openings, &[], &certificates),
+        None
+    );
 }
 
 #[test]
-fn create_and_acknowledge_is_explained(rt: HostRuntime) -> Result<(), Fail> {
+fn create_and_acknowledge_is_explained(rt: HostRuntime) {
     let create = create(SEVEN, 1);
     let able = acknowledge(SEVEN, 1, 1, 1);
     let done = [
@@ -55,12 +56,14 @@ fn create_and_acknowledge_is_explained(rt: HostRuntime) -> Result<(), Fail> {
         (&[(0, N), (1, 0), (2, 0), (3, 2)], No(2, Cause::BadLink)),
         (&[(0, N), (1, 0), (3, 2), (2, 1)], No(2, Cause::NeverSent)),
     ];
-    assert_eq!(rt; first_otherwise(rt.alloc(), &[&[], &[]], &done, &certificates)?, None);
-    Ok(())
+    assert_eq!(rt;
+        first_otherwise(rt.alloc(), &[&[], &[]], &done, &certificates),
+        None
+    );
 }
 
 #[test]
-fn entries_in_no_common_order_are_explained(rt: HostRuntime) -> Result<(), Fail> {
+fn entries_in_no_common_order_are_explained(rt: HostRuntime) {
     let create = create(SEVEN, 1);
     let able = acknowledge(SEVEN, 1, 1, 1);
     let done = [
@@ -80,8 +83,10 @@ fn entries_in_no_common_order_are_explained(rt: HostRuntime) -> Result<(), Fail>
         (&[(0, 2), (1, 0), (2, N), (3, 1)], No(0, Cause::NeverSent)),
         (&[(2, N), (1, 0), (0, 2), (3, 1)], No(1, Cause::OutOfOrder)),
     ];
-    assert_eq!(rt; first_otherwise(rt.alloc(), &[&[], &[]], &done, &certificates)?, None);
-    Ok(())
+    assert_eq!(rt;
+        first_otherwise(rt.alloc(), &[&[], &[]], &done, &certificates),
+        None
+    );
 }
 
 /// Entity 7 is created and started, and then told to be in a state.
@@ -106,7 +111,7 @@ fn started_and_told<'a>(
 }
 
 #[test]
-fn a_told_state_is_the_state_of_the_run(rt: HostRuntime) -> Result<(), Fail> {
+fn a_told_state_is_the_state_of_the_run(rt: HostRuntime) {
     let (create, created) = (create(SEVEN, 1), acknowledge(SEVEN, 1, 1, 1));
     let (start, started) = (start(SEVEN, 2), acknowledge(SEVEN, 3, 1, 2));
     let running = Account {
@@ -126,18 +131,20 @@ fn a_told_state_is_the_state_of_the_run(rt: HostRuntime) -> Result<(), Fail> {
         (7, 6),
         (8, N),
     ];
-    for (told, said) in [
-        (Running, Yes(running)),
-        (Stopped, No(8, Cause::WrongState)),
-    ] {
-        let done = started_and_told(&create, &created, &start, &started, told);
-        assert_eq!(rt; first_otherwise(rt.alloc(), &[&[], &[]], &done, &[(steps, said)])?, None);
-    }
-    Ok(())
+    let right = started_and_told(&create, &created, &start, &started, Running);
+    let wrong = started_and_told(&create, &created, &start, &started, Stopped);
+    let scenes: [Scene<'_>; 2] = [
+        (&right, steps, Yes(running)),
+        (&wrong, steps, No(8, Cause::WrongState)),
+    ];
+    assert_eq!(rt;
+        first_scene_otherwise(rt.alloc(), &[&[], &[]], &scenes),
+        None
+    );
 }
 
 #[test]
-fn a_stop_to_all_is_answered_by_each(rt: HostRuntime) -> Result<(), Fail> {
+fn a_stop_to_all_is_answered_by_each(rt: HostRuntime) {
     let stop = stop([0xFF; 6], 1);
     let first = acknowledge(NONE, 4, 1, 1);
     let second = acknowledge([0, 2, 0, 4, 0, 0], 4, 1, 1);
@@ -157,8 +164,10 @@ fn a_stop_to_all_is_answered_by_each(rt: HostRuntime) -> Result<(), Fail> {
         others: 0,
     };
     let steps: Steps<'_> = &[(0, N), (1, 0), (2, 0), (3, 1), (4, 2), (5, 4)];
-    assert_eq!(rt; first_otherwise(rt.alloc(), &openings, &done, &[(steps, Yes(account))])?, None);
-    Ok(())
+    assert_eq!(rt;
+        first_otherwise(rt.alloc(), &openings, &done, &[(steps, Yes(account))]),
+        None
+    );
 }
 
 /// Entity 7 is started and stopped, the first request comes again and is answered again, and then
@@ -184,7 +193,7 @@ fn answered_again_and_told<'a>(
 }
 
 #[test]
-fn a_repeat_changes_nothing(rt: HostRuntime) -> Result<(), Fail> {
+fn a_repeat_changes_nothing(rt: HostRuntime) {
     let (start, started) = (start(SEVEN, 1), acknowledge(SEVEN, 3, 1, 1));
     let (stop, stopped) = (stop(SEVEN, 2), acknowledge(SEVEN, 4, 1, 2));
     let openings: [Entities<'_>; 2] = [&[], &[(7, Stopped)]];
@@ -205,23 +214,34 @@ fn a_repeat_changes_nothing(rt: HostRuntime) -> Result<(), Fail> {
         (7, 1),
         (8, N),
     ];
-    for (told, said) in [
-        (Stopped, Yes(unchanged)),
-        (Running, No(8, Cause::WrongState)),
-    ] {
-        let done = answered_again_and_told(&start, &started, &stop, &stopped, told);
-        assert_eq!(rt; first_otherwise(rt.alloc(), &openings, &done, &[(steps, said)])?, None);
-    }
-    Ok(())
+    let right = answered_again_and_told(&start, &started, &stop, &stopped, Stopped);
+    let wrong = answered_again_and_told(&start, &started, &stop, &stopped, Running);
+    let scenes: [Scene<'_>; 2] = [
+        (&right, steps, Yes(unchanged)),
+        (&wrong, steps, No(8, Cause::WrongState)),
+    ];
+    assert_eq!(rt; first_scene_otherwise(rt.alloc(), &openings, &scenes), None);
+}
+
+/// Whether this is said of a start, received by a stopped 7 and answered twice.
+fn twice_is_said(alloc: Global, first: &[u8], second: &[u8], said: Said<'_>) -> bool {
+    let start = start(SEVEN, 1);
+    let done = [
+        Sent(0, &start),
+        Received(1, &start),
+        Sent(1, first),
+        Sent(1, second),
+    ];
+    let openings: [Entities<'_>; 2] = [&[], &[(7, Stopped)]];
+    let steps: Steps<'_> = &[(0, N), (1, 0), (2, 1), (3, 1)];
+    first_otherwise(alloc, &openings, &done, &[(steps, said)]).is_none()
 }
 
 #[test]
-fn an_answer_given_is_not_taken_back(rt: HostRuntime) -> Result<(), Fail> {
-    let start = start(SEVEN, 1);
+fn an_answer_given_is_not_taken_back(rt: HostRuntime) {
     let pending = acknowledge(SEVEN, 3, 3, 1);
     let able = acknowledge(SEVEN, 3, 1, 1);
     let unable = acknowledge(SEVEN, 3, 2, 1);
-    let openings: [Entities<'_>; 2] = [&[], &[(7, Stopped)]];
     let changed = No(3, Cause::ChangedAnswer);
     let started = Yes(Account {
         entities: &[&[], &[(7, Running)]],
@@ -229,25 +249,13 @@ fn an_answer_given_is_not_taken_back(rt: HostRuntime) -> Result<(), Fail> {
         changes: &[],
         others: 0,
     });
-    for (first, second, said) in [
-        (&able, &unable, changed),
-        (&unable, &able, changed),
-        (&pending, &able, started),
-    ] {
-        let done = [
-            Sent(0, &start),
-            Received(1, &start),
-            Sent(1, first),
-            Sent(1, second),
-        ];
-        let steps: Steps<'_> = &[(0, N), (1, 0), (2, 1), (3, 1)];
-        assert_eq!(rt; first_otherwise(rt.alloc(), &openings, &done, &[(steps, said)])?, None);
-    }
-    Ok(())
+    assert!(rt; twice_is_said(rt.alloc(), &able, &unable, changed));
+    assert!(rt; twice_is_said(rt.alloc(), &unable, &able, changed));
+    assert!(rt; twice_is_said(rt.alloc(), &pending, &able, started));
 }
 
 #[test]
-fn a_cause_is_told_before_a_bad_link(rt: HostRuntime) -> Result<(), Fail> {
+fn a_cause_is_told_before_a_bad_link(rt: HostRuntime) {
     let start = start(SEVEN, 1);
     let able = acknowledge(SEVEN, 3, 1, 1);
     let unable = acknowledge(SEVEN, 3, 2, 1);
@@ -260,27 +268,44 @@ fn a_cause_is_told_before_a_bad_link(rt: HostRuntime) -> Result<(), Fail> {
     ];
     let steps: Steps<'_> = &[(0, N), (1, 0), (2, 1), (3, N)];
     let said = No(3, Cause::ChangedAnswer);
-    assert_eq!(rt; first_otherwise(rt.alloc(), &openings, &done, &[(steps, said)])?, None);
-    Ok(())
+    assert_eq!(rt;
+        first_otherwise(rt.alloc(), &openings, &done, &[(steps, said)]),
+        None
+    );
 }
 
 #[test]
-fn an_overheard_request_is_not_received(rt: HostRuntime) -> Result<(), Fail> {
+fn an_overheard_request_is_not_received(rt: HostRuntime) {
     let create = create(SEVEN, 1);
     let able = acknowledge([0, 2, 0, 4, 0, 7], 1, 1, 1);
     let done = [Sent(0, &create), Received(2, &create), Sent(2, &able)];
     let steps: Steps<'_> = &[(0, N), (1, 0), (2, 1)];
     let said = No(2, Cause::NoRequest);
     assert_eq!(rt;
-        first_otherwise(rt.alloc(), &[&[], &[], &[]], &done, &[(steps, said)])?,
+        first_otherwise(rt.alloc(), &[&[], &[], &[]], &done, &[(steps, said)]),
         None
     );
-    Ok(())
+}
+
+/// An answer to a creation of any number, with its link, and what is said of a certificate.
+type Chosen<'a> = ([u8; 32], u32, Said<'a>);
+
+/// Of answers to a creation of any number: the number of the first, from 0, of whose certificate
+/// something else is said.
+fn first_chosen_otherwise(alloc: Global, answers: &[Chosen<'_>]) -> Option<usize> {
+    let create = create([0, 2, 0, 3, 0xFF, 0xFE], 1);
+    for (i, (answer, link, said)) in answers.iter().enumerate() {
+        let done = [Sent(0, &create), Received(1, &create), Sent(1, answer)];
+        let steps = [(0, N), (1, 0), (2, *link)];
+        if first_otherwise(alloc, &[&[], &[]], &done, &[(&steps, *said)]).is_some() {
+            return Some(i);
+        }
+    }
+    None
 }
 
 #[test]
-fn a_creation_of_any_number_names_one(rt: HostRuntime) -> Result<(), Fail> {
-    let create = create([0, 2, 0, 3, 0xFF, 0xFE], 1);
+fn a_creation_of_any_number_names_one(rt: HostRuntime) {
     let nine = [0, 2, 0, 3, 0, 9];
     let created = Yes(Account {
         entities: &[&[], &[(9, Stopped)]],
@@ -294,22 +319,25 @@ fn a_creation_of_any_number_names_one(rt: HostRuntime) -> Result<(), Fail> {
         changes: &[],
         others: 1,
     });
-    for (answer, link, said) in [
+    let answers: [Chosen<'_>; 4] = [
         (acknowledge(nine, 1, 1, 1), 1, created),
         (acknowledge(NONE, 1, 1, 1), 1, No(2, Cause::Impossible)),
         (acknowledge(nine, 3, 1, 1), 1, No(2, Cause::WrongAnswer)),
         (acknowledge(nine, 5, 1, 1), N, other),
-    ] {
-        let done = [Sent(0, &create), Received(1, &create), Sent(1, &answer)];
-        let steps: Steps<'_> = &[(0, N), (1, 0), (2, link)];
-        assert_eq!(rt; first_otherwise(rt.alloc(), &[&[], &[]], &done, &[(steps, said)])?, None);
-    }
-    Ok(())
+    ];
+    assert_eq!(rt; first_chosen_otherwise(rt.alloc(), &answers), None);
+}
+
+/// Whether this is said where the Create Entity of 7 is sent, and then this is done.
+fn second_is_said(alloc: Global, second: Done<'_>, said: Said<'_>) -> bool {
+    let create = create(SEVEN, 1);
+    let done = [Sent(0, &create), second];
+    let steps: Steps<'_> = &[(0, N), (1, N)];
+    first_otherwise(alloc, &[&[], &[]], &done, &[(steps, said)]).is_none()
 }
 
 #[test]
-fn an_identifier_is_for_one_order(rt: HostRuntime) -> Result<(), Fail> {
-    let create_seven = create(SEVEN, 1);
+fn an_identifier_is_for_one_order(rt: HostRuntime) {
     let create_eight = create([0, 2, 0, 3, 0, 8], 1);
     let again = create_later(SEVEN, 1);
     let silent = Yes(Account {
@@ -318,22 +346,16 @@ fn an_identifier_is_for_one_order(rt: HostRuntime) -> Result<(), Fail> {
         changes: &[],
         others: 0,
     });
-    for (second, said) in [
-        (Sent(0, &create_eight), No(1, Cause::ReusedIdentifier)),
-        (Sent(0, &again), silent),
-        (Sent(1, &again), No(1, Cause::WrongSender)),
-    ] {
-        let done = [Sent(0, &create_seven), second];
-        let steps: Steps<'_> = &[(0, N), (1, N)];
-        assert_eq!(rt; first_otherwise(rt.alloc(), &[&[], &[]], &done, &[(steps, said)])?, None);
-    }
-    Ok(())
+    let reused = No(1, Cause::ReusedIdentifier);
+    let foreign = No(1, Cause::WrongSender);
+    assert!(rt; second_is_said(rt.alloc(), Sent(0, &create_eight), reused));
+    assert!(rt; second_is_said(rt.alloc(), Sent(0, &again), silent));
+    assert!(rt; second_is_said(rt.alloc(), Sent(1, &again), foreign));
 }
 
 #[test]
-fn a_query_is_answered_many_times(rt: HostRuntime) -> Result<(), Fail> {
-    let alloc = rt.alloc();
-    let done = [
+fn a_query_is_answered_many_times(rt: HostRuntime) {
+    let asked = [
         Sent(0, &QUERY),
         Received(1, &QUERY),
         Sent(1, &DATA),
@@ -348,28 +370,35 @@ fn a_query_is_answered_many_times(rt: HostRuntime) -> Result<(), Fail> {
         changes: &[],
         others: 1,
     });
-    assert_eq!(rt; first_otherwise(alloc, &[&[], &[]], &done, &[(steps, answered)])?, None);
     let unasked = [Sent(0, &QUERY), Sent(1, &DATA)];
-    let steps: Steps<'_> = &[(0, N), (1, N)];
-    let said = No(1, Cause::NoRequest);
-    assert_eq!(rt; first_otherwise(alloc, &[&[], &[]], &unasked, &[(steps, said)])?, None);
-    Ok(())
+    let scenes: [Scene<'_>; 2] = [
+        (&asked, steps, answered),
+        (&unasked, &[(0, N), (1, N)], No(1, Cause::NoRequest)),
+    ];
+    assert_eq!(rt;
+        first_scene_otherwise(rt.alloc(), &[&[], &[]], &scenes),
+        None
+    );
 }
 
 #[test]
-fn a_stranger_is_told(rt: HostRuntime) -> Result<(), Fail> {
+fn a_stranger_is_told(rt: HostRuntime) {
     let stranger = comment([0, 9, 0, 9, 0, 0]);
     let steps: Steps<'_> = &[(0, N)];
     let said = No(0, Cause::Stranger);
     assert_eq!(rt;
-        first_otherwise(rt.alloc(), &[&[], &[]], &[Received(0, &stranger)], &[(steps, said)])?,
+        first_otherwise(
+            rt.alloc(),
+            &[&[], &[]],
+            &[Received(0, &stranger)],
+            &[(steps, said)]
+        ),
         None
     );
-    Ok(())
 }
 
 #[test]
-fn an_answer_takes_up_the_first_request(rt: HostRuntime) -> Result<(), Fail> {
+fn an_answer_takes_up_the_first_request(rt: HostRuntime) {
     let create = create(SEVEN, 1);
     let able = acknowledge(SEVEN, 1, 1, 1);
     let done = [
@@ -392,12 +421,14 @@ fn an_answer_takes_up_the_first_request(rt: HostRuntime) -> Result<(), Fail> {
             No(4, Cause::BadLink),
         ),
     ];
-    assert_eq!(rt; first_otherwise(rt.alloc(), &[&[], &[]], &done, &certificates)?, None);
-    Ok(())
+    assert_eq!(rt;
+        first_otherwise(rt.alloc(), &[&[], &[]], &done, &certificates),
+        None
+    );
 }
 
 #[test]
-fn what_waits_for_each_other_never_happens(rt: HostRuntime) -> Result<(), Fail> {
+fn what_waits_for_each_other_never_happens(rt: HostRuntime) {
     let first = comment(MANAGER);
     let second = comment(NONE);
     let done = [
@@ -411,8 +442,10 @@ fn what_waits_for_each_other_never_happens(rt: HostRuntime) -> Result<(), Fail> 
         (&[(2, 1), (3, N), (0, 3), (1, N)], No(0, Cause::NeverSent)),
         (&[(3, N), (0, 3), (1, N), (2, 1)], No(0, Cause::OutOfOrder)),
     ];
-    assert_eq!(rt; first_otherwise(rt.alloc(), &[&[], &[]], &done, &certificates)?, None);
-    Ok(())
+    assert_eq!(rt;
+        first_otherwise(rt.alloc(), &[&[], &[]], &done, &certificates),
+        None
+    );
 }
 
 /// Entity 7 is created, told to be in a state, and the request comes again and gets an answer with
@@ -423,7 +456,7 @@ fn asked_again(
     told: EntityState,
     response: u8,
     certificates: &[(Steps<'_>, Said<'_>)],
-) -> Result<Option<usize>, Fail> {
+) -> Option<usize> {
     let create = create(SEVEN, 1);
     let able = acknowledge(SEVEN, 1, 1, 1);
     let again = acknowledge(SEVEN, 1, response, 1);
@@ -439,26 +472,50 @@ fn asked_again(
     first_otherwise(alloc, &[&[], opening], &done, certificates)
 }
 
+/// The steps of a certificate for that, in the order in which it was done.
+const FOLLOWED: [(u32, u32); 7] = [(5, N), (0, 5), (1, 0), (2, N), (3, 5), (4, 0), (6, 1)];
+
 #[test]
-fn a_history_with_a_copy_is_followed_step_by_step(rt: HostRuntime) -> Result<(), Fail> {
-    let alloc = rt.alloc();
-    let steps: Steps<'_> = &[(5, N), (0, 5), (1, 0), (2, N), (3, 5), (4, 0), (6, 1)];
-    let sooner: Steps<'_> = &[(5, N), (0, 5), (1, 0), (6, 1), (2, N), (3, 5), (4, 0)];
+fn a_history_with_a_copy_is_followed_step_by_step(rt: HostRuntime) {
     let explained = Yes(Account {
         entities: &[&[], &[(7, Stopped)]],
         pairs: &[(1, 0), (4, 0)],
         changes: &[(6, 1)],
         others: 0,
     });
-    let good = [(steps, explained), (sooner, explained)];
-    assert_eq!(rt; asked_again(alloc, &[], Stopped, 1, &good)?, None);
-    for (opening, told, response, step, cause) in [
-        (&[(7, Running)][..], Stopped, 1, 2, Cause::Impossible),
+    let certificates: [(Steps<'_>, Said<'_>); 2] = [
+        (&FOLLOWED, explained),
+        (
+            &[(5, N), (0, 5), (1, 0), (6, 1), (2, N), (3, 5), (4, 0)],
+            explained,
+        ),
+    ];
+    assert_eq!(rt;
+        asked_again(rt.alloc(), &[], Stopped, 1, &certificates),
+        None
+    );
+}
+
+/// What 7 is at first, what it is told to be, the response, and the first bad step with its cause.
+type Refused<'a> = (Entities<'a>, EntityState, u8, usize, Cause);
+
+/// The number of the first row, from 0, of whose certificate something else is said.
+fn first_refused_otherwise(alloc: Global, rows: &[Refused<'_>]) -> Option<usize> {
+    for (i, (opening, told, response, step, cause)) in rows.iter().enumerate() {
+        let bad: [(Steps<'_>, Said<'_>); 1] = [(&FOLLOWED, No(*step, *cause))];
+        if asked_again(alloc, opening, *told, *response, &bad).is_some() {
+            return Some(i);
+        }
+    }
+    None
+}
+
+#[test]
+fn a_history_with_a_copy_is_refused_at_its_first_bad_step(rt: HostRuntime) {
+    let rows: [Refused<'_>; 3] = [
+        (&[(7, Running)], Stopped, 1, 2, Cause::Impossible),
         (&[], Running, 1, 3, Cause::WrongState),
         (&[], Stopped, 2, 5, Cause::ChangedAnswer),
-    ] {
-        let bad = [(steps, No(step, cause))];
-        assert_eq!(rt; asked_again(alloc, opening, told, response, &bad)?, None);
-    }
-    Ok(())
+    ];
+    assert_eq!(rt; first_refused_otherwise(rt.alloc(), &rows), None);
 }

@@ -1,14 +1,12 @@
 //! Datagrams in hex text, shown or refused.
 
-use super::{FailingReader, FailingWriter, assert_left};
+use super::{Left, leaves};
+use crate::streams::{FailingReader, FailingWriter};
 use dis_records::HeaderFault;
 use siman_console::{pdu_command, pdu_from, refusal_number};
 use siman_pdus::PduFault;
-use std::alloc::{AllocError, Global};
+use std::alloc::Global;
 use std::io::{ErrorKind, Read};
-use std::process::Abort;
-use std::str;
-use std::test::*;
 
 /// A Create Entity of 28 bytes, and its one line.
 const CREATE: &str = "07010B0500000000001C000000010001000000020003000700000001";
@@ -23,46 +21,35 @@ const COMMENT: &str =
 const COMMENT_TEXT: &str =
     "comment version=7 exercise=1 stamp=0 status=0 from=1:1:0 to=2:3:0 fixed=0 variable=1\nvariable 5 40 48454c4c4f\n";
 
-fn assert_command(
-    rt: &impl Abort,
-    alloc: Global,
-    hex: &str,
-    status: u8,
-    text: &str,
-    told: &str,
-) -> Result<(), Fail> {
-    let mut out = Vec::new(alloc);
-    let mut errors = Vec::new(alloc);
-    let ended = pdu_command(alloc, hex, &mut out, &mut errors);
-    assert_left(rt, (ended, &out, &errors), status, text, told)
+/// Whether the command leaves this of a hex text.
+fn is_shown(alloc: Global, hex: &str, left: Left<'_>) -> bool {
+    let mut text = Vec::new(alloc);
+    let mut told = Vec::new(alloc);
+    let ended = pdu_command(alloc, hex, &mut text, &mut told);
+    leaves(ended, &text, &told, left)
 }
 
-fn assert_input<R: Read + Drop>(
-    rt: &impl Abort,
-    alloc: Global,
-    reader: R,
-    status: u8,
-    text: &str,
-    told: &str,
-) -> Result<(), Fail> {
-    let mut out = Vec::new(alloc);
-    let mut errors = Vec::new(alloc);
-    let ended = pdu_from(alloc, reader, &mut out, &mut errors);
-    assert_left(rt, (ended, &out, &errors), status, text, told)
-}
-
-/// A text that is repeated so many times.
-fn repeated(alloc: Global, part: &str, times: u32) -> Result<String, AllocError> {
-    let mut text = String::new(alloc);
-    for _ in 0..times {
-        text.push_str(part)?;
+/// The number of the first hex text, from 0, of which another status or text than its own is left.
+fn first_shown_otherwise(alloc: Global, status: u8, rows: &[(&str, &str)]) -> Option<usize> {
+    for (i, (hex, text)) in rows.iter().enumerate() {
+        if !is_shown(alloc, *hex, (status, *text, "")) {
+            return Some(i);
+        }
     }
-    Ok(text)
+    None
+}
+
+/// Whether the command leaves this of what it reads.
+fn is_read<R: Read + Drop>(alloc: Global, reader: R, left: Left<'_>) -> bool {
+    let mut text = Vec::new(alloc);
+    let mut told = Vec::new(alloc);
+    let ended = pdu_from(alloc, reader, &mut text, &mut told);
+    leaves(ended, &text, &told, left)
 }
 
 #[test]
-fn heads_of_the_kinds_without_records(rt: HostRuntime) -> Result<(), Fail> {
-    for (hex, text) in [
+fn heads_of_the_kinds_without_records(rt: HostRuntime) {
+    let rows = [
         (CREATE, CREATE_TEXT),
         (
             "07010C0500000000001C000000010001000000020003000700000002",
@@ -80,15 +67,13 @@ fn heads_of_the_kinds_without_records(rt: HostRuntime) -> Result<(), Fail> {
             "07010F0500000000002000000002000300070001000100000001000100000001",
             "acknowledge version=7 exercise=1 stamp=0 status=0 from=2:3:7 to=1:1:0 flag=1 response=1 request=1\n",
         ),
-    ] {
-        assert_command(&rt, rt.alloc(), hex, 0, text, "")?;
-    }
-    Ok(())
+    ];
+    assert_eq!(rt; first_shown_otherwise(rt.alloc(), 0, &rows), None);
 }
 
 #[test]
-fn heads_and_lines_of_the_kinds_with_records(rt: HostRuntime) -> Result<(), Fail> {
-    for (hex, text) in [
+fn heads_and_lines_of_the_kinds_with_records(rt: HostRuntime) {
+    let rows = [
         (
             "070110050000000000300000000100010000000200030007000000040000004D00000001000000000000000A00000005",
             "action-request version=7 exercise=1 stamp=0 status=0 from=1:1:0 to=2:3:7 request=4 action=77 fixed=1 variable=0\nfixed 10 5\n",
@@ -111,24 +96,22 @@ fn heads_and_lines_of_the_kinds_with_records(rt: HostRuntime) -> Result<(), Fail
             "event-report version=7 exercise=1 stamp=0 status=0 from=2:3:0 to=1:1:0 event=9 fixed=0 variable=1\nvariable 4294967295 64 f8f9fafbfcfdfeff\n",
         ),
         (COMMENT, COMMENT_TEXT),
-    ] {
-        assert_command(&rt, rt.alloc(), hex, 0, text, "")?;
-    }
-    Ok(())
+    ];
+    assert_eq!(rt; first_shown_otherwise(rt.alloc(), 0, &rows), None);
 }
 
 #[test]
-fn unused_bits_are_shown_cleared_and_no_bits_as_a_dash(rt: HostRuntime) -> Result<(), Fail> {
+fn unused_bits_are_shown_cleared_and_no_bits_as_a_dash(rt: HostRuntime) {
     let hex = "0701130500000000004800000001000100000002000300000000000200000000000000010000000\
         20000000A00000009000000050000000CABCF0000000000000000000600000000";
     let text =
         "set-data version=7 exercise=1 stamp=0 status=0 from=1:1:0 to=2:3:0 request=2 fixed=1 variable=2\nfixed 10 9\nvariable 5 12 abc0\nvariable 6 0 -\n";
-    assert_command(&rt, rt.alloc(), hex, 0, text, "")
+    assert!(rt; is_shown(rt.alloc(), hex, (0, text, "")));
 }
 
 #[test]
-fn a_refusal_has_its_number_and_its_place(rt: HostRuntime) -> Result<(), Fail> {
-    for (hex, text) in [
+fn a_refusal_has_its_number_and_its_place(rt: HostRuntime) {
+    let rows = [
         ("", "refused 1 truncated\n"),
         ("07010B0500000000001C00", "refused 1 truncated\n"),
         (
@@ -175,15 +158,23 @@ fn a_refusal_has_its_number_and_its_place(rt: HostRuntime) -> Result<(), Fail> {
             "0701120500000000002C0000000100010000000200030000000000010000000000000000000000000000000A",
             "refused 8 body-long at 40\n",
         ),
-    ] {
-        assert_command(&rt, rt.alloc(), hex, 1, text, "")?;
+    ];
+    assert_eq!(rt; first_shown_otherwise(rt.alloc(), 1, &rows), None);
+}
+
+/// The first fault that has another number than its own.
+fn first_numbered_otherwise(faults: &[(PduFault, u8)]) -> Option<PduFault> {
+    for (fault, number) in faults {
+        if refusal_number(*fault) != *number {
+            return Some(*fault);
+        }
     }
-    Ok(())
+    None
 }
 
 #[test]
 fn refusals_are_numbered_in_their_order(rt: HostRuntime) {
-    for (fault, number) in [
+    let faults = [
         (PduFault::Header(HeaderFault::Truncated), 1),
         (PduFault::Header(HeaderFault::Version(6)), 2),
         (PduFault::Header(HeaderFault::Family(1)), 3),
@@ -192,167 +183,254 @@ fn refusals_are_numbered_in_their_order(rt: HostRuntime) {
         (PduFault::Header(HeaderFault::LengthField(40)), 6),
         (PduFault::BodyShort(12), 7),
         (PduFault::BodyLong(28), 8),
-    ] {
-        assert_eq!(rt; refusal_number(fault), number);
+    ];
+    assert_eq!(rt; first_numbered_otherwise(&faults), None);
+}
+
+/// A text, then `00` so many times, and then another text, if there is memory for it.
+fn with_zeros(alloc: Global, before: &str, times: u32, after: &str) -> Option<String> {
+    let mut text = String::from_str(alloc, before).ok()?;
+    for _ in 0..times {
+        text.push_str("00").ok()?;
     }
+    text.push_str(after).ok()?;
+    Some(text)
+}
+
+/// Whether the command leaves this of a hex text that ends in so many zero bytes, if there is
+/// memory for it.
+fn zeros_are_shown(alloc: Global, before: &str, times: u32, left: Left<'_>) -> Option<bool> {
+    let hex = with_zeros(alloc, before, times, "")?;
+    Some(is_shown(alloc, &hex, left))
 }
 
 #[test]
-fn a_datagram_of_more_than_8192_bytes_is_long(rt: HostRuntime) -> Result<(), Fail> {
-    let alloc = rt.alloc();
-    let mut hex = String::from_str(alloc, "07010B05")?;
-    hex.push_str(repeated(alloc, "00", 8189)?.as_str())?;
-    assert_command(&rt, alloc, hex.as_str(), 1, "refused 5 long\n", "")
+fn a_datagram_of_more_than_8192_bytes_is_long(rt: HostRuntime) {
+    let left = (1, "refused 5 long\n", "");
+    assert_eq!(rt;
+        zeros_are_shown(rt.alloc(), "07010B05", 8189, left),
+        Some(true)
+    );
 }
 
 #[test]
-fn digits_of_either_case_are_read(rt: HostRuntime) -> Result<(), Fail> {
+fn digits_of_either_case_are_read(rt: HostRuntime) {
     let hex = "07010b0500000000001C000000010001000000020003000700000001";
-    assert_command(&rt, rt.alloc(), hex, 0, CREATE_TEXT, "")
+    assert!(rt; is_shown(rt.alloc(), hex, (0, CREATE_TEXT, "")));
+}
+
+/// What is left of a text that is not hex text.
+const NOT_PAIRS: Left<'static> = (2, "", "hex: not byte pairs\n");
+
+/// The number of the first text, from 0, that is taken for hex text.
+fn first_taken(alloc: Global, texts: &[&str]) -> Option<usize> {
+    for (i, text) in texts.iter().enumerate() {
+        if !is_shown(alloc, *text, NOT_PAIRS) {
+            return Some(i);
+        }
+    }
+    None
 }
 
 #[test]
-fn only_pairs_of_digits_are_hex_text(rt: HostRuntime) -> Result<(), Fail> {
-    let alloc = rt.alloc();
-    for hex in [
+fn only_pairs_of_digits_are_hex_text(rt: HostRuntime) {
+    let texts = [
         "0", "070", "0g", "G0", "07 01", " 0701", "0701 ", "0x0701", "07:01", "07\n", "é",
-    ] {
-        assert_command(&rt, alloc, hex, 2, "", "hex: not byte pairs\n")?;
+    ];
+    let longest = (1, "refused 2 version 0\n", "");
+    assert_eq!(rt; first_taken(rt.alloc(), &texts), None);
+    assert_eq!(rt;
+        zeros_are_shown(rt.alloc(), "", 32_768, longest),
+        Some(true)
+    );
+    assert_eq!(rt;
+        zeros_are_shown(rt.alloc(), "", 32_769, NOT_PAIRS),
+        Some(true)
+    );
+}
+
+/// Whether the command leaves this of an input, which is a text and more, if there is memory for
+/// it.
+fn joined_is_read(alloc: Global, text: &str, more: &str, left: Left<'_>) -> Option<bool> {
+    let input = format!(in alloc; "{text}{more}").ok()?;
+    Some(is_read(alloc, input.as_bytes(), left))
+}
+
+/// The number of the first input, from 0, of which something else is left.
+fn first_input_otherwise(alloc: Global, rows: &[(&str, &str, Left<'_>)]) -> Option<usize> {
+    for (i, (text, more, left)) in rows.iter().enumerate() {
+        if joined_is_read(alloc, *text, *more, *left) != Some(true) {
+            return Some(i);
+        }
     }
-    let longest = repeated(alloc, "00", 32_768)?;
-    assert_command(&rt, alloc, longest.as_str(), 1, "refused 2 version 0\n", "")?;
-    let longer = repeated(alloc, "00", 32_769)?;
-    assert_command(&rt, alloc, longer.as_str(), 2, "", "hex: not byte pairs\n")
+    None
 }
 
 #[test]
-fn one_line_end_may_follow_the_input(rt: HostRuntime) -> Result<(), Fail> {
-    let alloc = rt.alloc();
-    for (more, status, text, told) in [
-        ("", 0, CREATE_TEXT, ""),
-        ("\n", 0, CREATE_TEXT, ""),
-        ("\n\n", 2, "", "hex: not byte pairs\n"),
-        ("\r\n", 2, "", "hex: not byte pairs\n"),
-        (" ", 2, "", "hex: not byte pairs\n"),
-        ("0000\n", 1, "refused 6 length-field 28\n", ""),
-    ] {
-        let input = format!(in alloc; "{CREATE}{more}")?;
-        assert_input(&rt, alloc, input.as_bytes(), status, text, told)?;
-    }
-    assert_input(&rt, alloc, b"".as_slice(), 1, "refused 1 truncated\n", "")?;
-    assert_input(&rt, alloc, b"\n".as_slice(), 1, "refused 1 truncated\n", "")
+fn one_line_end_may_follow_the_input(rt: HostRuntime) {
+    let rows: [(&str, &str, Left<'_>); 8] = [
+        (CREATE, "", (0, CREATE_TEXT, "")),
+        (CREATE, "\n", (0, CREATE_TEXT, "")),
+        (CREATE, "\n\n", NOT_PAIRS),
+        (CREATE, "\r\n", NOT_PAIRS),
+        (CREATE, " ", NOT_PAIRS),
+        (CREATE, "0000\n", (1, "refused 6 length-field 28\n", "")),
+        ("", "", (1, "refused 1 truncated\n", "")),
+        ("", "\n", (1, "refused 1 truncated\n", "")),
+    ];
+    assert_eq!(rt; first_input_otherwise(rt.alloc(), &rows), None);
+}
+
+/// Whether the command leaves this of the longest input with more after it, and these bytes
+/// unread, if there is memory for it.
+fn longest_is_read(alloc: Global, more: &str, left: Left<'_>, unread: &str) -> Option<bool> {
+    let input = with_zeros(alloc, "", 32_768, more)?;
+    let mut reader = input.as_bytes();
+    Some(is_read(alloc, &mut reader, left) && reader == unread.as_bytes())
 }
 
 #[test]
-fn no_more_than_one_byte_past_the_limit_is_read(rt: HostRuntime) -> Result<(), Fail> {
-    let alloc = rt.alloc();
-    let digits = repeated(alloc, "00", 32_768)?;
-    assert_input(
-        &rt,
-        alloc,
-        digits.as_bytes(),
-        1,
-        "refused 2 version 0\n",
-        "",
-    )?;
-    let line = format!(in alloc; "{digits}\n")?;
-    assert_input(&rt, alloc, line.as_bytes(), 2, "", "hex: not byte pairs\n")?;
-    let more = format!(in alloc; "{digits}\n00")?;
-    let mut reader = more.as_bytes();
-    assert_input(&rt, alloc, &mut reader, 2, "", "hex: not byte pairs\n")?;
-    assert_eq!(rt; reader, b"00".as_slice());
-    Ok(())
+fn no_more_than_one_byte_past_the_limit_is_read(rt: HostRuntime) {
+    let longest = (1, "refused 2 version 0\n", "");
+    assert_eq!(rt; longest_is_read(rt.alloc(), "", longest, ""), Some(true));
+    assert_eq!(rt;
+        longest_is_read(rt.alloc(), "\n", NOT_PAIRS, ""),
+        Some(true)
+    );
+    assert_eq!(rt;
+        longest_is_read(rt.alloc(), "\n00", NOT_PAIRS, "00"),
+        Some(true)
+    );
 }
 
-#[test]
-fn input_comes_in_pieces_and_reads_are_interrupted(rt: HostRuntime) -> Result<(), Fail> {
-    for (most, fails_at) in [(1, 0), (7, 3), (1000, 1), (1000, 2)] {
-        let reader = FailingReader {
-            left: CREATE.as_bytes(),
-            most,
-            calls: 0,
-            fails_at,
-            kind: ErrorKind::Interrupted,
-        };
-        assert_input(&rt, rt.alloc(), reader, 0, CREATE_TEXT, "")?;
-    }
-    Ok(())
-}
-
-#[test]
-fn a_failed_read_is_told_and_nothing_is_out(rt: HostRuntime) -> Result<(), Fail> {
-    for (most, fails_at) in [(10, 1), (10, 2), (1000, 1), (1000, 2)] {
-        let reader = FailingReader {
-            left: CREATE.as_bytes(),
-            most,
-            calls: 0,
-            fails_at,
-            kind: ErrorKind::Other,
-        };
-        assert_input(&rt, rt.alloc(), reader, 2, "", "file: -\n")?;
-    }
-    Ok(())
-}
-
-/// Shows the Comment to a writer that takes so many bytes a call and fails at this call.
-fn comment_to(
-    rt: &impl Abort,
+/// Whether the command leaves this of the Create Entity from a reader that gives so many bytes a
+/// call, and whose call of this number fails so, from 1.
+fn create_is_read(
     alloc: Global,
     most: usize,
     fails_at: u64,
     kind: ErrorKind,
-) -> Result<(u8, String), Fail> {
-    let mut out = FailingWriter {
-        kept: Vec::new(alloc),
+    left: Left<'_>,
+) -> bool {
+    let reader = FailingReader {
+        left: CREATE.as_bytes(),
         most,
         calls: 0,
         fails_at,
         kind,
     };
-    let mut errors = Vec::new(alloc);
-    let status = pdu_command(alloc, COMMENT, &mut out, &mut errors);
-    let told = if status == 0 { "" } else { "output: write\n" };
-    assert_eq!(rt; str::from_utf8(&errors)?, told);
-    Ok((status, String::from_str(alloc, str::from_utf8(&out.kept)?)?))
+    is_read(alloc, reader, left)
 }
 
-/// Holds a failed write of the Comment to leaving so many bytes of its text.
-fn assert_prefix(
-    rt: &impl Abort,
+/// The number of the first such reader, from 0, of which something else is left.
+fn first_reader_otherwise(
+    alloc: Global,
+    readers: &[(usize, u64)],
+    kind: ErrorKind,
+    left: Left<'_>,
+) -> Option<usize> {
+    for (i, (most, fails_at)) in readers.iter().enumerate() {
+        if !create_is_read(alloc, *most, *fails_at, kind, left) {
+            return Some(i);
+        }
+    }
+    None
+}
+
+#[test]
+fn input_comes_in_pieces_and_reads_are_interrupted(rt: HostRuntime) {
+    let readers = [(1, 0), (7, 3), (1000, 1), (1000, 2)];
+    let left = (0, CREATE_TEXT, "");
+    let kind = ErrorKind::Interrupted;
+    assert_eq!(rt;
+        first_reader_otherwise(rt.alloc(), &readers, kind, left),
+        None
+    );
+}
+
+#[test]
+fn a_failed_read_is_told_and_nothing_is_out(rt: HostRuntime) {
+    let readers = [(10, 1), (10, 2), (1000, 1), (1000, 2)];
+    let left = (2, "", "file: -\n");
+    let kind = ErrorKind::Other;
+    assert_eq!(rt;
+        first_reader_otherwise(rt.alloc(), &readers, kind, left),
+        None
+    );
+}
+
+/// Whether so many bytes of the Comment's text are out and the rest is told of, as a status asks
+/// for it.
+fn is_begun(ended: u8, out: &[u8], told: &[u8], status: u8, size: usize) -> bool {
+    let fault = if status == 0 { "" } else { "output: write\n" };
+    ended == status && told == fault.as_bytes() && COMMENT_TEXT.as_bytes().get(..size) == Some(out)
+}
+
+/// Whether a writer that takes so many bytes a call, and whose call of this number fails so, from
+/// 1, gets so many bytes of the Comment's text, with this status.
+fn comment_is_begun(
     alloc: Global,
     most: usize,
     fails_at: u64,
-    left: usize,
-) -> Result<(), Fail> {
-    let (status, text) = comment_to(rt, alloc, most, fails_at, ErrorKind::Other)?;
-    assert_eq!(rt; status, 2);
-    assert_eq!(rt; text.len(), left);
-    assert!(rt; COMMENT_TEXT.starts_with(text.as_str()));
-    Ok(())
+    kind: ErrorKind,
+    status: u8,
+    size: usize,
+) -> bool {
+    let mut out = FailingWriter {
+        kept: Vec::new(alloc),
+        most,
+        calls: 0,
+        fails_at,
+        kind: Some(kind),
+    };
+    let mut told = Vec::new(alloc);
+    let ended = pdu_command(alloc, COMMENT, &mut out, &mut told);
+    is_begun(ended, &out.kept, &told, status, size)
+}
+
+/// The first size that is not what a writer of one byte a call gets, whose next call fails.
+fn first_size_otherwise(alloc: Global) -> Option<usize> {
+    for size in 0..COMMENT_TEXT.len() {
+        if !comment_is_begun(alloc, 1, size as u64 + 1, ErrorKind::Other, 2, size) {
+            return Some(size);
+        }
+    }
+    None
+}
+
+/// The number of the first call, from 0, whose failure leaves a writer of 50 bytes a call another
+/// size.
+fn first_fifties_otherwise(alloc: Global, calls: &[(u64, usize)]) -> Option<usize> {
+    for (i, (fails_at, size)) in calls.iter().enumerate() {
+        if !comment_is_begun(alloc, 50, *fails_at, ErrorKind::Other, 2, *size) {
+            return Some(i);
+        }
+    }
+    None
 }
 
 #[test]
-fn a_failed_write_leaves_a_prefix(rt: HostRuntime) -> Result<(), Fail> {
-    for left in 0..COMMENT_TEXT.len() {
-        assert_prefix(&rt, rt.alloc(), 1, left as u64 + 1, left)?;
+fn a_failed_write_leaves_a_prefix(rt: HostRuntime) {
+    let fifties = [(1, 0), (2, 50), (3, 100)];
+    assert_eq!(rt; first_size_otherwise(rt.alloc()), None);
+    assert_eq!(rt; first_fifties_otherwise(rt.alloc(), &fifties), None);
+}
+
+/// The number of the first writer, from 0, which takes so many bytes a call and is interrupted at
+/// a call, that does not get the whole text.
+fn first_not_whole(alloc: Global, writers: &[(usize, u64)]) -> Option<usize> {
+    let whole = COMMENT_TEXT.len();
+    for (i, (most, fails_at)) in writers.iter().enumerate() {
+        if !comment_is_begun(alloc, *most, *fails_at, ErrorKind::Interrupted, 0, whole) {
+            return Some(i);
+        }
     }
-    for (fails_at, left) in [(1, 0), (2, 50), (3, 100)] {
-        assert_prefix(&rt, rt.alloc(), 50, fails_at, left)?;
-    }
-    Ok(())
+    None
 }
 
 #[test]
-fn a_writer_may_take_parts_or_be_interrupted_but_not_take_nothing(
-    rt: HostRuntime,
-) -> Result<(), Fail> {
-    for (most, fails_at) in [(1, 0), (50, 2), (1000, 1)] {
-        let (status, text) = comment_to(&rt, rt.alloc(), most, fails_at, ErrorKind::Interrupted)?;
-        assert_eq!(rt; status, 0);
-        assert_eq!(rt; text.as_str(), COMMENT_TEXT);
-    }
-    let (status, text) = comment_to(&rt, rt.alloc(), 0, 0, ErrorKind::Other)?;
-    assert_eq!(rt; status, 2);
-    assert_eq!(rt; text.as_str(), "");
-    Ok(())
+fn a_writer_may_take_parts_or_be_interrupted_but_not_take_nothing(rt: HostRuntime) {
+    let writers = [(1, 0), (50, 2), (1000, 1)];
+    assert_eq!(rt; first_not_whole(rt.alloc(), &writers), None);
+    assert!(rt; comment_is_begun(rt.alloc(), 0, 0, ErrorKind::Other, 2, 0));
 }

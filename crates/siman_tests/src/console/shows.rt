@@ -1,15 +1,11 @@
 //! Recordings, shown line by line.
 
-use super::{FailingReader, FailingWriter, assert_left};
+use super::scenes::ONE_STATION;
+use super::{Left, leaves};
+use crate::streams::{FailingReader, FailingWriter};
 use siman_console::show_command;
 use std::alloc::Global;
-use std::io::ErrorKind;
-use std::process::Abort;
-use std::str;
-use std::test::*;
-
-/// Station 2:3 alone, entity 7 stopped, no entries.
-const ONE_STATION: &str = "44535243303030310100010002000300010007010000000000";
+use std::io::{ErrorKind, Read};
 
 /// Stations 1:1 and 2:3, a Create Entity sent and received, its Acknowledge sent, another one with
 /// a flag that answers nothing received, and a state told.
@@ -31,87 +27,93 @@ opening 1 9 running\n\
 3 received 0 stamp=0 other bytes=32\n\
 4 told 1 7 stopped\n";
 
-fn assert_shown(
-    rt: &impl Abort,
-    alloc: Global,
-    recording: &[u8],
-    status: u8,
-    text: &str,
-    told: &str,
-) -> Result<(), Fail> {
-    let mut out = Vec::new(alloc);
-    let mut errors = Vec::new(alloc);
-    let ended = show_command(alloc, recording, &mut out, &mut errors);
-    assert_left(rt, (ended, &out, &errors), status, text, told)
+/// Whether the command leaves this of a recording.
+fn is_shown<R: Read + Drop>(alloc: Global, recording: R, left: Left<'_>) -> bool {
+    let mut text = Vec::new(alloc);
+    let mut told = Vec::new(alloc);
+    let ended = show_command(alloc, recording, &mut text, &mut told);
+    leaves(ended, &text, &told, left)
+}
+
+/// Whether the command leaves this of the recording of five entries, if there is memory for it.
+fn five_are_shown(alloc: Global, left: Left<'_>) -> Option<bool> {
+    let five = hex::decode(alloc, FIVE_ENTRIES).ok()?;
+    Some(is_shown(alloc, five.as_slice(), left))
 }
 
 #[test]
-fn a_recording_is_shown_line_by_line(rt: HostRuntime) -> Result<(), Fail> {
-    let alloc = rt.alloc();
-    let one = hex::decode(alloc, ONE_STATION)?;
+fn a_recording_is_shown_line_by_line(rt: HostRuntime) {
     let text = "exercise=1 stations=1 records=0\nstation 0 2:3\nopening 0 7 stopped\n";
-    assert_shown(&rt, alloc, &one, 0, text, "")?;
-    let five = hex::decode(alloc, FIVE_ENTRIES)?;
-    assert_shown(&rt, alloc, &five, 0, FIVE_ENTRIES_TEXT, "")
+    let five = (0, FIVE_ENTRIES_TEXT, "");
+    assert!(rt; is_shown(rt.alloc(), ONE_STATION.as_slice(), (0, text, "")));
+    assert_eq!(rt; five_are_shown(rt.alloc(), five), Some(true));
 }
 
-#[test]
-fn a_damaged_recording_is_told_by_its_first_fault(rt: HostRuntime) -> Result<(), Fail> {
-    let alloc = rt.alloc();
-    let one = hex::decode(alloc, ONE_STATION)?;
-    assert_eq!(rt; one.len(), 25);
-    assert_shown(
-        &rt,
-        alloc,
-        &one[..24],
-        2,
-        "",
-        "recording: truncated at 24\n",
-    )?;
-    assert_shown(&rt, alloc, &one[..0], 2, "", "recording: truncated at 0\n")?;
-    let mut other = hex::decode(alloc, ONE_STATION)?;
-    other.push(0)?;
-    assert_shown(&rt, alloc, &other, 2, "", "recording: trailing at 25\n")?;
-    assert_shown(&rt, alloc, b"DSRC0002", 2, "", "recording: magic at 0\n")
-}
-
-#[test]
-fn a_recording_that_cannot_be_read_is_told(rt: HostRuntime) -> Result<(), Fail> {
-    let alloc = rt.alloc();
-    let one = hex::decode(alloc, ONE_STATION)?;
-    for fails_at in 1..3 {
-        let reader = FailingReader {
-            left: &one,
-            most: 10,
-            calls: 0,
-            fails_at,
-            kind: ErrorKind::Other,
-        };
-        let mut out = Vec::new(alloc);
-        let mut errors = Vec::new(alloc);
-        let ended = show_command(alloc, reader, &mut out, &mut errors);
-        assert_left(&rt, (ended, &out, &errors), 2, "", "recording: read\n")?;
+/// The number of the first recording, from 0, of which something else is told.
+fn first_told_otherwise(alloc: Global, recordings: &[(&[u8], &str)]) -> Option<usize> {
+    for (i, (recording, told)) in recordings.iter().enumerate() {
+        if !is_shown(alloc, *recording, (2, "", *told)) {
+            return Some(i);
+        }
     }
-    Ok(())
+    None
 }
 
 #[test]
-fn a_show_that_cannot_be_written_leaves_a_prefix(rt: HostRuntime) -> Result<(), Fail> {
-    let alloc = rt.alloc();
-    let five = hex::decode(alloc, FIVE_ENTRIES)?;
-    for fails_at in 1..4 {
-        let mut out = FailingWriter {
-            kept: Vec::new(alloc),
-            most: 20,
-            calls: 0,
-            fails_at,
-            kind: ErrorKind::Other,
-        };
-        let mut errors = Vec::new(alloc);
-        let ended = show_command(alloc, five.as_slice(), &mut out, &mut errors);
-        assert_eq!(rt; ended, 2);
-        assert_eq!(rt; str::from_utf8(&errors)?, "output: write\n");
-        assert!(rt; FIVE_ENTRIES_TEXT.starts_with(str::from_utf8(&out.kept)?));
-    }
-    Ok(())
+fn a_damaged_recording_is_told_by_its_first_fault(rt: HostRuntime) {
+    let mut longer = [0; 26];
+    longer[..25].copy_from_slice(&ONE_STATION);
+    let recordings: [(&[u8], &str); 4] = [
+        (&ONE_STATION[..24], "recording: truncated at 24\n"),
+        (&[], "recording: truncated at 0\n"),
+        (&longer, "recording: trailing at 25\n"),
+        (b"DSRC0002", "recording: magic at 0\n"),
+    ];
+    assert_eq!(rt; first_told_otherwise(rt.alloc(), &recordings), None);
+}
+
+/// Whether it is told that the call of this number to read ten bytes fails, from 1.
+fn unread_is_told(alloc: Global, fails_at: u64) -> bool {
+    let reader = FailingReader {
+        left: &ONE_STATION,
+        most: 10,
+        calls: 0,
+        fails_at,
+        kind: ErrorKind::Other,
+    };
+    is_shown(alloc, reader, (2, "", "recording: read\n"))
+}
+
+#[test]
+fn a_recording_that_cannot_be_read_is_told(rt: HostRuntime) {
+    assert!(rt; unread_is_told(rt.alloc(), 1));
+    assert!(rt; unread_is_told(rt.alloc(), 2));
+}
+
+/// Whether it is told that the call of this number to write 20 bytes of the recording of five
+/// entries fails, from 1, and the start of its text is out, if there is memory for it.
+fn unwritten_is_told(alloc: Global, fails_at: u64) -> Option<bool> {
+    let five = hex::decode(alloc, FIVE_ENTRIES).ok()?;
+    let mut out = FailingWriter {
+        kept: Vec::new(alloc),
+        most: 20,
+        calls: 0,
+        fails_at,
+        kind: Some(ErrorKind::Other),
+    };
+    let mut told = Vec::new(alloc);
+    let ended = show_command(alloc, five.as_slice(), &mut out, &mut told);
+    Some(ended == 2 && told.as_slice() == b"output: write\n".as_slice() && is_start(&out.kept))
+}
+
+/// Whether the text of the recording of five entries starts so.
+fn is_start(text: &[u8]) -> bool {
+    FIVE_ENTRIES_TEXT.as_bytes().starts_with(text)
+}
+
+#[test]
+fn a_show_that_cannot_be_written_leaves_a_prefix(rt: HostRuntime) {
+    assert_eq!(rt; unwritten_is_told(rt.alloc(), 1), Some(true));
+    assert_eq!(rt; unwritten_is_told(rt.alloc(), 2), Some(true));
+    assert_eq!(rt; unwritten_is_told(rt.alloc(), 3), Some(true));
 }

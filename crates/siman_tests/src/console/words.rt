@@ -1,154 +1,177 @@
 //! The words of a command line, and files that cannot be opened.
 
+use super::{Left, leaves};
 use siman_console::{Task, read_words, unopened_file, unread_words, usage_command};
 use std::alloc::Global;
+use std::io;
 use std::io::ErrorKind;
-use std::test::*;
-use std::{io, str};
+
+/// Whether words ask for a task.
+fn is_task(alloc: Global, words: &[&str], task: Task<'_>) -> bool {
+    match read_words(alloc, words) {
+        Ok(read) => read == task,
+        Err(_) => false,
+    }
+}
 
 #[test]
 fn words_ask_for_a_task(rt: HostRuntime) {
     let alloc = rt.alloc();
-    assert!(rt; matches!(read_words(alloc, &["siman"]), Ok(Task::Input)));
-    assert!(rt;
-        matches!(
-            read_words(alloc, &["siman", "pdu", "07"]),
-            Ok(Task::Pdu("07"))
-        )
-    );
-    assert!(rt; matches!(read_words(alloc, &["siman", "pdu", ""]), Ok(Task::Pdu(""))));
-    assert!(rt;
-        matches!(
-            read_words(alloc, &["siman", "show", "a"]),
-            Ok(Task::Show("a"))
-        )
-    );
-    assert!(rt;
-        matches!(
-            read_words(alloc, &["siman", "check", "a", "b"]),
-            Ok(Task::Check("a", "b"))
-        )
-    );
+    assert!(rt; is_task(alloc, &["siman"], Task::Input));
+    assert!(rt; is_task(alloc, &["siman", "pdu", "07"], Task::Pdu("07")));
+    assert!(rt; is_task(alloc, &["siman", "pdu", ""], Task::Pdu("")));
+    assert!(rt; is_task(alloc, &["siman", "show", "a"], Task::Show("a")));
+    assert!(rt; is_task(alloc, &["siman", "check", "a", "b"], Task::Check("a", "b")));
 }
 
-/// What [`usage_command`] leaves of words that ask for no task: status, text, faults.
-fn usage_of(alloc: Global, words: &[&str]) -> Result<(u8, String, String), Fail> {
+/// What goes out and what is told of faults, and the status, where words ask for no task.
+type Usage = (u8, Vec<u8>, Vec<u8>);
+
+/// What [`usage_command`] leaves of words that ask for no task.
+fn usage_of(alloc: Global, words: &[&str]) -> Option<Usage> {
     let mut out = Vec::new(alloc);
     let mut errors = Vec::new(alloc);
     match read_words(alloc, words) {
-        Ok(_) => Err(Fail::from("a task")),
+        Ok(_) => None,
         Err(error) => {
             let status = usage_command(&error, &mut out, &mut errors);
-            let text = String::from_str(alloc, str::from_utf8(&out)?)?;
-            let told = String::from_str(alloc, str::from_utf8(&errors)?)?;
-            Ok((status, text, told))
+            Some((status, out, errors))
         }
     }
 }
 
-#[test]
-fn help_goes_out_with_status_0(rt: HostRuntime) -> Result<(), Fail> {
-    let help =
-        "Shows Simulation Management PDUs of DIS (IEEE 1278.1-2012). With no command, the hex text of a datagram is read from standard input\n\nUsage: siman [COMMAND]\n\nCommands:\n  pdu    Shows the PDU of a datagram\n  show   Shows a recording, a line for each entry\n  check  Checks whether a certificate explains a recording, and reports what it says\n  help   Print this message or the help of the given subcommand(s)\n\nOptions:\n  -h, --help  Print help\n";
-    for words in [
-        ["siman", "--help"].as_slice(),
-        ["siman", "-h"].as_slice(),
-        ["siman", "help"].as_slice(),
-    ] {
-        let (status, text, told) = usage_of(rt.alloc(), words)?;
-        assert_eq!(rt; text.as_str(), help);
-        assert_eq!(rt; told.as_str(), "");
-        assert_eq!(rt; status, 0);
+/// Whether words ask for no task, and this is left.
+fn is_usage(alloc: Global, words: &[&str], left: Left<'_>) -> bool {
+    match usage_of(alloc, words) {
+        Some((status, out, errors)) => leaves(status, &out, &errors, left),
+        None => false,
     }
-    let pdu_help =
-        "Shows the PDU of a datagram\n\nUsage: siman pdu <HEX>\n\nArguments:\n  <HEX>  The bytes of the datagram, as pairs of hex digits\n\nOptions:\n  -h, --help  Print help\n";
-    let (status, text, _told) = usage_of(rt.alloc(), &["siman", "pdu", "--help"])?;
-    assert_eq!(rt; text.as_str(), pdu_help);
-    assert_eq!(rt; status, 0);
-    let check_help =
-        "Checks whether a certificate explains a recording, and reports what it says\n\nUsage: siman check <REC> <CERT>\n\nArguments:\n  <REC>   The file of the recording\n  <CERT>  The file of the certificate\n\nOptions:\n  -h, --help  Print help\n";
-    let (status, text, _told) = usage_of(rt.alloc(), &["siman", "check", "--help"])?;
-    assert_eq!(rt; text.as_str(), check_help);
-    assert_eq!(rt; status, 0);
-    Ok(())
+}
+
+/// The number of the first words, from 0, that are not answered by this help.
+fn first_helped_otherwise(alloc: Global, rows: &[&[&str]], help: &str) -> Option<usize> {
+    for (i, words) in rows.iter().enumerate() {
+        if !is_usage(alloc, words, (0, help, "")) {
+            return Some(i);
+        }
+    }
+    None
 }
 
 #[test]
-fn faults_of_usage_are_told_with_status_2(rt: HostRuntime) -> Result<(), Fail> {
-    for (words, begins) in [
+fn help_goes_out_with_status_0(rt: HostRuntime) {
+    let help =
+        "Shows Simulation Management PDUs of DIS (IEEE 1278.1-2012). With no command, the hex text of a datagram is read from standard input\n\nUsage: siman [COMMAND]\n\nCommands:\n  pdu    Shows the PDU of a datagram\n  show   Shows a recording, a line for each entry\n  check  Checks whether a certificate explains a recording, and reports what it says\n  help   Print this message or the help of the given subcommand(s)\n\nOptions:\n  -h, --help  Print help\n";
+    let rows: [&[&str]; 3] = [&["siman", "--help"], &["siman", "-h"], &["siman", "help"]];
+    assert_eq!(rt; first_helped_otherwise(rt.alloc(), &rows, help), None);
+}
+
+#[test]
+fn help_of_a_command_goes_out_with_status_0(rt: HostRuntime) {
+    let pdu_help =
+        "Shows the PDU of a datagram\n\nUsage: siman pdu <HEX>\n\nArguments:\n  <HEX>  The bytes of the datagram, as pairs of hex digits\n\nOptions:\n  -h, --help  Print help\n";
+    let check_help =
+        "Checks whether a certificate explains a recording, and reports what it says\n\nUsage: siman check <REC> <CERT>\n\nArguments:\n  <REC>   The file of the recording\n  <CERT>  The file of the certificate\n\nOptions:\n  -h, --help  Print help\n";
+    assert!(rt; is_usage(rt.alloc(), &["siman", "pdu", "--help"], (0, pdu_help, "")));
+    assert!(rt;
+        is_usage(
+            rt.alloc(),
+            &["siman", "check", "--help"],
+            (0, check_help, "")
+        )
+    );
+}
+
+/// Whether words ask for no task, and this begins what is told of that.
+fn is_misused(alloc: Global, words: &[&str], begins: &str) -> bool {
+    match usage_of(alloc, words) {
+        Some((status, out, errors)) => {
+            status == 2 && out.is_empty() && errors.starts_with(begins.as_bytes())
+        }
+        None => false,
+    }
+}
+
+/// The number of the first words, from 0, of which something else is told.
+fn first_misused_otherwise(alloc: Global, rows: &[(&[&str], &str)]) -> Option<usize> {
+    for (i, (words, begins)) in rows.iter().enumerate() {
+        if !is_misused(alloc, words, *begins) {
+            return Some(i);
+        }
+    }
+    None
+}
+
+#[test]
+fn faults_of_usage_are_told_with_status_2(rt: HostRuntime) {
+    let rows: [(&[&str], &str); 6] = [
         (
-            ["siman", "pdu"].as_slice(),
+            &["siman", "pdu"],
             "error: the following required arguments were not provided:\n  <HEX>\n\nUsage: siman pdu <HEX>\n",
         ),
         (
-            ["siman", "nothing"].as_slice(),
+            &["siman", "nothing"],
             "error: unrecognized subcommand 'nothing'\n\nUsage: siman [COMMAND]\n",
         ),
+        (&["siman", ""], "error: unrecognized subcommand ''\n"),
         (
-            ["siman", ""].as_slice(),
-            "error: unrecognized subcommand ''\n",
-        ),
-        (
-            ["siman", "check", "a"].as_slice(),
+            &["siman", "check", "a"],
             "error: the following required arguments were not provided:\n  <CERT>\n\nUsage: siman check <REC> <CERT>\n",
         ),
         (
-            ["siman", "pdu", "07", "01"].as_slice(),
+            &["siman", "pdu", "07", "01"],
             "error: unexpected argument '01' found\n\nUsage: siman pdu <HEX>\n",
         ),
         (
-            ["siman", "--pdu"].as_slice(),
+            &["siman", "--pdu"],
             "error: unexpected argument '--pdu' found\n",
         ),
-    ] {
-        let (status, text, told) = usage_of(rt.alloc(), words)?;
-        assert_eq!(rt; status, 2);
-        assert_eq!(rt; text.as_str(), "");
-        assert!(rt; told.starts_with(begins), "{told}");
-    }
-    Ok(())
+    ];
+    assert_eq!(rt; first_misused_otherwise(rt.alloc(), &rows), None);
 }
 
-#[test]
-fn help_that_cannot_be_written_is_told(rt: HostRuntime) -> Result<(), Fail> {
-    let alloc = rt.alloc();
+/// Whether help that has no room is told of.
+fn help_without_room_is_told(alloc: Global) -> bool {
     let mut errors = Vec::new(alloc);
     let mut full: &mut [u8] = &mut [0u8; 5];
     match read_words(alloc, &["siman", "--help"]) {
-        Ok(_) => return Err(Fail::from("a task")),
+        Ok(_) => false,
         Err(error) => {
-            assert_eq!(rt; usage_command(&error, &mut full, &mut errors), 2);
+            usage_command(&error, &mut full, &mut errors) == 2
+                && errors.as_slice() == b"output: write\n".as_slice()
         }
     }
-    assert_eq!(rt; str::from_utf8(&errors)?, "output: write\n");
-    Ok(())
 }
 
 #[test]
-fn words_that_cannot_be_had_are_told(rt: HostRuntime) -> Result<(), Fail> {
-    for (kind, status, told) in [
-        (ErrorKind::OutOfMemory, 3, "memory\n"),
-        (ErrorKind::InvalidData, 2, "words: not UTF-8\n"),
-    ] {
-        let mut errors = Vec::new(rt.alloc());
-        assert_eq!(rt; unread_words(&io::Error::from(kind), &mut errors), status);
-        assert_eq!(rt; str::from_utf8(&errors)?, told);
-    }
-    Ok(())
+fn help_that_cannot_be_written_is_told(rt: HostRuntime) {
+    assert!(rt; help_without_room_is_told(rt.alloc()));
+}
+
+/// Whether this is left of words that cannot be had.
+fn words_are_unread(alloc: Global, kind: ErrorKind, status: u8, told: &str) -> bool {
+    let mut errors = Vec::new(alloc);
+    let ended = unread_words(&io::Error::from(kind), &mut errors);
+    leaves(ended, b"", &errors, (status, "", told))
 }
 
 #[test]
-fn a_file_that_cannot_be_opened_is_told(rt: HostRuntime) -> Result<(), Fail> {
-    for (kind, status, told) in [
-        (ErrorKind::OutOfMemory, 3, "memory\n"),
-        (ErrorKind::NotFound, 2, "file: logs/a.dsrc\n"),
-    ] {
-        let mut errors = Vec::new(rt.alloc());
-        assert_eq!(rt;
-            unopened_file("logs/a.dsrc", &io::Error::from(kind), &mut errors),
-            status
-        );
-        assert_eq!(rt; str::from_utf8(&errors)?, told);
-    }
-    Ok(())
+fn words_that_cannot_be_had_are_told(rt: HostRuntime) {
+    let not_text = "words: not UTF-8\n";
+    assert!(rt; words_are_unread(rt.alloc(), ErrorKind::OutOfMemory, 3, "memory\n"));
+    assert!(rt; words_are_unread(rt.alloc(), ErrorKind::InvalidData, 2, not_text));
+}
+
+/// Whether this is left of a file that cannot be opened.
+fn file_is_unopened(alloc: Global, kind: ErrorKind, status: u8, told: &str) -> bool {
+    let mut errors = Vec::new(alloc);
+    let ended = unopened_file("logs/a.dsrc", &io::Error::from(kind), &mut errors);
+    leaves(ended, b"", &errors, (status, "", told))
+}
+
+#[test]
+fn a_file_that_cannot_be_opened_is_told(rt: HostRuntime) {
+    let not_found = "file: logs/a.dsrc\n";
+    assert!(rt; file_is_unopened(rt.alloc(), ErrorKind::OutOfMemory, 3, "memory\n"));
+    assert!(rt; file_is_unopened(rt.alloc(), ErrorKind::NotFound, 2, not_found));
 }

@@ -1,6 +1,8 @@
 //! One datagram of each kind, with its bytes written field by field from the layouts.
 
-use super::*;
+use dis_records::{ClockTime, EntityId, FixedDatum, VariableDatum, Version};
+use siman_pdus::*;
+use std::alloc::Global;
 
 const CREATE_ENTITY: [u8; 28] = [
     7, 1, 0x0B, 5, 0, 0, 0, 0, 0, 0x1C, 0, 0, 0, 1, 0, 1, 0, 0, 0, 2, 0, 3, 0, 7, 0, 0, 0, 1,
@@ -64,206 +66,242 @@ const COMMENT: [u8; 40] = [
     0, 0, 0, 0, 0, 1, 0, 0, 0, 2,
 ];
 
-/// What is read says this, equals its copy, and is written as the bytes that it was read from.
-fn read_again(rt: &impl Abort, alloc: Global, bytes: &[u8], body: &Body) -> Result<(), Fail> {
-    let pdu = decode(alloc, bytes)?;
-    assert!(rt; pdu.body == *body);
-    assert!(rt; same_pdu(&pdu.copy(alloc)?, &pdu));
-    let mut out = Vec::new(alloc);
-    encode(&pdu, &mut out)?;
-    assert_eq!(rt; out.as_slice(), bytes);
-    Ok(())
+/// Fixed datums by identifier and value, and variable ones by identifier, bits and bytes.
+type Lists<'a> = (&'a [(u32, u32)], &'a [(u32, u32, &'a [u8])]);
+
+/// What a body says, field by field.
+#[derive(Clone, Copy)]
+enum Says<'a> {
+    CreateEntity(u32),
+    RemoveEntity(u32),
+    StartResume(ClockTime, ClockTime, u32),
+    StopFreeze(ClockTime, u8, u8, u32),
+    Acknowledge(u16, u16, u32),
+    ActionRequest(u32, u32, Lists<'a>),
+    ActionResponse(u32, u32, Lists<'a>),
+    DataQuery(u32, u32, &'a [u32], &'a [u32]),
+    SetData(u32, Lists<'a>),
+    DataPdu(u32, Lists<'a>),
+    EventReport(u32, Lists<'a>),
+    Comment(Lists<'a>),
 }
 
-fn fixed_datums(alloc: Global, pairs: &[(u32, u32)]) -> Result<Vec<FixedDatum>, Fail> {
-    let mut datums = Vec::new(alloc);
-    for (id, value) in pairs {
-        datums.push(FixedDatum {
+/// A variable datum, if it may be built.
+fn variable(alloc: Global, id: u32, bits: u32, bytes: &[u8]) -> Option<VariableDatum> {
+    VariableDatum::new(id, bits, Vec::from_slice(alloc, bytes).ok()?).ok()
+}
+
+/// These datums, if they may be built.
+fn datums(alloc: Global, lists: Lists<'_>) -> Option<Datums> {
+    let mut all = Datums {
+        fixed: Vec::new(alloc),
+        variable: Vec::new(alloc),
+    };
+    for (id, value) in lists.0 {
+        let datum = FixedDatum {
             id: *id,
             value: *value,
-        })?;
+        };
+        all.fixed.push(datum).ok()?;
     }
-    Ok(datums)
+    for (id, bits, bytes) in lists.1 {
+        all.variable.push(variable(alloc, *id, *bits, bytes)?).ok()?;
+    }
+    Some(all)
 }
 
-fn variable_datum(alloc: Global, id: u32, bits: u32, bytes: &[u8]) -> Result<VariableDatum, Fail> {
-    let bytes = Vec::from_slice(alloc, bytes)?;
-    Ok(VariableDatum::new(id, bits, bytes).ok().ok_or("a datum")?)
-}
-
-fn only_fixed(alloc: Global, pairs: &[(u32, u32)]) -> Result<Datums, Fail> {
-    let fixed = fixed_datums(alloc, pairs)?;
-    Ok(Datums {
-        fixed,
-        variable: Vec::new(alloc),
+/// These identifiers of datums, if there is memory for them.
+fn ids(alloc: Global, fixed: &[u32], variable: &[u32]) -> Option<DatumIds> {
+    Some(DatumIds {
+        fixed: Vec::from_slice(alloc, fixed).ok()?,
+        variable: Vec::from_slice(alloc, variable).ok()?,
     })
 }
 
-#[test]
-fn the_fields_of_a_pdu(rt: HostRuntime) -> Result<(), Fail> {
-    let pdu = decode(rt.alloc(), &COMMENT)?;
-    assert_eq!(rt;
+/// The body that says this, if it may be built.
+fn body(alloc: Global, says: Says<'_>) -> Option<Body> {
+    Some(match says {
+        Says::CreateEntity(request) => Body::CreateEntity { request },
+        Says::RemoveEntity(request) => Body::RemoveEntity { request },
+        Says::StartResume(real, sim, request) => Body::StartResume { real, sim, request },
+        Says::StopFreeze(real, reason, behaviour, request) => Body::StopFreeze {
+            real,
+            reason,
+            behaviour,
+            request,
+        },
+        Says::Acknowledge(flag, response, request) => Body::Acknowledge {
+            flag,
+            response,
+            request,
+        },
+        Says::DataQuery(request, interval, fixed, variable) => Body::DataQuery {
+            request,
+            interval,
+            ids: ids(alloc, fixed, variable)?,
+        },
+        Says::ActionRequest(_, _, lists)
+        | Says::ActionResponse(_, _, lists)
+        | Says::SetData(_, lists)
+        | Says::DataPdu(_, lists)
+        | Says::EventReport(_, lists)
+        | Says::Comment(lists) => with_datums(says, datums(alloc, lists)?)?,
+    })
+}
+
+/// The body of a kind with datums, with these.
+fn with_datums(says: Says<'_>, datums: Datums) -> Option<Body> {
+    Some(match says {
+        Says::ActionRequest(request, action, _) => Body::ActionRequest {
+            request,
+            action,
+            datums,
+        },
+        Says::ActionResponse(request, result, _) => Body::ActionResponse {
+            request,
+            result,
+            datums,
+        },
+        Says::SetData(request, _) => Body::SetData { request, datums },
+        Says::DataPdu(request, _) => Body::DataPdu { request, datums },
+        Says::EventReport(event, _) => Body::EventReport { event, datums },
+        Says::Comment(_) => Body::Comment { datums },
+        _ => return None,
+    })
+}
+
+/// Whether a PDU says this, if it may be built.
+fn is_said(alloc: Global, pdu: &Pdu, says: Says<'_>) -> Option<bool> {
+    Some(pdu.body == body(alloc, says)?)
+}
+
+/// Whether a PDU has an equal copy.
+fn is_copied(alloc: Global, pdu: &Pdu) -> bool {
+    match pdu.copy(alloc) {
+        Ok(copy) => same_pdu(&copy, pdu),
+        Err(_) => false,
+    }
+}
+
+/// Whether a PDU is written as these bytes.
+fn is_written(alloc: Global, pdu: &Pdu, bytes: &[u8]) -> bool {
+    let mut out = Vec::new(alloc);
+    encode(pdu, &mut out).is_ok() && out.as_slice() == bytes
+}
+
+/// Whether what is read says this, equals its copy, and is written as the bytes that it was read
+/// from.
+fn is_read_again(alloc: Global, bytes: &[u8], says: Says<'_>) -> bool {
+    match decode(alloc, bytes) {
+        Ok(pdu) => {
+            is_said(alloc, &pdu, says) == Some(true)
+                && is_copied(alloc, &pdu)
+                && is_written(alloc, &pdu, bytes)
+        }
+        Err(_) => false,
+    }
+}
+
+/// The number of the first datagram, from 0, that says something else, or is copied or written
+/// otherwise.
+fn first_otherwise(alloc: Global, rows: &[(&[u8], Says<'_>)]) -> Option<usize> {
+    for (i, (bytes, says)) in rows.iter().enumerate() {
+        if !is_read_again(alloc, bytes, *says) {
+            return Some(i);
+        }
+    }
+    None
+}
+
+/// Version, exercise, stamp and status of a PDU, its origin and its target, and its size.
+type Fields = ((Version, u8, u32, u8), EntityId, EntityId, Option<u16>);
+
+/// The fields of the PDU of a datagram, if it is one.
+fn fields(alloc: Global, bytes: &[u8]) -> Option<Fields> {
+    let pdu = decode(alloc, bytes).ok()?;
+    Some((
         (pdu.version, pdu.exercise, pdu.stamp, pdu.status),
-        (Version::V7, 1, 0x0102_0304, 3)
-    );
-    assert_eq!(rt;
         pdu.origin,
-        EntityId {
-            site: 2,
-            application: 3,
-            entity: 7
-        }
-    );
-    assert_eq!(rt;
         pdu.target,
-        EntityId {
-            site: 1,
-            application: 1,
-            entity: 0
-        }
-    );
-    assert_eq!(rt; encoded_size(&pdu), Some(40));
-    Ok(())
+        encoded_size(&pdu),
+    ))
 }
 
 #[test]
-fn entities_are_created_and_removed(rt: HostRuntime) -> Result<(), Fail> {
-    let alloc = rt.alloc();
-    read_again(
-        &rt,
-        alloc,
-        &CREATE_ENTITY,
-        &Body::CreateEntity { request: 1 },
-    )?;
-    read_again(
-        &rt,
-        alloc,
-        &REMOVE_ENTITY,
-        &Body::RemoveEntity { request: 2 },
-    )
+fn the_fields_of_a_pdu(rt: HostRuntime) {
+    let origin = EntityId {
+        site: 2,
+        application: 3,
+        entity: 7,
+    };
+    let target = EntityId {
+        site: 1,
+        application: 1,
+        entity: 0,
+    };
+    let head = (Version::V7, 1, 0x0102_0304, 3);
+    let expected: Option<Fields> = Some((head, origin, target, Some(40)));
+    assert!(rt; fields(rt.alloc(), &COMMENT) == expected);
 }
 
 #[test]
-fn entities_are_started_and_stopped(rt: HostRuntime) -> Result<(), Fail> {
-    let alloc = rt.alloc();
+fn entities_are_created_and_removed(rt: HostRuntime) {
+    let rows: [(&[u8], Says<'_>); 2] = [
+        (&CREATE_ENTITY, Says::CreateEntity(1)),
+        (&REMOVE_ENTITY, Says::RemoveEntity(2)),
+    ];
+    assert_eq!(rt; first_otherwise(rt.alloc(), &rows), None);
+}
+
+#[test]
+fn entities_are_started_and_stopped(rt: HostRuntime) {
     let real = ClockTime {
         hour: 0x0001_0203,
         past: 0x8000_0001,
     };
     let sim = ClockTime { hour: 4, past: 5 };
-    read_again(
-        &rt,
-        alloc,
-        &START_RESUME,
-        &Body::StartResume {
-            real,
-            sim,
-            request: 3,
-        },
-    )?;
-    let real = ClockTime { hour: 6, past: 7 };
-    read_again(
-        &rt,
-        alloc,
-        &STOP_FREEZE,
-        &Body::StopFreeze {
-            real,
-            reason: 2,
-            behaviour: 9,
-            request: 4,
-        },
-    )?;
-    read_again(
-        &rt,
-        alloc,
-        &ACKNOWLEDGE,
-        &Body::Acknowledge {
-            flag: 3,
-            response: 1,
-            request: 0xFFFF_FFFF,
-        },
-    )
+    let stopped = ClockTime { hour: 6, past: 7 };
+    let rows: [(&[u8], Says<'_>); 3] = [
+        (&START_RESUME, Says::StartResume(real, sim, 3)),
+        (&STOP_FREEZE, Says::StopFreeze(stopped, 2, 9, 4)),
+        (&ACKNOWLEDGE, Says::Acknowledge(3, 1, 0xFFFF_FFFF)),
+    ];
+    assert_eq!(rt; first_otherwise(rt.alloc(), &rows), None);
 }
 
 #[test]
-fn an_action_is_requested(rt: HostRuntime) -> Result<(), Fail> {
-    let alloc = rt.alloc();
-    let mut datums = only_fixed(alloc, &[(10, 5), (11, 0xFFFF_FFFE)])?;
-    datums
-        .variable
-        .push(variable_datum(alloc, 5, 40, b"HELLO")?)?;
-    datums.variable.push(variable_datum(alloc, 6, 0, b"")?)?;
-    datums
-        .variable
-        .push(variable_datum(alloc, 7, 12, b"\xAB\xC0")?)?;
-    read_again(
-        &rt,
-        alloc,
-        &ACTION_REQUEST,
-        &Body::ActionRequest {
-            request: 5,
-            action: 77,
-            datums,
-        },
-    )
+fn actions_are_requested_and_answered(rt: HostRuntime) {
+    let requested: Lists<'_> = (
+        &[(10, 5), (11, 0xFFFF_FFFE)],
+        &[(5, 40, b"HELLO"), (6, 0, b""), (7, 12, b"\xAB\xC0")],
+    );
+    let answered: Lists<'_> = (&[], &[(8, 65, b"\x01\x02\x03\x04\x05\x06\x07\x08\x80")]);
+    let rows: [(&[u8], Says<'_>); 2] = [
+        (&ACTION_REQUEST, Says::ActionRequest(5, 77, requested)),
+        (&ACTION_RESPONSE, Says::ActionResponse(5, 4, answered)),
+    ];
+    assert_eq!(rt; first_otherwise(rt.alloc(), &rows), None);
 }
 
 #[test]
-fn an_action_is_answered(rt: HostRuntime) -> Result<(), Fail> {
-    let alloc = rt.alloc();
-    let mut datums = only_fixed(alloc, &[])?;
-    datums.variable.push(variable_datum(alloc, 8, 65, b"\x01\x02\x03\x04\x05\x06\x07\x08\x80")?)?;
-    read_again(
-        &rt,
-        alloc,
-        &ACTION_RESPONSE,
-        &Body::ActionResponse {
-            request: 5,
-            result: 4,
-            datums,
-        },
-    )
+fn data_is_asked_for_set_and_told(rt: HostRuntime) {
+    let set: Lists<'_> = (&[(10, 9)], &[]);
+    let told: Lists<'_> = (&[(10, 9)], &[(5, 8, b"A")]);
+    let rows: [(&[u8], Says<'_>); 3] = [
+        (&DATA_QUERY, Says::DataQuery(6, 60, &[10, 12], &[5])),
+        (&SET_DATA, Says::SetData(7, set)),
+        (&DATA, Says::DataPdu(6, told)),
+    ];
+    assert_eq!(rt; first_otherwise(rt.alloc(), &rows), None);
 }
 
 #[test]
-fn data_is_asked_for(rt: HostRuntime) -> Result<(), Fail> {
-    let alloc = rt.alloc();
-    let ids = DatumIds {
-        fixed: Vec::from_slice(alloc, &[10, 12])?,
-        variable: Vec::from_slice(alloc, &[5])?,
-    };
-    read_again(
-        &rt,
-        alloc,
-        &DATA_QUERY,
-        &Body::DataQuery {
-            request: 6,
-            interval: 60,
-            ids,
-        },
-    )
-}
-
-#[test]
-fn data_is_set_and_told(rt: HostRuntime) -> Result<(), Fail> {
-    let alloc = rt.alloc();
-    let datums = only_fixed(alloc, &[(10, 9)])?;
-    read_again(&rt, alloc, &SET_DATA, &Body::SetData { request: 7, datums })?;
-    let mut datums = only_fixed(alloc, &[(10, 9)])?;
-    datums.variable.push(variable_datum(alloc, 5, 8, b"A")?)?;
-    read_again(&rt, alloc, &DATA, &Body::DataPdu { request: 6, datums })
-}
-
-#[test]
-fn notices_are_told(rt: HostRuntime) -> Result<(), Fail> {
-    let alloc = rt.alloc();
-    let datums = only_fixed(alloc, &[])?;
-    read_again(
-        &rt,
-        alloc,
-        &EVENT_REPORT,
-        &Body::EventReport { event: 3, datums },
-    )?;
-    let datums = only_fixed(alloc, &[(1, 2)])?;
-    read_again(&rt, alloc, &COMMENT, &Body::Comment { datums })
+fn notices_are_told(rt: HostRuntime) {
+    let none: Lists<'_> = (&[], &[]);
+    let one: Lists<'_> = (&[(1, 2)], &[]);
+    let rows: [(&[u8], Says<'_>); 2] = [
+        (&EVENT_REPORT, Says::EventReport(3, none)),
+        (&COMMENT, Says::Comment(one)),
+    ];
+    assert_eq!(rt; first_otherwise(rt.alloc(), &rows), None);
 }

@@ -4,7 +4,6 @@ use dis_records::{Address, EntityState};
 use exercise_check::{Certificate, CheckFault, Checked, Step, check};
 use exercise_model::{Cause, ExerciseLog, LogEntry, Recording, Station};
 use std::alloc::Global;
-use std::test::Fail;
 
 /// What happened at a station of an index.
 #[derive(Clone, Copy)]
@@ -38,29 +37,36 @@ pub(crate) enum Said<'a> {
 /// The places and links of a certificate's steps.
 pub(crate) type Steps<'a> = &'a [(u32, u32)];
 
-/// The stations 1:1, 2:3 and 2:4, as many as these, with the entities that they open with.
-fn stations(alloc: Global, openings: &[Entities<'_>]) -> Result<Vec<Station>, Fail> {
-    let mut stations = Vec::new(alloc);
-    for (opening, (site, application)) in openings.iter().zip([(1, 1), (2, 3), (2, 4)]) {
-        let address = Address::new(site, application).ok_or("an address")?;
-        let opening = Vec::from_slice(alloc, opening)?;
-        stations.push(Station::new(address, opening).ok_or("an opening")?)?;
-    }
-    Ok(stations)
+/// The station with an address, which opens with these entities, if there is memory for it.
+fn station(alloc: Global, site: u16, application: u16, opening: Entities<'_>) -> Option<Station> {
+    let opening = Vec::from_slice(alloc, opening).ok()?;
+    Station::new(Address::new(site, application)?, opening)
 }
 
-/// An entry that says what was done.
-fn entry(alloc: Global, done: &Done<'_>) -> Result<LogEntry, Fail> {
-    Ok(match *done {
+/// The stations 1:1, 2:3 and 2:4, as many as these, with the entities that they open with, if there
+/// is memory for them.
+fn stations(alloc: Global, openings: &[Entities<'_>]) -> Option<Vec<Station>> {
+    let mut stations = Vec::new(alloc);
+    for (opening, (site, application)) in openings.iter().zip([(1, 1), (2, 3), (2, 4)]) {
+        stations
+            .push(station(alloc, site, application, opening)?)
+            .ok()?;
+    }
+    Some(stations)
+}
+
+/// An entry that says what was done, if there is memory for it.
+fn entry(alloc: Global, done: &Done<'_>) -> Option<LogEntry> {
+    Some(match *done {
         Done::Sent(station, bytes) => LogEntry::Sent {
             station,
             stamp: 0,
-            bytes: Vec::from_slice(alloc, bytes)?,
+            bytes: Vec::from_slice(alloc, bytes).ok()?,
         },
         Done::Received(station, bytes) => LogEntry::Received {
             station,
             stamp: 0,
-            bytes: Vec::from_slice(alloc, bytes)?,
+            bytes: Vec::from_slice(alloc, bytes).ok()?,
         },
         Done::Told(station, entity, state) => LogEntry::Told {
             station,
@@ -70,31 +76,27 @@ fn entry(alloc: Global, done: &Done<'_>) -> Result<LogEntry, Fail> {
     })
 }
 
-/// The recording of what stations with these openings did, in the order of the file.
-fn recorded(
-    alloc: Global,
-    openings: &[Entities<'_>],
-    done: &[Done<'_>],
-) -> Result<Recording, Fail> {
-    let mut recording = Recording::start(alloc, 1, stations(alloc, openings)?)?;
+/// The recording of what stations with these openings did, in the order of the file, if it may be
+/// built.
+fn recorded(alloc: Global, openings: &[Entities<'_>], done: &[Done<'_>]) -> Option<Recording> {
+    let mut recording = Recording::start(alloc, 1, stations(alloc, openings)?).ok()?;
     for done in done {
-        recording.push(entry(alloc, done)?)?;
+        recording.push(entry(alloc, done)?).ok()?;
     }
-    Ok(recording)
+    Some(recording)
 }
 
-/// The certificate of these steps.
-fn certificate(alloc: Global, steps: Steps<'_>) -> Result<Certificate, Fail> {
-    let mut certificate = Certificate {
-        steps: Vec::new(alloc),
-    };
+/// The certificate of these steps, if there is memory for it.
+fn certificate(alloc: Global, steps: Steps<'_>) -> Option<Certificate> {
+    let mut all = Vec::new(alloc);
     for (place, link) in steps {
-        certificate.steps.push(Step {
+        all.push(Step {
             place: *place,
             link: *link,
-        })?;
+        })
+        .ok()?;
     }
-    Ok(certificate)
+    Some(Certificate { steps: all })
 }
 
 /// What a table says of an entry.
@@ -127,36 +129,76 @@ fn is_account(checked: &Checked, entries: usize, account: &Account<'_>) -> bool 
     same && are_entities(checked, account.entities)
 }
 
-/// Whether this is said of a certificate of these steps.
+/// Whether this is said of a certificate.
 fn is_said(
     alloc: Global,
     recording: &Recording,
-    steps: Steps<'_>,
+    certificate: &Certificate,
     said: &Said<'_>,
-) -> Result<bool, Fail> {
-    let certificate = certificate(alloc, steps)?;
-    Ok(match (check(alloc, recording, &certificate), said) {
+) -> bool {
+    match (check(alloc, recording, certificate), said) {
         (Ok(checked), Said::Yes(account)) => {
             is_account(&checked, recording.entry_count(), account)
         }
         (Err(CheckFault::Bad { step, cause }), Said::No(at, why)) => step == *at && cause == *why,
         _ => false,
-    })
+    }
+}
+
+/// Whether this is said of a certificate of these steps, if there is memory for it.
+fn steps_are_said(
+    alloc: Global,
+    recording: &Recording,
+    steps: Steps<'_>,
+    said: &Said<'_>,
+) -> Option<bool> {
+    let certificate = certificate(alloc, steps)?;
+    Some(is_said(alloc, recording, &certificate, said))
+}
+
+/// Of certificates for a recording: the number of the first, from 0, of which something else is
+/// said.
+fn first_said_otherwise(
+    alloc: Global,
+    recording: &Recording,
+    certificates: &[(Steps<'_>, Said<'_>)],
+) -> Option<usize> {
+    for (i, (steps, said)) in certificates.iter().enumerate() {
+        if steps_are_said(alloc, recording, steps, said) != Some(true) {
+            return Some(i);
+        }
+    }
+    None
 }
 
 /// Of certificates for what stations with these openings did: the number of the first, from 0, of
-/// which something else is said, if there is one.
+/// which something else is said; 0 where nothing may be recorded.
 pub(crate) fn first_otherwise(
     alloc: Global,
     openings: &[Entities<'_>],
     done: &[Done<'_>],
     certificates: &[(Steps<'_>, Said<'_>)],
-) -> Result<Option<usize>, Fail> {
-    let recording = recorded(alloc, openings, done)?;
-    for (i, (steps, said)) in certificates.iter().enumerate() {
-        if !is_said(alloc, &recording, steps, said)? {
-            return Ok(Some(i));
+) -> Option<usize> {
+    match recorded(alloc, openings, done) {
+        Some(recording) => first_said_otherwise(alloc, &recording, certificates),
+        None => Some(0),
+    }
+}
+
+/// What was done, the steps of a certificate for it, and what is said of that.
+pub(crate) type Scene<'a> = (&'a [Done<'a>], Steps<'a>, Said<'a>);
+
+/// Of scenes of stations with these openings: the number of the first, from 0, of whose certificate
+/// something else is said.
+pub(crate) fn first_scene_otherwise(
+    alloc: Global,
+    openings: &[Entities<'_>],
+    scenes: &[Scene<'_>],
+) -> Option<usize> {
+    for (i, (done, steps, said)) in scenes.iter().enumerate() {
+        if first_otherwise(alloc, openings, done, &[(*steps, *said)]).is_some() {
+            return Some(i);
         }
     }
-    Ok(None)
+    None
 }

@@ -1,9 +1,9 @@
 //! The search at work, with literal datagrams and certificates.
 
-use crate::tests::Done::{Received, Sent, Told};
-use crate::tests::Found::{Blocks, Steps};
-use crate::{Audit, Block, audit};
+use self::Done::{Received, Sent, Told};
+use self::Found::{Blocks, Steps};
 use dis_records::{Address, EntityState};
+use exercise_audit::{Audit, Block, audit};
 use exercise_check::{NO_LINK, Step, check};
 use exercise_model::{Cause, LogEntry, Recording, Station};
 use std::alloc::Global;

@@ -20,8 +20,6 @@ mod number;
 mod outfit;
 mod records;
 mod taking;
-#[cfg(test)]
-mod tests;
 
 pub use application::Application;
 pub use fault::AppFault;

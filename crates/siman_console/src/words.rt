@@ -112,8 +112,7 @@ fn check_task<S: AsStr>(words: &[S]) -> Option<Task<'_>>
 {
     match words {
         [recording, certificate]
-            if !is_option(recording.as_str()) && !is_option(certificate.as_str()) =>
-        {
+            if !is_option(recording.as_str()) && !is_option(certificate.as_str()) => {
             Some(Task::Check(recording.as_str(), certificate.as_str()))
         }
         _ => None,

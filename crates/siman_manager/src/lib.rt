@@ -15,8 +15,6 @@ mod manager;
 mod order;
 mod settings;
 mod settling;
-#[cfg(test)]
-mod tests;
 mod walk;
 
 pub use fault::OrderFault;

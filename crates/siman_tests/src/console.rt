@@ -2,6 +2,7 @@
 
 mod files;
 mod pdus;
+mod program;
 mod reports;
 mod scenes;
 mod shows;

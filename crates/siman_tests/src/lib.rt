@@ -4,11 +4,15 @@
 #![tactic(auto)]
 
 #[cfg(test)]
+mod applications;
+#[cfg(test)]
 mod certificates;
 #[cfg(test)]
 mod console;
 #[cfg(test)]
 mod datagrams;
+#[cfg(test)]
+mod managers;
 #[cfg(test)]
 mod pdus;
 #[cfg(test)]

@@ -1,10 +1,8 @@
-//! The words of a command line, and files that cannot be opened.
+//! The words of a command line.
 
 use super::{Left, leaves};
-use siman_console::{Task, read_words, unopened_file, unread_words, usage_command};
+use siman_console::{Task, read_words, usage_command};
 use std::alloc::Global;
-use std::io;
-use std::io::ErrorKind;
 
 /// Whether words ask for a task.
 fn is_task(alloc: Global, words: &[&str], task: Task<'_>) -> bool {
@@ -21,6 +19,7 @@ fn words_ask_for_a_task(rt: HostRuntime) {
     assert!(rt; is_task(alloc, &["siman", "pdu", "07"], Task::Pdu("07")));
     assert!(rt; is_task(alloc, &["siman", "pdu", ""], Task::Pdu("")));
     assert!(rt; is_task(alloc, &["siman", "show", "a"], Task::Show("a")));
+    assert!(rt; is_task(alloc, &["siman", "show", "-"], Task::Show("-")));
     assert!(rt; is_task(alloc, &["siman", "check", "a", "b"], Task::Check("a", "b")));
 }
 
@@ -104,7 +103,7 @@ fn first_misused_otherwise(alloc: Global, rows: &[(&[&str], &str)]) -> Option<us
 
 #[test]
 fn faults_of_usage_are_told_with_status_2(rt: HostRuntime) {
-    let rows: [(&[&str], &str); 6] = [
+    let rows: [(&[&str], &str); 10] = [
         (
             &["siman", "pdu"],
             "error: the following required arguments were not provided:\n  <HEX>\n\nUsage: siman pdu <HEX>\n",
@@ -121,6 +120,22 @@ fn faults_of_usage_are_told_with_status_2(rt: HostRuntime) {
         (
             &["siman", "pdu", "07", "01"],
             "error: unexpected argument '01' found\n\nUsage: siman pdu <HEX>\n",
+        ),
+        (
+            &["siman", "show"],
+            "error: the following required arguments were not provided:\n  <REC>\n\nUsage: siman show <REC>\n",
+        ),
+        (
+            &["siman", "pdu", "--", "07"],
+            "error: unexpected argument '--' found\n",
+        ),
+        (
+            &["siman", "show", "-a"],
+            "error: unexpected argument '-a' found\n",
+        ),
+        (
+            &["siman", "Show", "a"],
+            "error: unrecognized subcommand 'Show'\n",
         ),
         (
             &["siman", "--pdu"],
@@ -146,32 +161,4 @@ fn help_without_room_is_told(alloc: Global) -> bool {
 #[test]
 fn help_that_cannot_be_written_is_told(rt: HostRuntime) {
     assert!(rt; help_without_room_is_told(rt.alloc()));
-}
-
-/// Whether this is left of words that cannot be had.
-fn words_are_unread(alloc: Global, kind: ErrorKind, status: u8, told: &str) -> bool {
-    let mut errors = Vec::new(alloc);
-    let ended = unread_words(&io::Error::from(kind), &mut errors);
-    leaves(ended, b"", &errors, (status, "", told))
-}
-
-#[test]
-fn words_that_cannot_be_had_are_told(rt: HostRuntime) {
-    let not_text = "words: not UTF-8\n";
-    assert!(rt; words_are_unread(rt.alloc(), ErrorKind::OutOfMemory, 3, "memory\n"));
-    assert!(rt; words_are_unread(rt.alloc(), ErrorKind::InvalidData, 2, not_text));
-}
-
-/// Whether this is left of a file that cannot be opened.
-fn file_is_unopened(alloc: Global, kind: ErrorKind, status: u8, told: &str) -> bool {
-    let mut errors = Vec::new(alloc);
-    let ended = unopened_file("logs/a.dsrc", &io::Error::from(kind), &mut errors);
-    leaves(ended, b"", &errors, (status, "", told))
-}
-
-#[test]
-fn a_file_that_cannot_be_opened_is_told(rt: HostRuntime) {
-    let not_found = "file: logs/a.dsrc\n";
-    assert!(rt; file_is_unopened(rt.alloc(), ErrorKind::OutOfMemory, 3, "memory\n"));
-    assert!(rt; file_is_unopened(rt.alloc(), ErrorKind::NotFound, 2, not_found));
 }

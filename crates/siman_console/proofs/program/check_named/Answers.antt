@@ -11,8 +11,7 @@ returns-in-Ok-open g c =
     let k = g.O.File.Read.remaining c.in-Ok-open.file in
     let first = Opens c.args.names.0.now (Ok r) in
     let second = Opens c.args.names.1.now (Ok k) in
-    let held = subst (λ (holds : List ℕ → Option Found). IsHeld (holds c.args.names.1.now) (Ok k)) c.in-Ok.ensures.stays c.in-Ok-open.ensures.held in
-    (
+    let held = subst (λ (holds : List ℕ → Option Found). IsHeld (holds c.args.names.1.now) (Ok k)) c.in-Ok.ensures.stays c.in-Ok-open.ensures.held in (
       first ∷ second ∷ [],
       adds_two _ _ _ first second c.in-Ok.ensures.done c.in-Ok-open.ensures.done,
       all_two (WasHeld (g.O.Outside.holds c.args.outside.now)) first second c.in-Ok.ensures.held held,
@@ -33,8 +32,7 @@ returns-in-Err-open g c =
     let why = error_kind c.in-Err-open.error in
     let first = Opens c.args.names.0.now (Ok r) in
     let second = Opens c.args.names.1.now (Err why) in
-    let held = subst (λ (holds : List ℕ → Option Found). IsHeld (holds c.args.names.1.now) (Err why)) c.in-Ok.ensures.stays c.in-Err-open.ensures.held in
-    (
+    let held = subst (λ (holds : List ℕ → Option Found). IsHeld (holds c.args.names.1.now) (Err why)) c.in-Ok.ensures.stays c.in-Err-open.ensures.held in (
       first ∷ second ∷ [],
       adds_two _ _ _ first second c.in-Ok.ensures.done c.in-Err-open.ensures.done,
       all_two (WasHeld (g.O.Outside.holds c.args.outside.now)) first second c.in-Ok.ensures.held held,

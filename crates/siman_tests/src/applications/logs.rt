@@ -7,11 +7,11 @@ ghost use Rattle.siman_pdus.specs.Role.{is_request_body};
 ghost use Rattle.siman_pdus.specs.Spelling.{pdu_size};
 ghost use Rattle.siman_application.specs.OwnLog.{Orders, Takes, log_in, AnswersStand};
 
-use crate::tests::datagrams::*;
-use crate::tests::scenes::station;
-use crate::{AppFault, Application, own_logs_stand};
+use crate::applications::datagrams::*;
+use crate::applications::scenes::station;
 use dis_records::EntityState;
 use exercise_model::Station;
+use siman_application::{AppFault, Application, own_logs_stand};
 use siman_pdus::{Pdu, decode, numbers_are_in_range};
 use std::alloc::Global;
 use std::test::Fail;

@@ -11,7 +11,7 @@ use Rattle.siman_application.specs.Outfit.{Outfit}
 use Rattle.siman_application.specs.Ranges.{IsOutfitInRange}
 use Rattle.siman_application.specs.Standing.{Standing}
 use Rattle.siman_application.specs.OwnLog.{Turn, Orders, Takes, log_in, IsOwnLog, IsClear, AnswersStand}
-use Rattle.siman_application.proofs.tests.logs.begin_to_answer.Goals as goal
+use Rattle.siman_tests.proofs.applications.logs.begin_to_answer.Goals as goal
 
 -- the law at the two turns
 stands : ((a : Outfit) (s : ℕ) (ts : List Turn) (h : History) (qs : List Pdu) → IsOwnLog a s ts h qs → IsClear a ts h → AnswersStand a h)

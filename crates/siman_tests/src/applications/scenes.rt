@@ -1,8 +1,8 @@
 //! What an application opens with, and what is then delivered to it, step by step.
 
-use crate::Application;
 use dis_records::{Address, EntityState, FixedDatum, VariableDatum};
 use exercise_model::Station;
+use siman_application::Application;
 use siman_pdus::{decode, encode};
 use std::alloc::Global;
 use std::test::Fail;

@@ -3,11 +3,11 @@
 ghost use Rattle.std.specs.Prelude.{◌≤◌, IsTrue, IfOk};
 ghost use Rattle.siman_pdus.specs.Role.{is_request_body};
 
-use crate::OrderStatus::{GivenUp, Waiting};
-use crate::Taken::{Answered, Foreign, Pending, Repeat};
-use crate::tests::Step::{AllGivenUp, Came, Creation, Setting, Stands, Ticked};
-use crate::{Manager, Order, OrderFault, OrderStatus, Taken};
+use crate::managers::Step::{AllGivenUp, Came, Creation, Setting, Stands, Ticked};
 use dis_records::{Address, EntityId, FixedDatum, Version};
+use siman_manager::OrderStatus::{GivenUp, Waiting};
+use siman_manager::Taken::{Answered, Foreign, Pending, Repeat};
+use siman_manager::{Manager, Order, OrderFault, OrderStatus, Taken};
 use siman_pdus::{Body, Datums, Pdu};
 use std::alloc::{AllocError, Global};
 use std::test::Fail;

@@ -1,11 +1,11 @@
 //! What each kind of request is answered.
 
-use crate::tests::datagrams::*;
-use crate::tests::scenes::Step::{Delivered, Holds, HoldsBits, Stands};
-use crate::tests::scenes::*;
-use crate::{AppFault, Application};
+use crate::applications::datagrams::*;
+use crate::applications::scenes::Step::{Delivered, Holds, HoldsBits, Stands};
+use crate::applications::scenes::*;
 use dis_records::EntityState::{Absent, Running, Stopped};
 use dis_records::{EntityState, FixedDatum};
+use siman_application::{AppFault, Application};
 use std::alloc::Global;
 use std::test::Fail;
 

@@ -1,11 +1,11 @@
 //! Requests that come again.
 
-use crate::Application;
-use crate::tests::datagrams::*;
-use crate::tests::scenes::Step::{Holds, Stands};
-use crate::tests::scenes::*;
+use crate::applications::datagrams::*;
+use crate::applications::scenes::Step::{Holds, Stands};
+use crate::applications::scenes::*;
 use dis_records::EntityState::{Absent, Running, Stopped};
 use dis_records::FixedDatum;
+use siman_application::Application;
 use std::alloc::Global;
 use std::test::Fail;
 

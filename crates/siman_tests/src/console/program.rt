@@ -1,0 +1,204 @@
+//! The whole way from the words of a command line to the status, over files in memory.
+
+use super::{Left, leaves};
+use siman_console::{Outside, run};
+use std::alloc::Global;
+use std::io;
+use std::io::ErrorKind;
+
+/// Files that stand under names, or can't be opened, and the names that were asked for, each with a
+/// line end. A name that does not stand there is not found.
+#[derive(Drop)]
+struct Shelf<'a> {
+    files: &'a [(&'a str, Result<&'a [u8], ErrorKind>)],
+    asked: Vec<u8>,
+}
+
+impl<'a> Outside for Shelf<'a> {
+    type File = &'a [u8];
+
+    type Made = Vec<u8>;
+
+    fn open(&mut self, name: &str) -> io::Result<&'a [u8]> {
+        self.asked.extend_from_slice(name.as_bytes())?;
+        self.asked.push(b'\n')?;
+        for (stands, file) in self.files {
+            if *stands == name {
+                return match *file {
+                    Ok(bytes) => Ok(bytes),
+                    Err(kind) => Err(io::Error::from(kind)),
+                };
+            }
+        }
+        Err(io::Error::from(ErrorKind::NotFound))
+    }
+
+    fn make(&mut self, _name: &str) -> io::Result<Vec<u8>> {
+        Err(io::Error::from(ErrorKind::Unsupported))
+    }
+}
+
+/// Station 2:3 alone, entity 7 stopped, no entries.
+const RECORDING: [u8; 25] = [
+    0x44, 0x53, 0x52, 0x43, 0x30, 0x30, 0x30, 0x31, 0x01, 0x00, 0x01, 0x00, 0x02, 0x00, 0x03, 0x00,
+    0x01, 0x00, 0x07, 0x01, 0x00, 0x00, 0x00, 0x00, 0x00,
+];
+
+/// A certificate of no steps.
+const CERTIFICATE: [u8; 12] = [
+    0x44, 0x53, 0x43, 0x54, 0x30, 0x30, 0x30, 0x31, 0x00, 0x00, 0x00, 0x00,
+];
+
+/// The files that stand there.
+const FILES: [(&str, Result<&[u8], ErrorKind>); 4] = [
+    ("recording", Ok(&RECORDING)),
+    ("certificate", Ok(&CERTIFICATE)),
+    ("shut", Err(ErrorKind::PermissionDenied)),
+    ("large", Err(ErrorKind::OutOfMemory)),
+];
+
+/// The words of a command line, or why they can't be had.
+type Words<'a> = Result<&'a [&'a str], ErrorKind>;
+
+/// The words as the program gets them.
+fn given(alloc: Global, words: Words<'_>) -> Option<io::Result<Vec<String>>> {
+    let words = match words {
+        Ok(words) => words,
+        Err(kind) => return Some(Err(io::Error::from(kind))),
+    };
+    let mut given = Vec::new(alloc);
+    for word in words {
+        given.push(String::from_str(alloc, *word).ok()?).ok()?;
+    }
+    Some(Ok(given))
+}
+
+/// Whether a run with these words and this on standard input asks for these files in this order,
+/// and leaves this.
+fn runs(alloc: Global, words: Words<'_>, input: &[u8], asked: &str, left: Left<'_>) -> bool {
+    let Some(words) = given(alloc, words) else {
+        return false;
+    };
+    let mut shelf = Shelf {
+        files: &FILES,
+        asked: Vec::new(alloc),
+    };
+    let mut out = Vec::new(alloc);
+    let mut errors = Vec::new(alloc);
+    let status = run(alloc, words, &mut shelf, input, &mut out, &mut errors);
+    shelf.asked.as_slice() == asked.as_bytes() && leaves(status, &out, &errors, left)
+}
+
+/// The number of the first run, from 0, that asks for other files or leaves something else.
+fn first_otherwise(
+    alloc: Global,
+    rows: &[(&[&str], &str, Left<'_>)],
+    input: &[u8],
+) -> Option<usize> {
+    for (i, (words, asked, left)) in rows.iter().enumerate() {
+        if !runs(alloc, Ok(*words), input, *asked, *left) {
+            return Some(i);
+        }
+    }
+    None
+}
+
+#[test]
+fn files_are_opened_in_the_order_of_the_words(rt: HostRuntime) {
+    let shown = "exercise=1 stations=1 records=0\nstation 0 2:3\nopening 0 7 stopped\n";
+    let yes = "yes records=0 others=0\nentity 2:3:7 stopped\n";
+    let rows: [(&[&str], &str, Left<'_>); 9] = [
+        (
+            &["siman", "show", "recording"],
+            "recording\n",
+            (0, shown, ""),
+        ),
+        (
+            &["siman", "show", "none"],
+            "none\n",
+            (2, "", "file: none\n"),
+        ),
+        (&["siman", "show", "large"], "large\n", (3, "", "memory\n")),
+        (
+            &["siman", "check", "recording", "certificate"],
+            "recording\ncertificate\n",
+            (0, yes, ""),
+        ),
+        (
+            &["siman", "check", "certificate", "recording"],
+            "certificate\nrecording\n",
+            (2, "", "recording: magic at 0\n"),
+        ),
+        (
+            &["siman", "check", "recording", "recording"],
+            "recording\nrecording\n",
+            (2, "", "certificate: magic at 0\n"),
+        ),
+        (
+            &["siman", "check", "shut", "certificate"],
+            "shut\n",
+            (2, "", "file: shut\n"),
+        ),
+        (
+            &["siman", "check", "certificate", "shut"],
+            "certificate\nshut\n",
+            (2, "", "file: shut\n"),
+        ),
+        (
+            &["siman", "check", "recording", "large"],
+            "recording\nlarge\n",
+            (3, "", "memory\n"),
+        ),
+    ];
+    assert_eq!(rt; first_otherwise(rt.alloc(), &rows, b""), None);
+}
+
+#[test]
+fn datagrams_are_shown_with_no_file(rt: HostRuntime) {
+    let create = "07010B0500000000001C000000010001000000020003000700000001";
+    let text =
+        "create-entity version=7 exercise=1 stamp=0 status=0 from=1:1:0 to=2:3:7 request=1\n";
+    let rows: [(&[&str], &str, Left<'_>); 5] = [
+        (&["siman"], "", (0, text, "")),
+        (&[], "", (0, text, "")),
+        (&["siman", "pdu", create], "", (0, text, "")),
+        (
+            &["siman", "pdu", "07"],
+            "",
+            (1, "refused 1 truncated\n", ""),
+        ),
+        (&["siman", "pdu", "7"], "", (2, "", "hex: not byte pairs\n")),
+    ];
+    assert_eq!(rt; first_otherwise(rt.alloc(), &rows, create.as_bytes()), None);
+}
+
+#[test]
+fn words_that_cannot_be_had_are_told(rt: HostRuntime) {
+    let alloc = rt.alloc();
+    let unread = (2, "", "words: not UTF-8\n");
+    assert!(rt; runs(alloc, Err(ErrorKind::InvalidData), b"", "", unread));
+    assert!(rt;
+        runs(
+            alloc,
+            Err(ErrorKind::OutOfMemory),
+            b"",
+            "",
+            (3, "", "memory\n")
+        )
+    );
+}
+
+#[test]
+fn words_that_break_the_usage_open_no_file(rt: HostRuntime) {
+    let told =
+        "error: unrecognized subcommand 'recording'\n\nUsage: siman [COMMAND]\n\nFor more information, try '--help'.\n";
+    assert!(rt;
+        runs(
+            rt.alloc(),
+            Ok(&["siman", "recording"]),
+            b"",
+            "",
+            (2, "", told)
+        )
+    );
+}

@@ -82,7 +82,8 @@ enum Says<'a> {
     DataQuery(u32, u32, &'a [u32], &'a [u32]),
     SetData(u32, Lists<'a>),
     DataPdu(u32, Lists<'a>),
-    EventReport(u32, Lists<'a>),
+    /// One without datums.
+    EventReport(u32),
     Comment(Lists<'a>),
 }
 
@@ -140,16 +141,22 @@ fn body(alloc: Global, says: Says<'_>) -> Option<Body> {
             interval,
             ids: ids(alloc, fixed, variable)?,
         },
+        Says::EventReport(event) => Body::EventReport {
+            event,
+            datums: Datums {
+                fixed: Vec::new(alloc),
+                variable: Vec::new(alloc),
+            },
+        },
         Says::ActionRequest(_, _, lists)
         | Says::ActionResponse(_, _, lists)
         | Says::SetData(_, lists)
         | Says::DataPdu(_, lists)
-        | Says::EventReport(_, lists)
         | Says::Comment(lists) => with_datums(says, datums(alloc, lists)?)?,
     })
 }
 
-/// The body of a kind with datums, with these.
+/// The body of a kind with datums, with these, if it is one.
 fn with_datums(says: Says<'_>, datums: Datums) -> Option<Body> {
     Some(match says {
         Says::ActionRequest(request, action, _) => Body::ActionRequest {
@@ -164,7 +171,6 @@ fn with_datums(says: Says<'_>, datums: Datums) -> Option<Body> {
         },
         Says::SetData(request, _) => Body::SetData { request, datums },
         Says::DataPdu(request, _) => Body::DataPdu { request, datums },
-        Says::EventReport(event, _) => Body::EventReport { event, datums },
         Says::Comment(_) => Body::Comment { datums },
         _ => return None,
     })
@@ -297,10 +303,9 @@ fn data_is_asked_for_set_and_told(rt: HostRuntime) {
 
 #[test]
 fn notices_are_told(rt: HostRuntime) {
-    let none: Lists<'_> = (&[], &[]);
     let one: Lists<'_> = (&[(1, 2)], &[]);
     let rows: [(&[u8], Says<'_>); 2] = [
-        (&EVENT_REPORT, Says::EventReport(3, none)),
+        (&EVENT_REPORT, Says::EventReport(3)),
         (&COMMENT, Says::Comment(one)),
     ];
     assert_eq!(rt; first_otherwise(rt.alloc(), &rows), None);

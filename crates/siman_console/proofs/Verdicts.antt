@@ -1,5 +1,5 @@
 -- How `check` ends that judged two files, or could not read one.
-use Rattle.std.proofs.Common.{◌≡◌, ℕ, List, Option, Bool, true, false, Result, Ok, Err, refl, inl, inr}
+use Rattle.std.proofs.Common.{◌≡◌, ℕ, List, Option, Bool, Result, Ok, Err, refl, inl, inr}
 use Rattle.std.specs.Result.{IsErrAnd}
 use Rattle.std.specs.Io.KnownBytes.{Keeps}
 use Rattle.exercise_model.specs.declared.cause.Cause.{Cause}
@@ -17,7 +17,6 @@ use Rattle.exercise_check.specs.declared.checker.CheckFault.TheVariants.{Bad}
 use Rattle.exercise_check.specs.Goodness.{IsGood, Refuses}
 use Rattle.exercise_check.specs.Certificate as certificate
 use Rattle.siman_console.specs.declared.files_fault.FilesFault.{FilesFault}
-use Rattle.siman_console.specs.declared.files_fault.FilesFault.TheVariants.{Recording, Certificate, Write, Memory}
 use Rattle.siman_console.specs.Check.{Recorded, Certified, Judges, of_recording, of_certificate}
 
 -- what is refused is not good

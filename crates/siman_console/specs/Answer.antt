@@ -1,5 +1,5 @@
 -- What the command `pdu` answers, and how it ends.
-use Rattle.std.specs.Prelude.{◌≡◌, ℕ, ◌≤◌, nat_lt, List, [], length, take, slice_index, ◌-◌, ◌==◌, Option, Some, None, Result, Ok, Err, ◌⊎◌, if◌then◌else◌}
+use Rattle.std.specs.Prelude.{◌≡◌, ℕ, ◌≤◌, nat_lt, List, [], length, take, slice_index, ◌-◌, ◌==◌, Option, Some, None, Result, Ok, Err, if◌then◌else◌}
 use Rattle.std.specs.Io.KnownBytes.{Appends, Keeps}
 use Rattle.dis_records.specs.Header.{header_at}
 use Rattle.siman_pdus.specs.declared.fault.PduFault.{PduFault}

@@ -5,16 +5,14 @@ use Rattle.std.specs.Io.KnownBytes.{Keeps}
 use Rattle.std.specs.declared.io.ErrorKind.{ErrorKind}
 use Rattle.std.specs.declared.io.ErrorKind.TheVariants.{OutOfMemory}
 use Rattle.clap.specs.declared.error.kind.ErrorKind.{ErrorKind as UsageKind}
-use Rattle.exercise_model.specs.Recording.{PlainRecording}
-use Rattle.exercise_recording.specs.declared.format_fault.FormatFault.{FormatFault}
 use Rattle.exercise_recording.specs.Reading.{recording_at}
 use Rattle.exercise_check.specs.Certificate.{certificate_at}
 use Rattle.siman_console.specs.declared.fault.Fault.{Fault}
-use Rattle.siman_console.specs.declared.fault.Fault.TheVariants.{File, Memory}
+use Rattle.siman_console.specs.declared.fault.Fault.TheVariants.{Memory}
 use Rattle.siman_console.specs.Answer.{said_of_hex, said_of_input, EndsPdu}
 use Rattle.siman_console.specs.Check.{Recorded, Certified, EndsCheck}
 use Rattle.siman_console.specs.Ending.{Ends, fault_text}
-use Rattle.siman_console.specs.Outside.{Found, Deed, Opens, Makes}
+use Rattle.siman_console.specs.Outside.{Deed, Opens}
 use Rattle.siman_console.specs.Outcome.{Outcome, IsUnread, EndsUsage}
 use Rattle.siman_console.specs.Show.{EndsShow}
 use Rattle.siman_console.specs.Words.{Asked, Input, Pdu, Show, Check, asked}

@@ -6,7 +6,6 @@ use Rattle.std.specs.Io.KnownBytes.{Appends, Keeps}
 use Rattle.dis_records.specs.declared.entity_state.EntityState.{EntityState}
 use Rattle.siman_pdus.specs.declared.pdu.Pdu.{Pdu}
 use Rattle.exercise_recording.specs.declared.format_fault.FormatFault.{FormatFault}
-use Rattle.exercise_recording.specs.declared.format_fault.RecordingFault.{RecordingFault}
 use Rattle.exercise_recording.specs.declared.format_fault.RecordingFault.TheVariants as recordings
 use Rattle.exercise_model.specs.Station.{StationData}
 use Rattle.exercise_model.specs.Entry.{Entry, Sent, Received, Told}

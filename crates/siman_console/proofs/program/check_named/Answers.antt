@@ -1,5 +1,5 @@
 -- Two files were opened, one after the other.
-use Rattle.std.proofs.Common.{ℕ, List, [], ◌∷◌, Option, Result, Ok, Err, refl, subst}
+use Rattle.std.proofs.Common.{ℕ, List, [], ◌∷◌, Option, Ok, Err, refl, subst}
 use Rattle.std.specs.IoError.{error_kind}
 use Rattle.siman_console.specs.Outside.{Found, Opens, IsHeld, WasHeld}
 use Rattle.siman_console.proofs.Programs.{adds_two, all_two, checking, keeps_all}

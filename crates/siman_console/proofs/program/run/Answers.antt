@@ -1,5 +1,5 @@
 -- The words could not be had, ask for a task, or ask for none.
-use Rattle.std.proofs.Common.{◌≡◌, ℕ, List, [], Some, None, Err, map, string_bytes, refl, sym, ap, ◌∙◌, subst}
+use Rattle.std.proofs.Common.{◌≡◌, [], Some, None, Err, map, string_bytes, refl, sym, ap, ◌∙◌, subst}
 use Rattle.std.specs.IoError.{error_kind}
 use Rattle.siman_console.specs.Outside.{WasHeld}
 use Rattle.siman_console.specs.Outcome.{Outcome}

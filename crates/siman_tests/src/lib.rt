@@ -10,6 +10,8 @@ mod console;
 #[cfg(test)]
 mod datagrams;
 #[cfg(test)]
+mod large;
+#[cfg(test)]
 mod pdus;
 #[cfg(test)]
 mod records;

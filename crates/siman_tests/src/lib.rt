@@ -14,6 +14,8 @@ mod large;
 #[cfg(test)]
 mod pdus;
 #[cfg(test)]
+mod promises;
+#[cfg(test)]
 mod records;
 #[cfg(test)]
 mod verdicts;

@@ -1,5 +1,7 @@
 -- Site and application of a simulation address (IEEE 1278.1-2012, 6.2.79).
-use Rattle.std.specs.Prelude.{ℕ, ◌≤◌}
+use Rattle.std.specs.Prelude.{ℕ, ◌≡◌, ◌≤◌, ◌<◌, ◌⊎◌}
+use Rattle.std.specs.Ordering.{nat_cmp, then_cmp, on}
+use Rattle.std.specs.declared.cmp.Ordering.{Ordering}
 
 -- the site and the application of an address
 pub record Pair : Type 0 where
@@ -9,3 +11,11 @@ pub record Pair : Type 0 where
 -- Both name one station: not none (0) and not all (0xFFFF).
 abbrev pub IsStation : Pair → Type 0
 IsStation p = (1 ≤ p.site) × (p.site ≤ 0xFFFE) × (1 ≤ p.application) × (p.application ≤ 0xFFFE)
+
+-- THE ORDER of addresses: they are compared first by site, then by application
+abbrev pub compared : Pair → Pair → Ordering
+compared a b = then_cmp (on (λ (p : Pair). p.site) nat_cmp) (on (λ (p : Pair). p.application) nat_cmp) a b
+
+-- One comes before the other: its site is the lower one, or, at the same site, its application.
+abbrev pub IsBefore : Pair → Pair → Type 0
+IsBefore a b = (a.site < b.site) ⊎ ((a.site ≡ b.site) × (a.application < b.application))

@@ -1,14 +1,16 @@
 //! The address of a station: which simulation application of which site.
 
-ghost use Rattle.std.specs.Prelude.{◌≡◌};
+ghost use Rattle.std.specs.Prelude.{◌≡◌, ◌↔◌};
+ghost use Rattle.std.specs.declared.cmp.Ordering.TheVariants.{Less, Equal};
 ghost use Rattle.std.specs.Option.{SomeIff};
-ghost use Rattle.dis_records.specs.Address.{Pair, IsStation};
+ghost use Rattle.dis_records.specs.Address.{Pair, IsStation, compared, IsBefore};
 
 use std::marker::Model;
 
 /// The address of one simulation application: its site and its application number, each in
 /// 1..=0xFFFE (IEEE 1278.1-2012, 6.2.79; the range is this project's profile: 0 names none and
-/// 0xFFFF all).
+/// 0xFFFF all). Addresses are compared first by site, then by application
+/// ([`addresses_are_ordered`]).
 #[derive(Clone, Copy, Debug, PartialEq, Eq, PartialOrd, Ord)]
 pub struct Address {
     site: u16,
@@ -54,3 +56,12 @@ impl Address {
         self.application
     }
 }
+
+/// Laws of the order of addresses: they are compared first by site, then by application, which
+/// says the same as that one is before the other, and they are equal where both numbers are. The
+/// call does nothing when it runs.
+pub fn addresses_are_ordered(a: Address, b: Address)
+    ensures order { ⟦<Address as Ord>⟧.cmp a b ≡ compared a b }
+    ensures below { (compared a b ≡ Less) ↔ IsBefore a b }
+    ensures equal { (compared a b ≡ Equal) ↔ (a ≡ b) }
+{}

@@ -12,9 +12,13 @@ mod console;
 #[cfg(test)]
 mod datagrams;
 #[cfg(test)]
+mod large;
+#[cfg(test)]
 mod managers;
 #[cfg(test)]
 mod pdus;
+#[cfg(test)]
+mod promises;
 #[cfg(test)]
 mod recordings;
 #[cfg(test)]

@@ -1,0 +1,8 @@
+//! Large cases, with ample memory: none of them may be refused for want of it.
+
+mod commands;
+mod exchanges;
+mod files;
+mod orders;
+mod records;
+mod verdicts;

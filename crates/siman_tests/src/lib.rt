@@ -12,6 +12,8 @@ mod console;
 #[cfg(test)]
 mod datagrams;
 #[cfg(test)]
+mod faults;
+#[cfg(test)]
 mod large;
 #[cfg(test)]
 mod managers;

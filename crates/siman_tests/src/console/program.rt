@@ -49,6 +49,9 @@ const CERTIFICATE: [u8; 12] = [
     0x44, 0x53, 0x43, 0x54, 0x30, 0x30, 0x30, 0x31, 0x00, 0x00, 0x00, 0x00,
 ];
 
+/// A Create Entity as hex text.
+const CREATE: &str = "07010B0500000000001C000000010001000000020003000700000001";
+
 /// The files that stand there.
 const FILES: [(&str, Result<&[u8], ErrorKind>); 4] = [
     ("recording", Ok(&RECORDING)),
@@ -155,13 +158,12 @@ fn files_are_opened_in_the_order_of_the_words(rt: HostRuntime) {
 
 #[test]
 fn datagrams_are_shown_with_no_file(rt: HostRuntime) {
-    let create = "07010B0500000000001C000000010001000000020003000700000001";
     let text =
         "create-entity version=7 exercise=1 stamp=0 status=0 from=1:1:0 to=2:3:7 request=1\n";
     let rows: [(&[&str], &str, Left<'_>); 5] = [
         (&["siman"], "", (0, text, "")),
         (&[], "", (0, text, "")),
-        (&["siman", "pdu", create], "", (0, text, "")),
+        (&["siman", "pdu", CREATE], "", (0, text, "")),
         (
             &["siman", "pdu", "07"],
             "",
@@ -169,7 +171,7 @@ fn datagrams_are_shown_with_no_file(rt: HostRuntime) {
         ),
         (&["siman", "pdu", "7"], "", (2, "", "hex: not byte pairs\n")),
     ];
-    assert_eq!(rt; first_otherwise(rt.alloc(), &rows, create.as_bytes()), None);
+    assert_eq!(rt; first_otherwise(rt.alloc(), &rows, CREATE.as_bytes()), None);
 }
 
 #[test]

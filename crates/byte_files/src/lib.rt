@@ -13,5 +13,5 @@ mod output;
 mod source;
 
 pub use filling::{ReadFailed, fill};
-pub use output::{WriteFailed, put, put_both};
+pub use output::{WriteFailed, put, put_both, put_shown};
 pub use source::{FieldFault, Source};

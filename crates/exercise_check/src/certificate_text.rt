@@ -58,6 +58,6 @@ pub fn write_certificate<W: Write>(
 {
     match put_certificate(writer, &certificate.steps) {
         Ok(()) => Ok(()),
-        Err(WriteFailed) => Err(CertificateWriterFault::Write),
+        Err(_) => Err(CertificateWriterFault::Write),
     }
 }

@@ -34,7 +34,7 @@ fn main(rt: HostRuntime) -> ExitCode {
     let alloc = rt.alloc();
     let words = words(&rt, alloc);
     let (mut out, mut errors) = (rt.stdout(), rt.stderr());
-    let status = run(
+    let ended = run(
         alloc,
         words,
         &mut Disk(&rt),
@@ -42,5 +42,5 @@ fn main(rt: HostRuntime) -> ExitCode {
         &mut out,
         &mut errors,
     );
-    ExitCode::from(status)
+    ExitCode::from(ended.status)
 }

@@ -5,11 +5,12 @@ use Rattle.std.specs.List.{All}
 use Rattle.std.specs.Io.KnownBytes.{Keeps}
 use Rattle.exercise_recording.specs.Reading.{recording_at}
 use Rattle.exercise_check.specs.Certificate.{certificate_at}
-use Rattle.siman_console.specs.Answer.{said_of_input, EndsPdu}
-use Rattle.siman_console.specs.Check.{Recorded, Certified, EndsCheck}
+use Rattle.siman_console.specs.Answer.{said_of_input, IsTold}
+use Rattle.siman_console.specs.Check.{Recorded, Certified, TellsCheck}
 use Rattle.siman_console.specs.Outside.{Deed, Adds}
-use Rattle.siman_console.specs.Outcome.{Outcome}
-use Rattle.siman_console.specs.Program.{EndsInput, EndsChecking}
+use Rattle.siman_console.specs.Outcome.{Stream}
+use Rattle.siman_console.specs.Program.{Told, TellsInput, TellsShown, TellsJudged}
+use Rattle.siman_console.specs.Show.{TellsShow}
 
 -- nothing was written
 pub keeps_all : (a : Option (List ℕ)) → Keeps a a
@@ -37,13 +38,18 @@ all_two P x y first second (suc zero) d within = second
 all_two P x y first second (suc (suc k)) d within = absurd (omega arith)
 
 -- what is known of the files, or of some
-pub checking : (r c : Option (List ℕ)) (o : Outcome) → IfSome r (λ r. IfSome c (λ c. EndsCheck (recording_at 268435456 r) (certificate_at 1048576 c) o.status o.out.old o.out.new o.told.old o.told.new))
-    → (recorded : Recorded) × (certified : Certified) × EndsCheck recorded certified o.status o.out.old o.out.new o.told.old o.told.new → EndsChecking r c o
-checking (Some r) (Some c) o known ends = known
-checking (Some r) None o known ends = ends
-checking None c o known ends = ends
+pub judging : (r c : Option (List ℕ)) (told : Told) (out : Stream) → IfSome r (λ r. IfSome c (λ c. TellsCheck (recording_at 268435456 r) (certificate_at 1048576 c) told out.old out.new))
+    → (recorded : Recorded) × (certified : Certified) × TellsCheck recorded certified told out.old out.new → TellsJudged r c told out
+judging (Some r) (Some c) told out known some = known
+judging (Some r) None told out known some = some
+judging None c told out known some = some
 
-pub from_input : (input : Option (List ℕ)) (o : Outcome) → IfSome input (λ bytes. EndsPdu (said_of_input bytes) o.status o.out.old o.out.new o.told.old o.told.new)
-    → (bytes : List ℕ) × EndsPdu (said_of_input bytes) o.status o.out.old o.out.new o.told.old o.told.new → EndsInput input o
-from_input (Some bytes) o known ends = known
-from_input None o known ends = ends
+pub showing : (r : Option (List ℕ)) (told : Told) (out : Stream) → IfSome r (λ r. TellsShow (recording_at 268435456 r) told out.old out.new)
+    → (recorded : Recorded) × TellsShow recorded told out.old out.new → TellsShown r told out
+showing (Some r) told out known some = known
+showing None told out known some = some
+
+pub from_input : (input : Option (List ℕ)) (told : Told) (out : Stream) → IfSome input (λ bytes. IsTold (said_of_input bytes) told out.old out.new)
+    → (bytes : List ℕ) × IsTold (said_of_input bytes) told out.old out.new → TellsInput input told out
+from_input (Some bytes) told out known some = known
+from_input None told out known some = some

@@ -7,7 +7,7 @@ use Rattle.siman_pdus.specs.declared.pdu.Pdu.{Pdu}
 use Rattle.siman_pdus.specs.Reading.{pdu_from, refusal_of}
 use Rattle.siman_console.specs.declared.fault.Fault.{Fault}
 use Rattle.siman_console.specs.declared.fault.Fault.TheVariants.{NotBytePairs, Input, File, Words, Recording, Certificate, Output, Memory}
-use Rattle.siman_console.specs.Ending.{Ends}
+use Rattle.siman_console.specs.Ending.{EndsWith}
 use Rattle.siman_console.specs.HexText.{bytes_of}
 use Rattle.siman_console.specs.Records.{pdu_lines}
 use Rattle.siman_console.specs.Refusal.{refusal_line}
@@ -64,4 +64,4 @@ IsTold said (Err Memory) old new = Keeps old new
 
 -- HOW `pdu` ENDS that had to say this: what it told is out, and it ends as that asks for
 abbrev pub EndsPdu : Said → (status : ℕ) → (old new : Option (List ℕ)) → (told_old told_new : Option (List ℕ)) → Type 0
-EndsPdu said status old new told_old told_new = (told : Result ℕ Fault) × IsTold said told old new × Ends told status told_old told_new
+EndsPdu said status old new told_old told_new = (told : Result ℕ Fault) × IsTold said told old new × EndsWith told status told_old told_new

@@ -18,7 +18,7 @@ use Rattle.exercise_check.specs.Goodness.{IsGood, Refuses}
 use Rattle.siman_console.specs.declared.files_fault.FilesFault.{FilesFault}
 use Rattle.siman_console.specs.declared.files_fault.FilesFault.TheVariants.{Recording, Certificate, Write, Memory}
 use Rattle.siman_console.specs.declared.fault.Fault.{Fault}
-use Rattle.siman_console.specs.Ending.{Ends, of_files}
+use Rattle.siman_console.specs.Ending.{EndsWith, of_files}
 use Rattle.siman_console.specs.Report.{report_text, no_line}
 
 -- what reading a recording gives, and what reading a certificate gives: its steps
@@ -109,6 +109,10 @@ judged_status (Ok true) = Ok 0
 judged_status (Ok false) = Ok 1
 judged_status (Err fault) = Err (of_files fault)
 
+-- What `check` tells: what it judged is out, with status 0 or 1, or it met a fault.
+abbrev pub TellsCheck : Recorded → Certified → (told : Result ℕ Fault) → (old new : Option (List ℕ)) → Type 0
+TellsCheck recorded certified told old new = (judged : Result Bool FilesFault) × Judges recorded certified judged old new × (told ≡ judged_status judged)
+
 -- HOW `check` ENDS: what it judged is out, and it ends as that asks for
 abbrev pub EndsCheck : Recorded → Certified → (status : ℕ) → (old new : Option (List ℕ)) → (told_old told_new : Option (List ℕ)) → Type 0
-EndsCheck recorded certified status old new told_old told_new = (judged : Result Bool FilesFault) × Judges recorded certified judged old new × Ends (judged_status judged) status told_old told_new
+EndsCheck recorded certified status old new told_old told_new = (told : Result ℕ Fault) × TellsCheck recorded certified told old new × EndsWith told status told_old told_new

@@ -1,7 +1,8 @@
 -- Why a command gave no answer, and how a command ends (profile).
 use Rattle.std.specs.Prelude.{◌≡◌, ℕ, List, [], ◌++◌, codes, decimal, Option, Some, None, Result, Ok, Err}
 use Rattle.std.specs.Io.KnownBytes.{Keeps}
-use Rattle.byte_files.specs.Writing.{WritesPart}
+use Rattle.byte_files.specs.Writing.{Writes}
+use Rattle.byte_files.specs.declared.output.WriteFailed.{WriteFailed}
 use Rattle.exercise_recording.specs.declared.format_fault.RecordingFault.{RecordingFault}
 use Rattle.exercise_recording.specs.declared.format_fault.RecordingFault.TheVariants as recordings
 use Rattle.exercise_recording.specs.FaultText as recording_texts
@@ -9,6 +10,7 @@ use Rattle.exercise_check.specs.declared.certificate_fault.CertificateFault.{Cer
 use Rattle.exercise_check.specs.declared.certificate_fault.CertificateFault.TheVariants as certificates
 use Rattle.exercise_check.specs.FaultText as certificate_texts
 use Rattle.siman_console.specs.declared.fault.Fault.{Fault}
+use Rattle.siman_console.specs.declared.fault.Ended.{Ended}
 use Rattle.siman_console.specs.declared.fault.Fault.TheVariants.{NotBytePairs, Input, File, Words, Recording, Certificate, Output, Memory}
 use Rattle.siman_console.specs.declared.files_fault.FilesFault.{FilesFault}
 use Rattle.siman_console.specs.declared.files_fault.FilesFault.TheVariants as files
@@ -107,12 +109,20 @@ abbrev pub status_of : Result ℕ Fault → ℕ
 status_of (Ok status) = status
 status_of (Err fault) = fault_status fault
 
--- After an answer nothing is told to the writer of faults; after a fault its line is there, or a prefix of it where that writer failed.
-abbrev pub Tells : Result ℕ Fault → Option (List ℕ) → Option (List ℕ) → Type 0
-Tells (Ok status) old new = Keeps old new
-Tells (Err fault) old new = WritesPart old new (fault_line fault)
+-- whether all that was to be told on the writer of faults was written
+abbrev pub Wrote : Type 0
+Wrote = Result (Unit {0}) WriteFailed
+
+-- After an answer nothing is told to the writer of faults. After a fault its line is there, unless that writer failed, and then a prefix of it.
+abbrev pub Tells : Result ℕ Fault → Wrote → Option (List ℕ) → Option (List ℕ) → Type 0
+Tells (Ok status) wrote old new = (wrote ≡ Ok tt) × Keeps old new
+Tells (Err fault) wrote old new = Writes wrote old new (fault_line fault)
 
 -- HOW A COMMAND ENDS that answered, or met a fault: with this status, and this on the writer of faults
-pub record Ends (told : Result ℕ Fault) (status : ℕ) (old new : Option (List ℕ)) : Type 0 where
-  pub status_is : status ≡ status_of told
-  pub tells : Tells told old new
+pub record Ends (told : Result ℕ Fault) (ended : Ended) (old new : Option (List ℕ)) : Type 0 where
+  pub status_is : ended.status ≡ status_of told
+  pub tells : Tells told ended.told old new
+
+-- the same of a call that answers the status alone
+abbrev pub EndsWith : Result ℕ Fault → (status : ℕ) → (old new : Option (List ℕ)) → Type 0
+EndsWith told status old new = (wrote : Wrote) × Ends told (record { status = status; told = wrote }) old new

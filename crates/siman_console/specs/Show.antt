@@ -15,7 +15,7 @@ use Rattle.exercise_model.specs.Meaning.{meaning}
 use Rattle.byte_files.specs.Writing.{WritesPart}
 use Rattle.siman_console.specs.declared.fault.Fault.{Fault}
 use Rattle.siman_console.specs.declared.fault.Fault.TheVariants.{NotBytePairs, Input, File, Words, Recording, Certificate, Output, Memory}
-use Rattle.siman_console.specs.Ending.{Ends}
+use Rattle.siman_console.specs.Ending.{EndsWith}
 use Rattle.siman_console.specs.Head.{head_text}
 use Rattle.siman_console.specs.Records.{line_end}
 use Rattle.siman_console.specs.Report.{state_text, texts_below}
@@ -100,6 +100,10 @@ abbrev pub shown_status : Result (Unit {0}) Fault → Result ℕ Fault
 shown_status (Ok x) = Ok 0
 shown_status (Err fault) = Err fault
 
+-- What `show` tells: what it showed is out, with status 0, or it met a fault.
+abbrev pub TellsShow : Result PlainRecording FormatFault → (told : Result ℕ Fault) → (old new : Option (List ℕ)) → Type 0
+TellsShow recorded told old new = (shown : Result (Unit {0}) Fault) × Shows recorded shown old new × (told ≡ shown_status shown)
+
 -- HOW `show` ENDS: what it showed is out, and it ends as that asks for
 abbrev pub EndsShow : Result PlainRecording FormatFault → (status : ℕ) → (old new : Option (List ℕ)) → (told_old told_new : Option (List ℕ)) → Type 0
-EndsShow recorded status old new told_old told_new = (shown : Result (Unit {0}) Fault) × Shows recorded shown old new × Ends (shown_status shown) status told_old told_new
+EndsShow recorded status old new told_old told_new = (told : Result ℕ Fault) × TellsShow recorded told old new × EndsWith told status told_old told_new

@@ -4,7 +4,7 @@ ghost use Rattle.std.specs.Prelude.{◌≡◌, ◌≤◌, IfSome, OnOk, Ok};
 ghost use Rattle.std.specs.Io.KnownBytes.{Keeps};
 ghost use Rattle.exercise_recording.specs.Reading.{recording_at};
 ghost use Rattle.exercise_check.specs.Certificate.{certificate_at};
-ghost use Rattle.siman_console.specs.Check.{Recorded, Certified, Judges, judged_status, EndsCheck};
+ghost use Rattle.siman_console.specs.Check.{Recorded, Certified, Judges, judged_status, TellsCheck, EndsCheck};
 
 use crate::fault::{Fault, end};
 use crate::files_fault::FilesFault;
@@ -58,8 +58,20 @@ pub fn check_command<R: Read + Drop, C: Read + Drop, W: Write, E: Write>(
     ensures ends { (recorded : Recorded) × (certified : Certified) × EndsCheck recorded certified result (W.contents out.old) (W.contents out.new) (E.contents errors.old) (E.contents errors.new) }
     ensures silent { result ≤ 1 → Keeps (E.contents errors.old) (E.contents errors.new) }
 {
-    let judged = check_files(alloc, recording, certificate, out);
-    end(status_of(judged), errors)
+    end(judged(alloc, recording, certificate, out), errors).status
+}
+
+/// As [`check_files`], and gives the status: 0 is a yes, 1 a no.
+pub(crate) fn judged<R: Read + Drop, C: Read + Drop, W: Write>(
+    alloc: Global,
+    recording: R,
+    certificate: C,
+    out: &mut W,
+) -> Result<u8, Fault<'static>>
+    ensures known { IfSome (R.remaining recording) (λ r. IfSome (C.remaining certificate) (λ c. TellsCheck (recording_at 268435456 r) (certificate_at 1048576 c) result (W.contents out.old) (W.contents out.new))) }
+    ensures some { (recorded : Recorded) × (certified : Certified) × TellsCheck recorded certified result (W.contents out.old) (W.contents out.new) }
+{
+    status_of(check_files(alloc, recording, certificate, out))
 }
 
 /// Writes what is to be said of a log and a certificate.

@@ -22,8 +22,7 @@ pub fn pdu_command<W: Write, E: Write>(alloc: Global, hex: &str, out: &mut W, er
     ensures ends { EndsPdu (said_of_hex hex.now) result (W.contents out.old) (W.contents out.new) (E.contents errors.old) (E.contents errors.new) }
     ensures silent { result ≤ 1 → Keeps (E.contents errors.old) (E.contents errors.new) }
 {
-    let told = tell(alloc, hex.as_bytes(), out);
-    end(told, errors)
+    end(tell_word(alloc, hex, out), errors).status
 }
 
 /// Shows the datagram that a reader has in hex text, which one line end may follow: as
@@ -40,9 +39,18 @@ pub fn pdu_from<R: Read + Drop, W: Write, E: Write>(
     ensures ends { (bytes : List ℕ) × EndsPdu (said_of_input bytes) result (W.contents out.old) (W.contents out.new) (E.contents errors.old) (E.contents errors.new) }
     ensures silent { result ≤ 1 → Keeps (E.contents errors.old) (E.contents errors.new) }
 {
-    let mut reader = reader;
-    let told = tell_input(alloc, &mut reader, out);
-    end(told, errors)
+    end(tell_input(alloc, reader, out), errors).status
+}
+
+/// Writes the answer for a word, and gives its status.
+pub(crate) fn tell_word<W: Write>(
+    alloc: Global,
+    hex: &str,
+    out: &mut W,
+) -> Result<u8, Fault<'static>>
+    ensures { IsTold (said_of_hex hex.now) result (W.contents out.old) (W.contents out.new) }
+{
+    tell(alloc, hex.as_bytes(), out)
 }
 
 /// Writes the answer for hex text, and gives its status.
@@ -77,14 +85,15 @@ fn before_line_end(text: &[u8]) -> &[u8]
 }
 
 /// Writes the answer for what a reader has.
-fn tell_input<R: Read, W: Write>(
+pub(crate) fn tell_input<R: Read + Drop, W: Write>(
     alloc: Global,
-    reader: &mut R,
+    reader: R,
     out: &mut W,
 ) -> Result<u8, Fault<'static>>
-    ensures known { IfSome (R.remaining reader.old) (λ bytes. IsTold (said_of_input bytes) result (W.contents out.old) (W.contents out.new)) }
+    ensures known { IfSome (R.remaining reader) (λ bytes. IsTold (said_of_input bytes) result (W.contents out.old) (W.contents out.new)) }
     ensures some { (bytes : List ℕ) × IsTold (said_of_input bytes) result (W.contents out.old) (W.contents out.new) }
 {
-    let text = read_text(alloc, reader)?;
+    let mut reader = reader;
+    let text = read_text(alloc, &mut reader)?;
     tell_line(alloc, &text, out)
 }

@@ -145,6 +145,16 @@ impl From<FilesFault> for Fault<'_> {
     }
 }
 
+/// How a command ended.
+#[derive(Clone, Copy, Debug, PartialEq, Eq)]
+pub struct Ended {
+    /// The status to exit with.
+    pub status: u8,
+    /// Whether all that was to be told on the writer of faults was written; after a failed write a
+    /// prefix of it was.
+    pub told: Result<(), WriteFailed>,
+}
+
 /// Writes ` at ` and an offset, where there is one.
 fn tell_place<E: Write>(place: Option<u64>, errors: &mut E) -> Result<(), WriteFailed>
     ensures { Writes result (E.contents errors.old) (E.contents errors.new) (place_text place) }
@@ -171,16 +181,18 @@ fn tell<E: Write>(fault: Fault<'_>, errors: &mut E) -> Result<(), WriteFailed>
     put(errors, b"\n")
 }
 
-/// The status that a command ends with, after it told its fault.
-pub(crate) fn end<E: Write>(told: Result<u8, Fault<'_>>, errors: &mut E) -> u8
+/// Ends a command, after it told its fault.
+pub(crate) fn end<E: Write>(told: Result<u8, Fault<'_>>, errors: &mut E) -> Ended
     ensures { Ends told.entry result (E.contents errors.old) (E.contents errors.new) }
 {
     match told {
-        Ok(status) => status,
-        Err(fault) => {
-            // A fault that can't be written has nowhere to be told.
-            let _ = tell(fault, errors);
-            fault.status()
-        }
+        Ok(status) => Ended {
+            status,
+            told: Ok(()),
+        },
+        Err(fault) => Ended {
+            status: fault.status(),
+            told: tell(fault, errors),
+        },
     }
 }

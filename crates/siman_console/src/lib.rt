@@ -32,6 +32,7 @@ mod words;
 pub use answer::answers_follow_the_grammar;
 pub use check::{LARGEST_CERTIFICATE, check_command, check_files};
 pub use datagram::{pdu_command, pdu_from};
+pub use fault::Ended;
 pub use files_fault::FilesFault;
 pub use outside::Outside;
 pub use program::run;

@@ -4,10 +4,12 @@ ghost use Rattle.std.specs.Prelude.{◌≡◌, map, option_map};
 ghost use Rattle.std.specs.Result.{result_ok};
 ghost use Rattle.std.specs.IoError.{error_kind};
 ghost use Rattle.clap.specs.Values.{kind_of};
+ghost use Rattle.siman_console.specs.Ending.{Wrote};
 ghost use Rattle.siman_console.specs.Outcome.{Outcome, EndsUsage, IsUnread};
 ghost use Rattle.siman_console.specs.Words.{asked_by, is_option, pdu_asked, show_asked, check_asked, asked};
 
-use crate::fault::{Fault, end};
+use crate::fault::{Ended, Fault, end};
+use byte_files::put_shown;
 use clap::error::ErrorKind;
 use clap::{Arg, ArgAction, Command, Error};
 use std::alloc::Global;
@@ -28,6 +30,21 @@ pub enum Task<'a> {
     Check(&'a str, &'a str),
 }
 
+/// The version of the program.
+const VERSION: &str = "0.1.0";
+
+/// What the exit statuses tell, for the help.
+const STATUSES: &str = "Exit status:
+  0  the answer is on standard output; of `check` it is yes
+  1  the datagram is refused, or the answer of `check` is no
+  2  a fault of usage, hex text, files or writing, told on standard error
+  3  memory ran out
+
+Examples:
+  siman pdu 07010B0500000000001C000000010001000000020003000700000001
+  siman show exercise.dsrc
+  siman check exercise.dsrc exercise.dsct";
+
 fn pdu<'a>(alloc: Global) -> Result<Command<'a>, Error> {
     let hex = Arg::new(alloc, "HEX")
         .required(true)
@@ -36,6 +53,9 @@ fn pdu<'a>(alloc: Global) -> Result<Command<'a>, Error> {
     Ok(
         Command::new(alloc, "pdu")
             .about("Shows the PDU of a datagram")
+            .after_help(
+                "Example:\n  siman pdu 07010B0500000000001C000000010001000000020003000700000001",
+            )
             .arg(hex)?,
     )
 }
@@ -48,6 +68,7 @@ fn show<'a>(alloc: Global) -> Result<Command<'a>, Error> {
     Ok(
         Command::new(alloc, "show")
             .about("Shows a recording, a line for each entry")
+            .after_help("Example:\n  siman show exercise.dsrc")
             .arg(recording)?,
     )
 }
@@ -64,6 +85,7 @@ fn check<'a>(alloc: Global) -> Result<Command<'a>, Error> {
     Ok(
         Command::new(alloc, "check")
             .about("Checks whether a certificate explains a recording, and reports what it says")
+            .after_help("Example:\n  siman check exercise.dsrc exercise.dsct")
             .arg(recording)?
             .arg(certificate)?,
     )
@@ -72,6 +94,8 @@ fn check<'a>(alloc: Global) -> Result<Command<'a>, Error> {
 fn siman<'a>(alloc: Global) -> Result<Command<'a>, Error> {
     Ok(
         Command::new(alloc, "siman")
+            .version(VERSION)
+            .after_help(STATUSES)
             .about(
                 "Shows Simulation Management PDUs of DIS (IEEE 1278.1-2012). With no command, the hex text of a datagram is read from standard input",
             )
@@ -161,18 +185,28 @@ pub fn read_words<S: AsStr>(alloc: Global, words: &[S]) -> Result<Task<'_>, Erro
 /// usage, told on `errors`, or a failed write of the help (`output: write`); 3 want of memory
 /// (`memory`).
 pub fn usage_command<W: Write, E: Write>(error: &Error, out: &mut W, errors: &mut E) -> u8
-    ensures { let o : Outcome = record { status = result; out = record { old = W.contents out.old; new = W.contents out.new }; told = record { old = E.contents errors.old; new = E.contents errors.new } } in
+    ensures { (wrote : Wrote) × (let o : Outcome = record { ended = record { status = result; told = wrote }; out = record { old = W.contents out.old; new = W.contents out.new }; errors = record { old = E.contents errors.old; new = E.contents errors.new } } in
+        EndsUsage (kind_of error.now) o) }
+{
+    end_usage(error, out, errors).status
+}
+
+/// As [`usage_command`].
+pub(crate) fn end_usage<W: Write, E: Write>(error: &Error, out: &mut W, errors: &mut E) -> Ended
+    ensures { let o : Outcome = record { ended = result; out = record { old = W.contents out.old; new = W.contents out.new }; errors = record { old = E.contents errors.old; new = E.contents errors.new } } in
         EndsUsage (kind_of error.now) o }
 {
     if error.kind() == ErrorKind::OutOfMemory {
         return end(Err(Fault::Memory), errors);
     }
     if error.use_stderr() {
-        let _ = write!(errors, "{error}");
-        return 2;
+        return Ended {
+            status: 2,
+            told: put_shown(errors, error),
+        };
     }
-    match write!(out, "{error}") {
-        Ok(()) => 0,
+    match put_shown(out, error) {
+        Ok(()) => end(Ok(0), errors),
         Err(_) => end(Err(Fault::Output), errors),
     }
 }

@@ -1,6 +1,7 @@
 //! The whole way from the words of a command line to the status, over files in memory.
 
 use super::{Left, leaves};
+use crate::streams::FailingWriter;
 use siman_console::{Outside, run};
 use std::alloc::Global;
 use std::io;
@@ -88,8 +89,10 @@ fn runs(alloc: Global, words: Words<'_>, input: &[u8], asked: &str, left: Left<'
     };
     let mut out = Vec::new(alloc);
     let mut errors = Vec::new(alloc);
-    let status = run(alloc, words, &mut shelf, input, &mut out, &mut errors);
-    shelf.asked.as_slice() == asked.as_bytes() && leaves(status, &out, &errors, left)
+    let ended = run(alloc, words, &mut shelf, input, &mut out, &mut errors);
+    shelf.asked.as_slice() == asked.as_bytes()
+        && ended.told == Ok(())
+        && leaves(ended.status, &out, &errors, left)
 }
 
 /// The number of the first run, from 0, that asks for other files or leaves something else.
@@ -203,4 +206,37 @@ fn words_that_break_the_usage_open_no_file(rt: HostRuntime) {
             (2, "", told)
         )
     );
+}
+
+/// Whether a run with these words, whose writer of faults takes a byte a call and fails at the call
+/// of this number, tells this of its fault and says that it could not tell the rest.
+fn tells_a_part(alloc: Global, words: &[&str], fails_at: u64, status: u8, told: &str) -> bool {
+    let Some(words) = given(alloc, Ok(words)) else {
+        return false;
+    };
+    let mut shelf = Shelf {
+        files: &FILES,
+        asked: Vec::new(alloc),
+    };
+    let mut out = Vec::new(alloc);
+    let mut errors = FailingWriter {
+        kept: Vec::new(alloc),
+        most: 1,
+        calls: 0,
+        fails_at,
+        kind: None,
+    };
+    let input: &[u8] = b"";
+    let ended = run(alloc, words, &mut shelf, input, &mut out, &mut errors);
+    let part = leaves(ended.status, &out, &errors.kept, (status, "", told));
+    part && ended.told.is_err()
+}
+
+#[test]
+fn a_fault_that_cannot_be_told_is_answered(rt: HostRuntime) {
+    let alloc = rt.alloc();
+    assert!(rt; tells_a_part(alloc, &["siman", "show", "none"], 1, 2, ""));
+    assert!(rt; tells_a_part(alloc, &["siman", "show", "none"], 11, 2, "file: none"));
+    assert!(rt; tells_a_part(alloc, &["siman", "show", "large"], 4, 3, "mem"));
+    assert!(rt; tells_a_part(alloc, &["siman", "recording"], 6, 2, "error"));
 }

@@ -60,17 +60,26 @@ fn first_helped_otherwise(alloc: Global, rows: &[&[&str]], help: &str) -> Option
 #[test]
 fn help_goes_out_with_status_0(rt: HostRuntime) {
     let help =
-        "Shows Simulation Management PDUs of DIS (IEEE 1278.1-2012). With no command, the hex text of a datagram is read from standard input\n\nUsage: siman [COMMAND]\n\nCommands:\n  pdu    Shows the PDU of a datagram\n  show   Shows a recording, a line for each entry\n  check  Checks whether a certificate explains a recording, and reports what it says\n  help   Print this message or the help of the given subcommand(s)\n\nOptions:\n  -h, --help  Print help\n";
+        "Shows Simulation Management PDUs of DIS (IEEE 1278.1-2012). With no command, the hex text of a datagram is read from standard input\n\nUsage: siman [COMMAND]\n\nCommands:\n  pdu    Shows the PDU of a datagram\n  show   Shows a recording, a line for each entry\n  check  Checks whether a certificate explains a recording, and reports what it says\n  help   Print this message or the help of the given subcommand(s)\n\nOptions:\n  -h, --help     Print help\n  -V, --version  Print version\n\nExit status:\n  0  the answer is on standard output; of `check` it is yes\n  1  the datagram is refused, or the answer of `check` is no\n  2  a fault of usage, hex text, files or writing, told on standard error\n  3  memory ran out\n\nExamples:\n  siman pdu 07010B0500000000001C000000010001000000020003000700000001\n  siman show exercise.dsrc\n  siman check exercise.dsrc exercise.dsct\n";
     let rows: [&[&str]; 3] = [&["siman", "--help"], &["siman", "-h"], &["siman", "help"]];
     assert_eq!(rt; first_helped_otherwise(rt.alloc(), &rows, help), None);
 }
 
 #[test]
+fn the_version_goes_out_with_status_0(rt: HostRuntime) {
+    let rows: [&[&str]; 2] = [&["siman", "--version"], &["siman", "-V"]];
+    assert_eq!(rt;
+        first_helped_otherwise(rt.alloc(), &rows, "siman 0.1.0\n"),
+        None
+    );
+}
+
+#[test]
 fn help_of_a_command_goes_out_with_status_0(rt: HostRuntime) {
     let pdu_help =
-        "Shows the PDU of a datagram\n\nUsage: siman pdu <HEX>\n\nArguments:\n  <HEX>  The bytes of the datagram, as pairs of hex digits\n\nOptions:\n  -h, --help  Print help\n";
+        "Shows the PDU of a datagram\n\nUsage: siman pdu <HEX>\n\nArguments:\n  <HEX>  The bytes of the datagram, as pairs of hex digits\n\nOptions:\n  -h, --help  Print help\n\nExample:\n  siman pdu 07010B0500000000001C000000010001000000020003000700000001\n";
     let check_help =
-        "Checks whether a certificate explains a recording, and reports what it says\n\nUsage: siman check <REC> <CERT>\n\nArguments:\n  <REC>   The file of the recording\n  <CERT>  The file of the certificate\n\nOptions:\n  -h, --help  Print help\n";
+        "Checks whether a certificate explains a recording, and reports what it says\n\nUsage: siman check <REC> <CERT>\n\nArguments:\n  <REC>   The file of the recording\n  <CERT>  The file of the certificate\n\nOptions:\n  -h, --help  Print help\n\nExample:\n  siman check exercise.dsrc exercise.dsct\n";
     assert!(rt; is_usage(rt.alloc(), &["siman", "pdu", "--help"], (0, pdu_help, "")));
     assert!(rt;
         is_usage(

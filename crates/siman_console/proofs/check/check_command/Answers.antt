@@ -1,16 +1,15 @@
 -- The command ends as what it judged says.
-use Rattle.std.proofs.Common.{subst}
-use Rattle.siman_console.specs.Ending.{Ends}
-use Rattle.siman_console.proofs.Endings.{check_ends, known_check_ends}
+use Rattle.exercise_recording.specs.Reading.{recording_at}
+use Rattle.exercise_check.specs.Certificate.{certificate_at}
+use Rattle.siman_console.specs.Check.{TellsCheck}
+use Rattle.siman_console.proofs.Endings.{ends_known_both, ends_with}
 use Rattle.siman_console.proofs.check.check_command.Goals as goal
 
 pub returns-clause-known : goal.returns-clause-known
 returns-clause-known g c =
-    let ends = subst (λ told. Ends told c.end.result (g.E.Write.contents c.args.errors.now) (g.E.Write.contents c.end.new.errors)) c.status_of.ensures c.end.ensures in
-    known_check_ends (g.R.Read.remaining c.args.recording) (g.C.Read.remaining c.args.certificate) _ _ _ _ _ _ c.check_files-judged.ensures.known ends
+    ends_known_both (λ r k told. TellsCheck (recording_at 268435456 r) (certificate_at 1048576 k) told (g.W.Write.contents c.args.out.now) (g.W.Write.contents c.judged.new.out)) (g.R.Read.remaining c.args.recording) (g.C.Read.remaining c.args.certificate) _ c.end.result _ _ c.judged.ensures.known c.end.ensures
 
 pub returns-clause-ends : goal.returns-clause-ends
 returns-clause-ends g c =
-    let ends = subst (λ told. Ends told c.end.result (g.E.Write.contents c.args.errors.now) (g.E.Write.contents c.end.new.errors)) c.status_of.ensures c.end.ensures in
-    let some = c.check_files-judged.ensures.some in
-    (some.0, some.1, check_ends some.0 some.1 _ _ _ _ _ _ some.2 ends)
+    let some = c.judged.ensures.some in
+    (some.0, some.1, (c.judged.result, some.2, ends_with _ c.end.result _ _ c.end.ensures))

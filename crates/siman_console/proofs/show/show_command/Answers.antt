@@ -1,16 +1,14 @@
 -- The command ends as what it showed says.
-use Rattle.std.proofs.Common.{subst}
-use Rattle.siman_console.specs.Ending.{Ends}
-use Rattle.siman_console.proofs.Endings.{show_ends, known_show_ends}
+use Rattle.exercise_recording.specs.Reading.{recording_at}
+use Rattle.siman_console.specs.Show.{TellsShow}
+use Rattle.siman_console.proofs.Endings.{ends_known, ends_with}
 use Rattle.siman_console.proofs.show.show_command.Goals as goal
 
 pub returns-clause-known : goal.returns-clause-known
 returns-clause-known g c =
-    let ends = subst (λ told. Ends told c.end.result (g.E.Write.contents c.args.errors.now) (g.E.Write.contents c.end.new.errors)) c.status_of.ensures c.end.ensures in
-    known_show_ends (g.R.Read.remaining c.args.recording) _ _ _ _ _ _ c.show.ensures.known ends
+    ends_known (λ bytes told. TellsShow (recording_at 268435456 bytes) told (g.W.Write.contents c.args.out.now) (g.W.Write.contents c.shown.new.out)) (g.R.Read.remaining c.args.recording) _ c.end.result _ _ c.shown.ensures.known c.end.ensures
 
 pub returns-clause-ends : goal.returns-clause-ends
 returns-clause-ends g c =
-    let ends = subst (λ told. Ends told c.end.result (g.E.Write.contents c.args.errors.now) (g.E.Write.contents c.end.new.errors)) c.status_of.ensures c.end.ensures in
-    let some = c.show.ensures.some in
-    (some.0, show_ends some.0 _ _ _ _ _ _ some.1 ends)
+    let some = c.shown.ensures.some in
+    (some.0, (c.shown.result, some.1, ends_with _ c.end.result _ _ c.end.ensures))

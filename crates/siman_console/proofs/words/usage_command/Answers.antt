@@ -1,0 +1,5 @@
+-- The status alone is answered.
+use Rattle.siman_console.proofs.words.usage_command.Goals as goal
+
+pub returns : goal.returns
+returns g c = (c.end_usage.result.told, c.end_usage.ensures)

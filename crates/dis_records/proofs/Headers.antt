@@ -3,6 +3,7 @@ use Rattle.std.proofs.Common.{◌≡◌, ◌≢◌, ◌≤◌, ℕ, Bool, true, 
 use Rattle.std.specs.Prelude.{if◌then◌else◌, ◌==◌, not, IfOk, IfErr}
 use Rattle.std.specs.Int.{w8, w16, w32}
 use Rattle.std.proofs.lemmas.Bool.{le-ltb, cases_lt, lt-ltb}
+use Rattle.dis_records.specs.declared.header.TheConstants.{LARGEST_DATAGRAM}
 use Rattle.dis_records.specs.declared.kind.Kind.{Kind}
 use Rattle.dis_records.specs.declared.kind.Kind.TheVariants as kinds
 use Rattle.dis_records.specs.declared.header.Header.{Header}
@@ -60,7 +61,7 @@ header_stands h b p =
     let family : number_at w8 3 b ≡ 5 = sym x.1.1.1.0 in
     let kind : is_kind_code (number_at w8 2 b) ≡ true = ap is_kind_code (sym x.1.1.0) ∙ is_kind_code-kind_code h.kind in
     let long : ltb (length b) 12 ≡ false = le-ltb (length b) 12 p.room in
-    let limit : ltb 8192 (length b) ≡ false = le-ltb 8192 (length b) p.limit in
+    let limit : ltb LARGEST_DATAGRAM (length b) ≡ false = le-ltb LARGEST_DATAGRAM (length b) p.limit in
     let own : number_at w16 8 b ≡ length b = sym x.1.1.1.1.1.0 ∙ p.length_is in
     let same : eqb (length b) (length b) ≡ true = search rules in
     rw (long, version, family, kind, limit, own, same) refl
@@ -110,7 +111,7 @@ header_reads b e =
     let version = unless (not (eqb (number_at w8 0 b) 7)) _ _ short.1 in
     let family = unless (not (eqb (number_at w8 3 b) 5)) _ _ version.1 in
     let kind = unless (not (is_kind_code (number_at w8 2 b))) _ _ family.1 in
-    let long = unless (ltb 8192 (length b)) _ _ kind.1 in
+    let long = unless (ltb LARGEST_DATAGRAM (length b)) _ _ kind.1 in
     let own = unless (not (eqb (number_at w16 8 b) (length b))) _ _ long.1 in
     record {
       stands = (

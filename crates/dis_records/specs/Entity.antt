@@ -3,6 +3,7 @@ use Rattle.std.specs.Prelude.{ℕ, Bool, true, false, ◌&&◌, ◌||◌, ◌==�
 use Rattle.std.specs.Int.{w16}
 use Rattle.dis_records.specs.declared.entity.EntityId.{EntityId}
 use Rattle.dis_records.specs.declared.entity.Scope.{Scope}
+use Rattle.dis_records.specs.declared.entity_number.TheConstants.{ANY_NUMBER}
 use Rattle.dis_records.specs.declared.entity.Scope.TheVariants.{One, All}
 use Rattle.dis_records.specs.declared.kind.Kind.{Kind}
 use Rattle.dis_records.specs.declared.kind.Kind.TheVariants as kinds
@@ -41,7 +42,7 @@ is_create kinds.Comment = false
 
 -- An entity number is open where it names no single entity: 0, 0xFFFF, and in a Create Entity 0xFFFE, the wish for a number of the receiver's choice (profile).
 abbrev pub is_open : Kind → ℕ → Bool
-is_open kind n = (n == 0) || (n == 0xFFFF) || ((n == 0xFFFE) && is_create kind)
+is_open kind n = (n == 0) || (n == 0xFFFF) || ((n == ANY_NUMBER) && is_create kind)
 
 -- A request's receiving number n and its answer's originating number m fit where they are equal or one of them is open (profile).
 abbrev pub are_fitting : Kind → ℕ → ℕ → Bool

@@ -6,6 +6,7 @@ use Rattle.dis_records.specs.declared.header.Version.{Version}
 use Rattle.dis_records.specs.declared.header.Version.TheVariants as versions
 use Rattle.dis_records.specs.declared.header.HeaderFault.{HeaderFault}
 use Rattle.dis_records.specs.declared.header.HeaderFault.TheVariants as faults
+use Rattle.dis_records.specs.declared.header.TheConstants.{LARGEST_DATAGRAM}
 use Rattle.dis_records.specs.Kind.{kind_code, kind_from, is_kind_code}
 use Rattle.dis_records.specs.Layout.{Field, Byte, Number, Padding, StandAt, number_at}
 
@@ -35,7 +36,7 @@ pub record IsHeader (h : Header) (b : List ℕ) : Type 0 where
   pub stands : StandAt (header_layout h) 0 b
   pub length_is : h.length ≡ length b
   pub room : 12 ≤ length b
-  pub limit : length b ≤ 8192
+  pub limit : length b ≤ LARGEST_DATAGRAM
 
 -- the first refusal that holds
 abbrev pub header_refusal : List ℕ → Option HeaderFault
@@ -44,6 +45,6 @@ header_refusal b =
     else (if not (number_at w8 0 b == 7) then Some (faults.Version (number_at w8 0 b))
     else (if not (number_at w8 3 b == 5) then Some (faults.Family (number_at w8 3 b))
     else (if not (is_kind_code (number_at w8 2 b)) then Some (faults.Kind (number_at w8 2 b))
-    else (if nat_lt 8192 (length b) then Some faults.Long
+    else (if nat_lt LARGEST_DATAGRAM (length b) then Some faults.Long
     else (if not (number_at w16 8 b == length b) then Some (faults.LengthField (number_at w16 8 b))
     else None)))))

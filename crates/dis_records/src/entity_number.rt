@@ -13,10 +13,11 @@ const NO_ENTITY: u16 = 0;
 const ALL_ENTITIES: u16 = 0xFFFF;
 
 /// In a Create Entity: a number of the receiver's choice (profile).
-const ANY_NUMBER: u16 = 0xFFFE;
+pub const ANY_NUMBER: u16 = 0xFFFE;
 
-/// Whether a number names no single entity in a request of this kind, or in its answer.
-fn names_none(kind: Kind, number: u16) -> bool
+/// Whether a number names no single entity in a request of this kind, or in its answer: 0, 0xFFFF,
+/// and in a Create Entity 0xFFFE (profile).
+pub fn is_open(kind: Kind, number: u16) -> bool
     ensures { result ≡ is_open kind number }
 {
     number == NO_ENTITY || number == ALL_ENTITIES || number == ANY_NUMBER && kind.is_create()
@@ -27,7 +28,7 @@ fn names_none(kind: Kind, number: u16) -> bool
 pub fn fits(kind: Kind, receiving: u16, originating: u16) -> bool
     ensures { result ≡ are_fitting kind receiving originating }
 {
-    receiving == originating || names_none(kind, receiving) || names_none(kind, originating)
+    receiving == originating || is_open(kind, receiving) || is_open(kind, originating)
 }
 
 /// The entities that the receiving number of a request of this kind and the originating number of
@@ -36,9 +37,9 @@ pub fn scope(kind: Kind, receiving: u16, originating: u16) -> Scope
     requires { IsTrue (are_fitting kind receiving originating) }
     ensures { result ≡ scope_of kind receiving originating }
 {
-    if !names_none(kind, receiving) {
+    if !is_open(kind, receiving) {
         Scope::One(receiving)
-    } else if !names_none(kind, originating) {
+    } else if !is_open(kind, originating) {
         Scope::One(originating)
     } else {
         Scope::All

@@ -12,7 +12,7 @@ use thiserror::Error;
 pub const HEADER_SIZE: usize = 12;
 
 /// The size in bytes of the largest datagram (profile).
-pub const LARGEST: usize = 8192;
+pub const LARGEST_DATAGRAM: usize = 8192;
 
 /// The protocol family Simulation Management.
 const FAMILY: u8 = 5;
@@ -104,7 +104,7 @@ fn read_fields(bytes: &[u8]) -> Result<Header, HeaderFault>
     let Some(kind) = Kind::from_code(code) else {
         return Err(HeaderFault::Kind(code));
     };
-    if bytes.len() > LARGEST {
+    if bytes.len() > LARGEST_DATAGRAM {
         return Err(HeaderFault::Long);
     }
     let length = u16_at(bytes, 8);

@@ -24,7 +24,9 @@ pub use address::{Address, addresses_are_ordered};
 pub use clock_time::ClockTime;
 pub use datum::{DatumFault, FixedDatum, VariableDatum, VariableView, padded_size};
 pub use entity::{EntityId, Scope, addressed, addresses};
-pub use entity_number::{fits, scope};
+pub use entity_number::{ANY_NUMBER, fits, is_open, scope};
 pub use entity_state::EntityState;
-pub use header::{HEADER_SIZE, Header, HeaderFault, LARGEST, Version, read_header, write_header};
+pub use header::{
+    HEADER_SIZE, Header, HeaderFault, LARGEST_DATAGRAM, Version, read_header, write_header,
+};
 pub use kind::Kind;

@@ -2,6 +2,7 @@
 use Rattle.std.proofs.Common.{◌≡◌, ⊎_elim, inl, inr, ℕ, zero, suc, ◌<◌, List, [], ◌∷◌, length, Option, Some, None, Bool, true, false, arith}
 use Rattle.std.specs.Prelude.{◌⊎◌, ◌&&◌, ◌||◌, ◌==◌, nat_lt, nat_le, slice_index_or}
 use Rattle.std.proofs.lemmas.Bool.{and_parts, eqb-true, ltb-true}
+use Rattle.exercise_model.specs.declared.station.TheConstants.{MOST_STATIONS}
 use Rattle.dis_records.specs.Address.{Pair}
 use Rattle.siman_pdus.specs.declared.pdu.Pdu.{Pdu}
 use Rattle.exercise_model.specs.Station.{StationData, is_below, is_above, are_rising}
@@ -58,6 +59,6 @@ no_two_origins a c p one other below =
 -- a PDU comes from one station
 pub one_origin : (w : SettingData) → IsSetting w → (p : Pdu) (i j : ℕ) → i < j → j < length w.stations → is_from (station_in w j).address p ≡ true → is_from (station_in w i).address p ≡ true → ⊥
 one_origin w setting p i j below within here there =
-    let some = and_parts (nat_le 1 (length w.stations)) (nat_le (length w.stations) 256 && are_rising None w.stations) setting.stations in
-    let rising = and_parts (nat_le (length w.stations) 256) (are_rising None w.stations) some.1 in
+    let some = and_parts (nat_le 1 (length w.stations)) (nat_le (length w.stations) MOST_STATIONS && are_rising None w.stations) setting.stations in
+    let rising = and_parts (nat_le (length w.stations) MOST_STATIONS) (are_rising None w.stations) some.1 in
     no_two_origins (station_in w i).address (station_in w j).address p there here (rising_at None w.stations rising.1 i j below within)

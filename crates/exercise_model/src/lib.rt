@@ -27,7 +27,8 @@ mod station;
 
 pub use acknowledge::{AcknowledgeKey, key_of, responds, responds_under};
 pub use cause::Cause;
-pub use entry::{EntryView, LARGEST_DATAGRAM, LogEntry};
+pub use dis_records::LARGEST_DATAGRAM;
+pub use entry::{EntryView, LogEntry};
 pub use exchange::{is_answer, is_asked, is_from, is_under_identifier};
 pub use fault::LogFault;
 pub use laws::first_answers_change_states;

@@ -1,8 +1,10 @@
 -- What holds of the answer to a request.
-use Rattle.std.proofs.Common.{◌≡◌, ℕ, zero, suc, ◌≤◌, refl, ap, sym, ◌∙◌, subst, arith}
+use Rattle.std.proofs.Common.{◌≡◌, ℕ, ◌+◌, zero, suc, ◌≤◌, refl, ap, sym, ◌∙◌, subst, arith}
 use Rattle.std.specs.Prelude.{Bool, true, false, ◌==◌, ◌&&◌, ◌||◌, not, nat_le, Option, Some, None, if◌then◌else◌}
 use Rattle.std.specs.Option.{option_or}
 use Rattle.std.proofs.lemmas.Bool.Decides.{nat_tests}
+use Rattle.dis_records.specs.declared.entity_number.TheConstants.{ANY_NUMBER}
+use Rattle.exercise_model.specs.declared.station.TheConstants.{LARGEST_ENTITY}
 use Rattle.dis_records.specs.declared.entity_state.EntityState.{EntityState}
 use Rattle.dis_records.specs.declared.kind.Kind.{Kind}
 use Rattle.dis_records.specs.declared.kind.Kind.TheVariants as kinds
@@ -86,23 +88,23 @@ below_passes test (suc n) m e = by (first_below test n) (below_passes test n m) 
   by None rest f = here (test n) refl f
 
 entity_closed : (n : ℕ) → is_entity n ≡ true → is_open kinds.CreateEntity n ≡ false
-entity_closed n e = let p = and_parts (nat_le 1 n) (nat_le n 65533) e in closed p.0 p.1 where
-  closed : nat_le 1 n ≡ true → nat_le n 65533 ≡ true → is_open kinds.CreateEntity n ≡ false
+entity_closed n e = let p = and_parts (nat_le 1 n) (nat_le n LARGEST_ENTITY) e in closed p.0 p.1 where
+  closed : nat_le 1 n ≡ true → nat_le n LARGEST_ENTITY ≡ true → is_open kinds.CreateEntity n ≡ false
   closed low high =
       let l : 1 ≤ n = grind (arith, nat_tests) in
-      let h : n ≤ 65533 = grind (arith, nat_tests) in
+      let h : n ≤ LARGEST_ENTITY = grind (arith, nat_tests) in
       let a : (n == 0) ≡ false = grind (arith, nat_tests) in
       let b : (n == 65535) ≡ false = grind (arith, nat_tests) in
-      let c : (n == 65534) ≡ false = grind (arith, nat_tests) in
+      let c : (n == ANY_NUMBER) ≡ false = grind (arith, nat_tests) in
       rw (a, b, c) refl
 
 some_one : (x : ℕ) (m : ℕ) → ◌≡◌ {A = Option ℕ} (Some x) (Some m) → x ≡ m
 some_one x m e = cc
 
-chosen_any : (y : ℕ → EntityState) (n m : ℕ) → has_place y ≡ true → (n == 0xFFFE) ≡ true → first_below (is_free y) 65534 ≡ Some m → IsChosen y n m
+chosen_any : (y : ℕ → EntityState) (n m : ℕ) → has_place y ≡ true → (n == ANY_NUMBER) ≡ true → first_below (is_free y) (LARGEST_ENTITY + 1) ≡ Some m → IsChosen y n m
 chosen_any y n m place any e =
-    let free : is_free y m ≡ true = below_passes (is_free y) 65534 m e in
-    let is : n ≡ 65534 = grind (arith, nat_tests) in
+    let free : is_free y m ≡ true = below_passes (is_free y) (LARGEST_ENTITY + 1) m e in
+    let is : n ≡ ANY_NUMBER = grind (arith, nat_tests) in
     let opened : is_open kinds.CreateEntity n ≡ true = ap (is_open kinds.CreateEntity) is in
     record {
       place = place;
@@ -122,14 +124,14 @@ chosen_named y n m place true free e =
       scope = ap (λ (b : Bool). if not b then One n else (if not (is_open kinds.CreateEntity n) then One n else All)) (entity_closed n (and_parts (is_entity n) (is_absent (y n)) free).0);
     })
 
-chosen_by : (y : ℕ → EntityState) (n m : ℕ) (b : Bool) → has_place y ≡ b → (c : Bool) → (n == 0xFFFE) ≡ c
-    → (if b then (if c then first_below (is_free y) 65534 else (if is_free y n then Some n else None)) else None) ≡ Some m → IsChosen y n m
+chosen_by : (y : ℕ → EntityState) (n m : ℕ) (b : Bool) → has_place y ≡ b → (c : Bool) → (n == ANY_NUMBER) ≡ c
+    → (if b then (if c then first_below (is_free y) (LARGEST_ENTITY + 1) else (if is_free y n then Some n else None)) else None) ≡ Some m → IsChosen y n m
 chosen_by y n m false place c any e = absurd cc
 chosen_by y n m true place true any e = chosen_any y n m place any e
 chosen_by y n m true place false any e = chosen_named y n m place (is_free y n) refl e
 
 pub is_chosen : (y : ℕ → EntityState) (n m : ℕ) → chosen y n ≡ Some m → IsChosen y n m
-is_chosen y n m e = chosen_by y n m (has_place y) refl (n == 0xFFFE) refl e
+is_chosen y n m e = chosen_by y n m (has_place y) refl (n == ANY_NUMBER) refl e
 
 -- It answers the request.
 

@@ -2,6 +2,9 @@
 use Rattle.std.proofs.Common.{◌≡◌, ℕ, zero, suc, ◌+◌, ◌<◌, ◌≤◌, [], ◌∷◌, length, refl, ap, sym, subst, ◌∙◌, arith}
 use Rattle.std.specs.Prelude.{Bool, true, false, ◌==◌, ◌&&◌, not, nat_lt, nat_le, Some, None, if◌then◌else◌}
 use Rattle.std.proofs.lemmas.Bool.Decides.{nat_tests}
+use Rattle.dis_records.specs.declared.entity_number.TheConstants.{ANY_NUMBER}
+use Rattle.exercise_model.specs.declared.station.TheConstants.{LARGEST_ENTITY}
+use Rattle.siman_application.specs.declared.entity_list.TheConstants.{MOST_ENTITIES}
 use Rattle.dis_records.specs.declared.entity_state.EntityState.{EntityState}
 use Rattle.dis_records.specs.declared.entity_state.EntityState.TheVariants.{Absent, Stopped, Running}
 use Rattle.dis_records.specs.declared.kind.Kind.{Kind}
@@ -41,7 +44,7 @@ pub length-inserted : (n : ℕ) (y : EntityState) (xs : Entities) → length (in
 length-inserted n y [] = refl
 length-inserted n y (x ∷ xs) = elim (nat_lt x.0 n) as (λ b. length (if b then x ∷ inserted n y xs else (n, y) ∷ x ∷ xs) ≡ suc (suc (length xs))) [ true ↦ ap suc (length-inserted n y xs) | false ↦ refl ]
 
-pub opening_inserted_by : (a n : ℕ) (y : EntityState) (x : ℕ × EntityState) (xs : Entities) → a < n → n ≤ 65533 → is_absent y ≡ false → is_opening_above a (x ∷ xs) ≡ true → listed_state (x ∷ xs) n ≡ Absent
+pub opening_inserted_by : (a n : ℕ) (y : EntityState) (x : ℕ × EntityState) (xs : Entities) → a < n → n ≤ LARGEST_ENTITY → is_absent y ≡ false → is_opening_above a (x ∷ xs) ≡ true → listed_state (x ∷ xs) n ≡ Absent
     → (x.0 < n → listed_state xs n ≡ Absent → is_opening_above x.0 (inserted n y xs) ≡ true)
     → (b : Bool) → nat_lt x.0 n ≡ b → is_opening_above a (if b then x ∷ inserted n y xs else (n, y) ∷ x ∷ xs) ≡ true
 opening_inserted_by a n y x xs above within there o absent rest true t =
@@ -58,7 +61,7 @@ opening_inserted_by a n y x xs above within there o absent rest false t =
       apart_of true u other low = grind (arith, nat_tests)
       apart_of false u other low = let same : x.0 ≡ n = grind (arith, nat_tests) in absurd (other same)
 
-pub opening_inserted : (a n : ℕ) (y : EntityState) (xs : Entities) → a < n → n ≤ 65533 → is_absent y ≡ false → is_opening_above a xs ≡ true → listed_state xs n ≡ Absent → is_opening_above a (inserted n y xs) ≡ true
+pub opening_inserted : (a n : ℕ) (y : EntityState) (xs : Entities) → a < n → n ≤ LARGEST_ENTITY → is_absent y ≡ false → is_opening_above a xs ≡ true → listed_state xs n ≡ Absent → is_opening_above a (inserted n y xs) ≡ true
 opening_inserted a n y [] above within there o absent = rises_to a (n, y) [] (record { above = above; within = within; there = there; rest = refl })
 opening_inserted a n y (x ∷ xs) above within there o absent =
     opening_inserted_by a n y x xs above within there o absent
@@ -206,11 +209,11 @@ up_to_none a (x ∷ xs) o =
     let none : ◌≡◌ {A = ℕ} (if nat_le x.0 0 then 1 else 0) 0 = let past : nat_le x.0 0 ≡ false = grind (arith, nat_tests) in ap (λ (b : Bool). if b then 1 else 0) past in
     omega (arith, none, up_to_none x.0 xs r.rest)
 
-pub up_to_all : (a : ℕ) (xs : Entities) → is_opening_above a xs ≡ true → up_to 65533 xs ≡ length xs
+pub up_to_all : (a : ℕ) (xs : Entities) → is_opening_above a xs ≡ true → up_to LARGEST_ENTITY xs ≡ length xs
 up_to_all a [] o = refl
 up_to_all a (x ∷ xs) o =
     let r : Rises a x.0 x.1 xs = rises_from a x xs o in
-    let one : ◌≡◌ {A = ℕ} (if nat_le x.0 65533 then 1 else 0) 1 = ap (λ (b : Bool). if b then 1 else 0) (le-true x.0 65533 r.within) in
+    let one : ◌≡◌ {A = ℕ} (if nat_le x.0 LARGEST_ENTITY then 1 else 0) 1 = ap (λ (b : Bool). if b then 1 else 0) (le-true x.0 LARGEST_ENTITY r.within) in
     omega (arith, one, up_to_all x.0 xs r.rest)
 
 pub count_up_to : (a n : ℕ) (xs : Entities) → is_opening_above a xs ≡ true → count_present (states_in xs) n ≡ up_to n xs
@@ -218,18 +221,18 @@ unfolding count_present
 count_up_to a zero xs o = sym (up_to_none a xs o)
 count_up_to a (suc n) xs o = ap (λ m. m + (if is_absent (listed_state xs (suc n)) then 0 else 1)) (count_up_to a n xs o) ∙ sym (up_to_more a n xs o)
 
-pub count_is_length : (xs : Entities) → is_opening xs ≡ true → count_present (states_in xs) 65533 ≡ length xs
-count_is_length xs o = count_up_to 0 65533 xs o ∙ up_to_all 0 xs o
+pub count_is_length : (xs : Entities) → is_opening xs ≡ true → count_present (states_in xs) LARGEST_ENTITY ≡ length xs
+count_is_length xs o = count_up_to 0 LARGEST_ENTITY xs o ∙ up_to_all 0 xs o
 
-pub has_few : (xs : Entities) → is_opening xs ≡ true → has_place (states_in xs) ≡ true → length xs < 4096
-has_few xs o e = let t : nat_lt (count_present (states_in xs) 65533) 4096 ≡ true = e in let few : count_present (states_in xs) 65533 < 4096 = grind (arith, nat_tests) in omega (arith, count_is_length xs o)
+pub has_few : (xs : Entities) → is_opening xs ≡ true → has_place (states_in xs) ≡ true → length xs < MOST_ENTITIES
+has_few xs o e = let t : nat_lt (count_present (states_in xs) LARGEST_ENTITY) MOST_ENTITIES ≡ true = e in let few : count_present (states_in xs) LARGEST_ENTITY < MOST_ENTITIES = grind (arith, nat_tests) in omega (arith, count_is_length xs o)
 
 -- A change made.
 
 -- what a change makes of a list
 pub record Makes (c : Change) (old new : Entities) : Type 0 where
   pub opening : is_opening new ≡ true
-  pub few : length new ≤ 4096
+  pub few : length new ≤ MOST_ENTITIES
   pub states : states_in new ≡ (λ e. changed e (listed_state old e) c)
 
 pub same_change : (c : Change) (k : Kind) (s : Scope) → c.kind ≡ k → c.scope ≡ s → record { kind = k; scope = s } ≡ c
@@ -242,10 +245,10 @@ not_false false e = absurd cc
 pub creates : (n : ℕ) (xs : Entities) → is_opening xs ≡ true → IsPossible (record { kind = kinds.CreateEntity; scope = One n }) (states_in xs) → Makes (record { kind = kinds.CreateEntity; scope = One n }) xs (inserted n Stopped xs)
 creates n xs o possible =
     let free = and_parts (is_entity n) (is_absent (listed_state xs n)) (not_false (is_entity n && is_absent (listed_state xs n)) possible.possible) in
-    let range = and_parts (nat_le 1 n) (nat_le n 65533) free.0 in
+    let range = and_parts (nat_le 1 n) (nat_le n LARGEST_ENTITY) free.0 in
     let low : 1 ≤ n = let t : nat_le 1 n ≡ true = range.0 in grind (arith, nat_tests) in
-    let high : n ≤ 65533 = let t : nat_le n 65533 ≡ true = range.1 in grind (arith, nat_tests) in
-    let few : length xs < 4096 = has_few xs o (possible.place refl) in
+    let high : n ≤ LARGEST_ENTITY = let t : nat_le n LARGEST_ENTITY ≡ true = range.1 in grind (arith, nat_tests) in
+    let few : length xs < MOST_ENTITIES = has_few xs o (possible.place refl) in
     record {
       opening = opening_inserted 0 n Stopped xs (omega arith) high refl o (absent_is (listed_state xs n) free.1);
       few = omega (arith, length-inserted n Stopped xs);
@@ -263,7 +266,7 @@ creates_all c xs p q possible =
     let same = same_change c kinds.CreateEntity All p q in
     let clash : true ≡ false = (subst (λ (d : Change). IsPossible d (states_in xs)) (sym same) possible).possible in absurd cc
 
-pub remove_makes : (c : Change) (n : ℕ) (xs : Entities) → c.kind ≡ kinds.RemoveEntity → c.scope ≡ One n → is_opening xs ≡ true → length xs ≤ 4096 → Makes c xs (removed n xs)
+pub remove_makes : (c : Change) (n : ℕ) (xs : Entities) → c.kind ≡ kinds.RemoveEntity → c.scope ≡ One n → is_opening xs ≡ true → length xs ≤ MOST_ENTITIES → Makes c xs (removed n xs)
 remove_makes c n xs p q o few =
     subst (λ (d : Change). Makes d xs (removed n xs)) (same_change c kinds.RemoveEntity (One n) p q)
     (record { opening = opening_removed 0 n xs o; few = omega (arith, length-removed n xs); states = λ i e. (state_removed 0 n e xs o) i })
@@ -272,29 +275,29 @@ pub clear_makes : (c : Change) (xs : Entities) → c.kind ≡ kinds.RemoveEntity
 clear_makes c xs p q =
     subst (λ (d : Change). Makes d xs []) (same_change c kinds.RemoveEntity All p q) (record { opening = refl; few = omega arith; states = refl })
 
-pub each_makes : (c : Change) (xs : Entities) → ((c.kind ≡ kinds.CreateEntity) → ⊥) → ((c.kind ≡ kinds.RemoveEntity) → ⊥) → is_opening xs ≡ true → length xs ≤ 4096 → Makes c xs (all_changed c xs)
+pub each_makes : (c : Change) (xs : Entities) → ((c.kind ≡ kinds.CreateEntity) → ⊥) → ((c.kind ≡ kinds.RemoveEntity) → ⊥) → is_opening xs ≡ true → length xs ≤ MOST_ENTITIES → Makes c xs (all_changed c xs)
 each_makes c xs p q o few =
     let keeps = made_keeps c.kind p q in
     record { opening = opening_changed c keeps 0 xs o; few = omega (arith, length-all_changed c xs); states = λ i e. (state_changed c keeps e xs) i }
 
 -- The number that is chosen.
 
-pub chosen_of : (y : ℕ → EntityState) (n m : ℕ) (b : Bool) → has_place y ≡ b → chosen y n ≡ (if b then (if n == 0xFFFE then first_below (is_free y) 65534 else (if is_free y n then Some n else None)) else None)
-chosen_of y n m b e = ap (λ (c : Bool). if c then (if n == 0xFFFE then first_below (is_free y) 65534 else (if is_free y n then Some n else None)) else None) e
+pub chosen_of : (y : ℕ → EntityState) (n m : ℕ) (b : Bool) → has_place y ≡ b → chosen y n ≡ (if b then (if n == ANY_NUMBER then first_below (is_free y) (LARGEST_ENTITY + 1) else (if is_free y n then Some n else None)) else None)
+chosen_of y n m b e = ap (λ (c : Bool). if c then (if n == ANY_NUMBER then first_below (is_free y) (LARGEST_ENTITY + 1) else (if is_free y n then Some n else None)) else None) e
 
-pub place_there : (xs : Entities) (b : Bool) → is_opening xs ≡ true → nat_lt (length xs) 4096 ≡ b → has_place (states_in xs) ≡ b
-place_there xs b o e = ap (λ m. nat_lt m 4096) (count_is_length xs o) ∙ e
+pub place_there : (xs : Entities) (b : Bool) → is_opening xs ≡ true → nat_lt (length xs) MOST_ENTITIES ≡ b → has_place (states_in xs) ≡ b
+place_there xs b o e = ap (λ m. nat_lt m MOST_ENTITIES) (count_is_length xs o) ∙ e
 
-pub chosen_none : (xs : Entities) (n : ℕ) → is_opening xs ≡ true → 4096 ≤ length xs → chosen (states_in xs) n ≡ None
+pub chosen_none : (xs : Entities) (n : ℕ) → is_opening xs ≡ true → MOST_ENTITIES ≤ length xs → chosen (states_in xs) n ≡ None
 chosen_none xs n o full = chosen_of (states_in xs) n 0 false (place_there xs false o (grind (arith, nat_tests)))
 
-pub chosen_least : (xs : Entities) (n m : ℕ) → is_opening xs ≡ true → length xs < 4096 → n ≡ 0xFFFE → first_below (is_free (states_in xs)) 65534 ≡ Some m → chosen (states_in xs) n ≡ Some m
+pub chosen_least : (xs : Entities) (n m : ℕ) → is_opening xs ≡ true → length xs < MOST_ENTITIES → n ≡ ANY_NUMBER → first_below (is_free (states_in xs)) (LARGEST_ENTITY + 1) ≡ Some m → chosen (states_in xs) n ≡ Some m
 chosen_least xs n m o few any least =
-    chosen_of (states_in xs) n 0 true (place_there xs true o (below-true (length xs) 4096 few))
-    ∙ ap (λ (b : Bool). if b then first_below (is_free (states_in xs)) 65534 else (if is_free (states_in xs) n then Some n else None)) (equal-true n 0xFFFE any) ∙ least
+    chosen_of (states_in xs) n 0 true (place_there xs true o (below-true (length xs) MOST_ENTITIES few))
+    ∙ ap (λ (b : Bool). if b then first_below (is_free (states_in xs)) (LARGEST_ENTITY + 1) else (if is_free (states_in xs) n then Some n else None)) (equal-true n ANY_NUMBER any) ∙ least
 
-pub chosen_own : (xs : Entities) (n : ℕ) → is_opening xs ≡ true → length xs < 4096 → ((n ≡ 0xFFFE) → ⊥) → (b : Bool) → is_free (states_in xs) n ≡ b → chosen (states_in xs) n ≡ (if b then Some n else None)
+pub chosen_own : (xs : Entities) (n : ℕ) → is_opening xs ≡ true → length xs < MOST_ENTITIES → ((n ≡ ANY_NUMBER) → ⊥) → (b : Bool) → is_free (states_in xs) n ≡ b → chosen (states_in xs) n ≡ (if b then Some n else None)
 chosen_own xs n o few own b free =
-    chosen_of (states_in xs) n 0 true (place_there xs true o (below-true (length xs) 4096 few))
-    ∙ ap (λ (c : Bool). if c then first_below (is_free (states_in xs)) 65534 else (if is_free (states_in xs) n then Some n else None)) (other_number n 0xFFFE own)
+    chosen_of (states_in xs) n 0 true (place_there xs true o (below-true (length xs) MOST_ENTITIES few))
+    ∙ ap (λ (c : Bool). if c then first_below (is_free (states_in xs)) (LARGEST_ENTITY + 1) else (if is_free (states_in xs) n then Some n else None)) (other_number n ANY_NUMBER own)
     ∙ ap (λ (c : Bool). if c then Some n else None) free

@@ -3,6 +3,7 @@ use Rattle.std.proofs.Common.{◌≡◌, ℕ, zero, suc, ◌+◌, ◌-◌, ◌*�
 use Rattle.std.specs.Prelude.{Bool, true, false, nat_le, if◌then◌else◌}
 use Rattle.std.proofs.lemmas.Bool.Decides.{nat_tests}
 use Rattle.std.proofs.lemmas.List.{take_all}
+use Rattle.dis_records.specs.declared.header.TheConstants.{LARGEST_DATAGRAM}
 use Rattle.dis_records.specs.declared.datum.FixedDatum.{FixedDatum}
 use Rattle.dis_records.specs.Datum.{Datum, padded, fixed_layouts, variable_layouts}
 use Rattle.dis_records.specs.Layout.{Field, size, bytes_for}
@@ -150,9 +151,9 @@ filled_full d many =
 cut_by : (a : Outfit) (q : Pdu) (stamp request : ℕ) (d : DatumLists) (k : ℕ) → Filled d k → data_answer a q stamp request d ≡ data_pdu a q stamp request (cut_records d)
 cut_by a q stamp request d k f =
     ap (λ (n : ℕ). data_pdu a q stamp request (first_records n d))
-    (largest_is (λ n. nat_le (pdu_size (data_pdu a q stamp request (first_records n d))) 8192) k (record_count d) f.within
-    (λ some. le-true (pdu_size (data_pdu a q stamp request (first_records k d))) 8192 (omega (arith, data_size a q stamp request (first_records k d), f.fits)))
-    (λ j lt high. le-false (pdu_size (data_pdu a q stamp request (first_records j d))) 8192 (omega (arith, data_size a q stamp request (first_records j d), f.most j lt high))))
+    (largest_is (λ n. nat_le (pdu_size (data_pdu a q stamp request (first_records n d))) LARGEST_DATAGRAM) k (record_count d) f.within
+    (λ some. le-true (pdu_size (data_pdu a q stamp request (first_records k d))) LARGEST_DATAGRAM (omega (arith, data_size a q stamp request (first_records k d), f.fits)))
+    (λ j lt high. le-false (pdu_size (data_pdu a q stamp request (first_records j d))) LARGEST_DATAGRAM (omega (arith, data_size a q stamp request (first_records j d), f.most j lt high))))
     ∙ ap (data_pdu a q stamp request) f.same
 
 pub cut_is : (a : Outfit) (q : Pdu) (stamp request : ℕ) (d : DatumLists) → data_answer a q stamp request d ≡ data_pdu a q stamp request (cut_records d)

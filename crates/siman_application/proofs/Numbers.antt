@@ -3,6 +3,7 @@ use Rattle.std.proofs.Common.{◌≡◌, ℕ, zero, suc, ◌+◌, ◌<◌, ◌�
 use Rattle.std.specs.Prelude.{Bool, true, false, ◌==◌, ◌&&◌, not, nat_lt, nat_le, Option, Some, None, if◌then◌else◌}
 use Rattle.std.specs.Option.{option_or}
 use Rattle.std.proofs.lemmas.Bool.Decides.{nat_tests}
+use Rattle.exercise_model.specs.declared.station.TheConstants.{LARGEST_ENTITY}
 use Rattle.dis_records.specs.declared.entity_state.EntityState.{EntityState}
 use Rattle.dis_records.specs.declared.entity_state.EntityState.TheVariants.{Absent}
 use Rattle.exercise_model.specs.Station.{is_entity, is_absent, is_opening, is_opening_above, listed_state}
@@ -32,7 +33,7 @@ equal-true m n h = grind (arith, nat_tests)
 -- an entity at the head of a list that rises
 pub record Rises (a n : ℕ) (y : EntityState) (xs : Entities) : Type 0 where
   pub above : a < n
-  pub within : n ≤ 65533
+  pub within : n ≤ LARGEST_ENTITY
   pub there : is_absent y ≡ false
   pub rest : is_opening_above n xs ≡ true
 
@@ -42,20 +43,20 @@ not_true false e = refl
 
 pub rises_from : (a : ℕ) (x : ℕ × EntityState) (xs : Entities) → is_opening_above a (x ∷ xs) ≡ true → Rises a x.0 x.1 xs
 rises_from a x xs e =
-    let p = and_parts (nat_lt a x.0) (nat_le x.0 65533 && (not (is_absent x.1) && is_opening_above x.0 xs)) e in
-    let q = and_parts (nat_le x.0 65533) (not (is_absent x.1) && is_opening_above x.0 xs) p.1 in
+    let p = and_parts (nat_lt a x.0) (nat_le x.0 LARGEST_ENTITY && (not (is_absent x.1) && is_opening_above x.0 xs)) e in
+    let q = and_parts (nat_le x.0 LARGEST_ENTITY) (not (is_absent x.1) && is_opening_above x.0 xs) p.1 in
     let r = and_parts (not (is_absent x.1)) (is_opening_above x.0 xs) q.1 in
     record {
       above = let t : nat_lt a x.0 ≡ true = p.0 in grind (arith, nat_tests);
-      within = let t : nat_le x.0 65533 ≡ true = q.0 in grind (arith, nat_tests);
+      within = let t : nat_le x.0 LARGEST_ENTITY ≡ true = q.0 in grind (arith, nat_tests);
       there = not_true (is_absent x.1) r.0;
       rest = r.1;
     }
 
 pub rises_to : (a : ℕ) (x : ℕ × EntityState) (xs : Entities) → Rises a x.0 x.1 xs → is_opening_above a (x ∷ xs) ≡ true
 rises_to a x xs r =
-    and_both (nat_lt a x.0) (nat_le x.0 65533 && (not (is_absent x.1) && is_opening_above x.0 xs)) (below-true a x.0 r.above)
-    (and_both (nat_le x.0 65533) (not (is_absent x.1) && is_opening_above x.0 xs) (le-true x.0 65533 r.within)
+    and_both (nat_lt a x.0) (nat_le x.0 LARGEST_ENTITY && (not (is_absent x.1) && is_opening_above x.0 xs)) (below-true a x.0 r.above)
+    (and_both (nat_le x.0 LARGEST_ENTITY) (not (is_absent x.1) && is_opening_above x.0 xs) (le-true x.0 LARGEST_ENTITY r.within)
     (and_both (not (is_absent x.1)) (is_opening_above x.0 xs) (ap not r.there) r.rest))
 
 pub other_number : (m n : ℕ) → ((m ≡ n) → ⊥) → (m == n) ≡ false
@@ -80,11 +81,11 @@ absent_up_to a e (x ∷ xs) o h =
     state_past x.0 e x.1 xs (λ same. omega arith) ∙ absent_up_to x.0 e xs r.rest (omega arith)
 
 -- nor are those past the largest
-pub absent_past : (a e : ℕ) (xs : Entities) → is_opening_above a xs ≡ true → 65533 < e → listed_state xs e ≡ Absent
+pub absent_past : (a e : ℕ) (xs : Entities) → is_opening_above a xs ≡ true → LARGEST_ENTITY < e → listed_state xs e ≡ Absent
 absent_past a e [] o h = refl
 absent_past a e (x ∷ xs) o h =
     let r : Rises a x.0 x.1 xs = rises_from a x xs o in
-    let within : x.0 ≤ 65533 = r.within in
+    let within : x.0 ≤ LARGEST_ENTITY = r.within in
     state_past x.0 e x.1 xs (λ same. omega arith) ∙ absent_past x.0 e xs r.rest h
 
 -- The least free number.
@@ -122,8 +123,8 @@ pub record LeastAt (xs : Entities) (i least : ℕ) : Type 0 where
 pub least_start : (xs : Entities) → is_opening xs ≡ true → LeastAt xs 0 1
 least_start xs o = record { least_is = omega arith; rises = o; above = λ e h. refl; none = none_below_one (states_in xs) }
 
-pub is_entity-true : (e : ℕ) → 1 ≤ e → e ≤ 65533 → is_entity e ≡ true
-is_entity-true e low high = and_both (nat_le 1 e) (nat_le e 65533) (le-true 1 e low) (le-true e 65533 high)
+pub is_entity-true : (e : ℕ) → 1 ≤ e → e ≤ LARGEST_ENTITY → is_entity e ≡ true
+is_entity-true e low high = and_both (nat_le 1 e) (nat_le e LARGEST_ENTITY) (le-true 1 e low) (le-true e LARGEST_ENTITY high)
 
 pub least_more : (xs : Entities) (i least : ℕ) (x : ℕ × EntityState) → drop i xs ≡ x ∷ drop (i + 1) xs → LeastAt xs i least → x.0 ≡ least → LeastAt xs (i + 1) (least + 1)
 least_more xs i least x at l same =
@@ -140,20 +141,20 @@ least_more xs i least x at l same =
       and_false true = refl
       and_false false = refl
 
-pub least_found : (xs : Entities) (i least : ℕ) → LeastAt xs i least → least ≤ 65533 → listed_state (drop i xs) least ≡ Absent → first_below (is_free (states_in xs)) 65534 ≡ Some least
+pub least_found : (xs : Entities) (i least : ℕ) → LeastAt xs i least → least ≤ LARGEST_ENTITY → listed_state (drop i xs) least ≡ Absent → first_below (is_free (states_in xs)) (LARGEST_ENTITY + 1) ≡ Some least
 least_found xs i least l within absent =
     let is : least ≡ i + 1 = l.least_is in
-    first_found (is_free (states_in xs)) least 65534 l.none
+    first_found (is_free (states_in xs)) least (LARGEST_ENTITY + 1) l.none
     (and_both (is_entity least) (is_absent (listed_state xs least)) (is_entity-true least (omega arith) within) (ap is_absent (sym (l.above least (omega arith)) ∙ absent)))
     (omega arith)
 
 -- a gap before the entity at the head
-pub least_gap : (xs : Entities) (i least : ℕ) (x : ℕ × EntityState) → drop i xs ≡ x ∷ drop (i + 1) xs → LeastAt xs i least → ((x.0 ≡ least) → ⊥) → first_below (is_free (states_in xs)) 65534 ≡ Some least
+pub least_gap : (xs : Entities) (i least : ℕ) (x : ℕ × EntityState) → drop i xs ≡ x ∷ drop (i + 1) xs → LeastAt xs i least → ((x.0 ≡ least) → ⊥) → first_below (is_free (states_in xs)) (LARGEST_ENTITY + 1) ≡ Some least
 least_gap xs i least x at l other =
     let r : Rises i x.0 x.1 (drop (i + 1) xs) = rises_from i x (drop (i + 1) xs) (ap (is_opening_above i) (sym at) ∙ l.rises) in
     let is : least ≡ i + 1 = l.least_is in
     let above : i < x.0 = r.above in
-    let within : x.0 ≤ 65533 = r.within in
+    let within : x.0 ≤ LARGEST_ENTITY = r.within in
     least_found xs i least l (omega arith)
     (ap (λ (ys : Entities). listed_state ys least) at ∙ state_past x.0 least x.1 (drop (i + 1) xs) other ∙ absent_up_to x.0 least (drop (i + 1) xs) r.rest (omega arith))
 

@@ -5,6 +5,8 @@ use Rattle.std.specs.List.{list_any}
 use Rattle.std.specs.Option.{option_or}
 use Rattle.std.proofs.lemmas.Bool.Decides.{nat_tests}
 use Rattle.std.proofs.lemmas.List.Elements.{All-nil, All-cons, All-head, All-tail, All-append, All-take}
+use Rattle.exercise_model.specs.declared.station.TheConstants.{LARGEST_ENTITY}
+use Rattle.dis_records.specs.declared.header.TheConstants.{LARGEST_DATAGRAM}
 use Rattle.dis_records.specs.declared.datum.FixedDatum.{FixedDatum}
 use Rattle.dis_records.specs.declared.entity_state.EntityState.{EntityState}
 use Rattle.dis_records.specs.declared.kind.Kind.{Kind}
@@ -141,9 +143,9 @@ created_in : (a : Outfit) (y : ℕ → EntityState) (q : Pdu) (stamp request : �
 created_in a y q stamp request own r s h None e = plain_in a q stamp (Acknowledge 1 unable request) own r s (omega arith, omega arith, h)
 created_in a y q stamp request own r s h (Some m) e =
     let free = and_parts (is_entity m) (is_absent (y m)) (is_chosen y q.target.entity m e).free in
-    let range = and_parts (nat_le 1 m) (nat_le m 65533) free.0 in
-    let top : nat_le m 65533 ≡ true = range.1 in
-    let high : m ≤ 65533 = grind (arith, nat_tests) in
+    let range = and_parts (nat_le 1 m) (nat_le m LARGEST_ENTITY) free.0 in
+    let top : nat_le m LARGEST_ENTITY ≡ true = range.1 in
+    let high : m ≤ LARGEST_ENTITY = grind (arith, nat_tests) in
     from_in a q stamp m (Acknowledge 1 able request) own r s (omega arith) (omega arith, omega arith, h)
 
 obeyed_in : (a : Outfit) (y : ℕ → EntityState) (q : Pdu) (stamp flag request : ℕ) → IsOutfitInRange a → IsInRange q → stamp < 2 ^ 32 → flag < 2 ^ 16 → request < 2 ^ 32 → IsInRange (obeyed a y q stamp flag request)
@@ -183,15 +185,15 @@ answer_in_range a ds q stamp own each r s = answer_in_by a (known a ds) q stamp 
 
 -- Sizes.
 
-created_size : (a : Outfit) (q : Pdu) (stamp request : ℕ) (o : Option ℕ) → pdu_size (created a q stamp request o) ≤ 8192
+created_size : (a : Outfit) (q : Pdu) (stamp request : ℕ) (o : Option ℕ) → pdu_size (created a q stamp request o) ≤ LARGEST_DATAGRAM
 created_size a q stamp request None = omega arith
 created_size a q stamp request (Some m) = omega arith
 
-data_fits : (a : Outfit) (q : Pdu) (stamp request : ℕ) (d : DatumLists) → pdu_size (data_answer a q stamp request d) ≤ 8192
+data_fits : (a : Outfit) (q : Pdu) (stamp request : ℕ) (d : DatumLists) → pdu_size (data_answer a q stamp request d) ≤ LARGEST_DATAGRAM
 data_fits a q stamp request d =
-    subst (λ (p : Pdu). pdu_size p ≤ 8192) (sym (cut_is a q stamp request d)) (omega (arith, data_size a q stamp request (cut_records d), cut_fits d))
+    subst (λ (p : Pdu). pdu_size p ≤ LARGEST_DATAGRAM) (sym (cut_is a q stamp request d)) (omega (arith, data_size a q stamp request (cut_records d), cut_fits d))
 
-answer_size_by : (a : Outfit) (k : Knowledge) (q : Pdu) (stamp : ℕ) (body : Body) → is_request_body body ≡ true → pdu_size (answer_by a k q stamp body) ≤ 8192
+answer_size_by : (a : Outfit) (k : Knowledge) (q : Pdu) (stamp : ℕ) (body : Body) → is_request_body body ≡ true → pdu_size (answer_by a k q stamp body) ≤ LARGEST_DATAGRAM
 answer_size_by a k q stamp (CreateEntity request) e = created_size a q stamp request (chosen k.states q.target.entity)
 answer_size_by a k q stamp (RemoveEntity request) e = omega arith
 answer_size_by a k q stamp (StartResume real sim request) e = omega arith
@@ -205,7 +207,7 @@ answer_size_by a k q stamp (DataPdu request datums) e = absurd cc
 answer_size_by a k q stamp (EventReport event datums) e = absurd cc
 answer_size_by a k q stamp (Comment datums) e = absurd cc
 
-answer_size : (a : Outfit) (k : Knowledge) (q : Pdu) (stamp : ℕ) → is_for a q ≡ true → pdu_size (answer a k q stamp) ≤ 8192
+answer_size : (a : Outfit) (k : Knowledge) (q : Pdu) (stamp : ℕ) → is_for a q ≡ true → pdu_size (answer a k q stamp) ≤ LARGEST_DATAGRAM
 answer_size a k q stamp own = answer_size_by a k q stamp q.body (for_parts a q own).request
 
 -- A request for entities and its answer, which needs nothing that is known of datums.
@@ -265,9 +267,9 @@ each_for : (a : Outfit) (ds : List Pdu) → AreFor a ds → Each (λ d. is_for a
 each_for a [] are = tt
 each_for a (d ∷ ds) are = (are.0, each_for a ds are.1)
 
-pub reply_size : (a : Outfit) (ds : List Pdu) (q : Pdu) (stamp : ℕ) → AreFor a ds → IfSome (reply_after a ds q stamp) (λ p. pdu_size p ≤ 8192)
+pub reply_size : (a : Outfit) (ds : List Pdu) (q : Pdu) (stamp : ℕ) → AreFor a ds → IfSome (reply_after a ds q stamp) (λ p. pdu_size p ≤ LARGEST_DATAGRAM)
 reply_size a ds q stamp are =
-    reply_as (λ p. pdu_size p ≤ 8192) a ds q stamp (answer_size a (known a ds) q stamp)
+    reply_as (λ p. pdu_size p ≤ LARGEST_DATAGRAM) a ds q stamp (answer_size a (known a ds) q stamp)
     (λ f e. answer_size a (known a f.before) f.request stamp (first_in (λ d. is_for a d ≡ true) q ds (each_for a ds are) f e).0)
 
 -- Each distinct request is for the station, and is as each that was taken.

@@ -11,6 +11,7 @@ use Rattle.siman_pdus.specs.Same.{is_same_order}
 use Rattle.siman_pdus.specs.Spelling.{pdu_text}
 use Rattle.dis_records.specs.declared.entity_state.EntityState.TheVariants.{Absent}
 use Rattle.std.proofs.lemmas.Bool.Decides.{nat_tests}
+use Rattle.exercise_model.specs.declared.station.TheConstants.{LARGEST_ENTITY}
 use Rattle.exercise_model.specs.State.{entity_state, state_after}
 use Rattle.exercise_model.specs.Station.{StationData, is_address, is_entity, is_opening, is_station, listed_state}
 use Rattle.siman_application.specs.Records.{fixed_id, variable_id, last_under}
@@ -266,10 +267,10 @@ begun_in_range x s d actions exercise is datums =
 start_by : (x : ℕ) (o : StationData) (e : ℕ) → is_opening o.opening ≡ true → (b : Bool) → is_entity e ≡ b → listed_state o.opening e ≡ (if b then entity_state x o [] e else Absent)
 unfolding entity_state
 start_by x o e opens true t = refl
-start_by x o e opens false t = by (nat_le 1 e) (nat_le e 65533) refl refl t where
-  by : (b c : Bool) → nat_le 1 e ≡ b → nat_le e 65533 ≡ c → (b && c) ≡ false → listed_state o.opening e ≡ Absent
+start_by x o e opens false t = by (nat_le 1 e) (nat_le e LARGEST_ENTITY) refl refl t where
+  by : (b c : Bool) → nat_le 1 e ≡ b → nat_le e LARGEST_ENTITY ≡ c → (b && c) ≡ false → listed_state o.opening e ≡ Absent
   by true true s t u = absurd cc
-  by true false s t u = let high : 65533 < e = grind (arith, nat_tests) in absent_past 0 e o.opening opens high
+  by true false s t u = let high : LARGEST_ENTITY < e = grind (arith, nat_tests) in absent_past 0 e o.opening opens high
   by false c s t u = let low : e ≤ 0 = grind (arith, nat_tests) in absent_up_to 0 e o.opening opens low
 
 start_state : (a : Outfit) → is_opening a.station.opening ≡ true → (e : ℕ) → listed_state a.station.opening e ≡ state_over a [] e

@@ -1,6 +1,10 @@
 -- The answer to a request, by what the application knows when the request comes first (profile, over IEEE 1278.1-2012, 5.6.5).
 use Rattle.std.specs.Prelude.{ℕ, zero, suc, ◌+◌, ◌-◌, Bool, ◌==◌, ◌&&◌, ◌||◌, not, nat_le, nat_lt, [], length, map, take, Option, Some, None, if◌then◌else◌}
 use Rattle.std.specs.List.{list_any}
+use Rattle.dis_records.specs.declared.entity_number.TheConstants.{ANY_NUMBER}
+use Rattle.exercise_model.specs.declared.station.TheConstants.{LARGEST_ENTITY}
+use Rattle.siman_application.specs.declared.entity_list.TheConstants.{MOST_ENTITIES}
+use Rattle.dis_records.specs.declared.header.TheConstants.{LARGEST_DATAGRAM}
 use Rattle.dis_records.specs.declared.datum.FixedDatum.{FixedDatum}
 use Rattle.dis_records.specs.declared.entity_state.EntityState.{EntityState}
 use Rattle.dis_records.specs.declared.kind.Kind.{Kind}
@@ -32,7 +36,7 @@ count_present y (suc n) = count_present y n + (if is_absent (y (suc n)) then 0 e
 
 -- fewer than 4,096 entities are there
 abbrev pub has_place : (ℕ → EntityState) → Bool
-has_place y = nat_lt (count_present y 65533) 4096
+has_place y = nat_lt (count_present y LARGEST_ENTITY) MOST_ENTITIES
 
 -- an entity of this number can be created
 abbrev pub is_free : (ℕ → EntityState) → ℕ → Bool
@@ -42,7 +46,7 @@ is_free y e = is_entity e && is_absent (y e)
 abbrev pub chosen : (ℕ → EntityState) → ℕ → Option ℕ
 chosen y n =
     if has_place y
-    then (if n == 0xFFFE then first_below (is_free y) 65534 else (if is_free y n then Some n else None))
+    then (if n == ANY_NUMBER then first_below (is_free y) (LARGEST_ENTITY + 1) else (if is_free y n then Some n else None))
     else None
 
 -- the number names an entity that is there, or no single one
@@ -110,7 +114,7 @@ data_pdu a q stamp request d = plain_answer a q stamp (DataPdu request d)
 -- A Data holds the longest beginning of the records with which it has at most 8192 bytes.
 abbrev pub data_answer : Outfit → Pdu → ℕ → ℕ → DatumLists → Pdu
 data_answer a q stamp request d =
-    data_pdu a q stamp request (first_records (largest (λ k. nat_le (pdu_size (data_pdu a q stamp request (first_records k d))) 8192) (record_count d)) d)
+    data_pdu a q stamp request (first_records (largest (λ k. nat_le (pdu_size (data_pdu a q stamp request (first_records k d))) LARGEST_DATAGRAM) (record_count d)) d)
 
 -- the records that are held under these identifiers
 abbrev pub held_records : Knowledge → IdLists → DatumLists

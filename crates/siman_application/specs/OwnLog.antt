@@ -1,5 +1,6 @@
 -- The log of a station whose application answers, THE LAST EVENT FIRST (profile).
 use Rattle.std.specs.Prelude.{◌≡◌, ℕ, ◌^◌, ◌<◌, ◌≤◌, List, [], ◌∷◌, slice_index, Bool, ◌||◌, true, false, Option, Some, None, is_some, ◌⊎◌}
+use Rattle.dis_records.specs.declared.header.TheConstants.{LARGEST_DATAGRAM}
 use Rattle.dis_records.specs.declared.entity_state.EntityState.{EntityState}
 use Rattle.siman_pdus.specs.declared.pdu.Pdu.{Pdu}
 use Rattle.siman_pdus.specs.Ranges.{IsInRange}
@@ -57,7 +58,7 @@ pub record IsOrder (a : Outfit) (p : Pdu) : Type 0 where
   pub exercise : p.exercise ≡ a.exercise
   pub request : is_request_body p.body ≡ true
   pub ranges : IsInRange p
-  pub size : pdu_size p ≤ 8192
+  pub size : pdu_size p ≤ LARGEST_DATAGRAM
 
 -- the datagram consists of bytes, and is read as the PDU
 pub record IsRead (b : List ℕ) (q : Pdu) : Type 0 where

@@ -10,10 +10,9 @@ ghost use Rattle.siman_application.specs.Knows.{knows};
 ghost use Rattle.siman_application.specs.Listed.{Entities, states_in};
 
 use crate::entities::Entities;
-use crate::number::names_none;
 use crate::outfit::Outfit;
 use crate::records::{find, ids_of, store};
-use dis_records::Kind;
+use dis_records::{Kind, is_open};
 use siman_pdus::{ABLE, Body, DatumIds, Datums, Pdu, UNABLE, kind_of};
 use std::alloc::{AllocError, Global};
 
@@ -45,7 +44,7 @@ fn plain_answer(outfit: &Outfit, request: &Pdu, stamp: u32, body: Body) -> Pdu
     ensures { result ≡ plain_answer outfit.now request.now stamp body }
 {
     let asked = request.target.entity;
-    let number = if names_none(kind_of(&request.body), asked) {
+    let number = if is_open(kind_of(&request.body), asked) {
         0
     } else {
         asked

@@ -3,6 +3,8 @@
 ghost use Rattle.std.specs.Prelude.{◌≡◌, ◌<◌, ◌≤◌, ◌↔◌, true, false, [], length, Err, IsOk, IfOk, IfErr, IfSome, OnOk, OnErr, slice_get};
 ghost use Rattle.std.specs.Option.{option_map, option_copied, option_and_then};
 ghost use Rattle.std.specs.Borrow.{sem};
+ghost use Rattle.siman_application.specs.declared.entity_list.TheConstants.{MOST_ENTITIES};
+ghost use Rattle.dis_records.specs.declared.header.TheConstants.{LARGEST_DATAGRAM};
 ghost use Rattle.exercise_model.specs.Station.{is_station};
 ghost use Rattle.siman_pdus.specs.Ranges.{IsInRange};
 ghost use Rattle.siman_pdus.specs.Spelling.{pdu_size};
@@ -74,7 +76,7 @@ impl Application {
         variable: Vec<VariableDatum>,
         actions: &[u32],
     ) -> Result<Application, AppFault>
-        ensures too_many { (result ≡ Err AppFault.TooMany) ↔ (4096 < length station.now.opening) }
+        ensures too_many { (result ≡ Err AppFault.TooMany) ↔ (MOST_ENTITIES < length station.now.opening) }
         ensures outfit { IfOk result (λ app. app.outfit ≡ record { exercise = exercise; station = station.now; datums = record { fixed = fixed.now; variable = variable.items }; actions = actions.now }) }
         ensures ranges { IfOk result (λ app. IsOutfitInRange app.outfit) }
         ensures kept { IfOk result (λ app. app.kept ≡ []) }
@@ -115,7 +117,7 @@ impl Application {
         ensures* ends { sem 𝓛 (EndsTaken self.entry pdu.now result) }
         ensures reply { IfOk result (λ answer. option_copied answer ≡ reply_after self.old.outfit (came self.old) pdu.now stamp) }
         ensures in_range { IfOk result (λ answer. IfSome (option_copied answer) IsInRange) }
-        ensures size { IfOk result (λ answer. IfSome (option_copied answer) (λ p. pdu_size p ≤ 8192)) }
+        ensures size { IfOk result (λ answer. IfSome (option_copied answer) (λ p. pdu_size p ≤ LARGEST_DATAGRAM)) }
         ensures fault { IfErr result (λ fault. fault ≡ AppFault.Memory) }
         ensures no_memory { is_new self.old pdu.now ≡ false → IsOk result }
     {
@@ -132,7 +134,7 @@ impl Application {
     fn take_up(&mut self, pdu: &Pdu, stamp: u32) -> Result<Option<usize>, AppFault>
         ensures leaves { Leaves self.old pdu.now result self.new }
         ensures reply { IfOk result (λ place. option_and_then (λ i. option_map (λ k. k.answer) (slice_get self.new.kept i)) place ≡ reply_after self.old.outfit (came self.old) pdu.now stamp) }
-        ensures size { IfSome (reply_after self.old.outfit (came self.old) pdu.now stamp) (λ p. pdu_size p ≤ 8192) }
+        ensures size { IfSome (reply_after self.old.outfit (came self.old) pdu.now stamp) (λ p. pdu_size p ≤ LARGEST_DATAGRAM) }
         ensures within { IfOk result (λ place. IfSome place (λ i. i < length self.new.kept)) }
         ensures fault { IfErr result (λ fault. fault ≡ AppFault.Memory) }
         ensures no_memory { is_new self.old pdu.now ≡ false → IsOk result }

@@ -1,6 +1,7 @@
 //! The entities that an application has.
 
 ghost use Rattle.std.specs.Prelude.{◌≡◌, ◌≤◌, true, IfOk, IsTrue, OnOk, OnErr, length};
+ghost use Rattle.siman_application.specs.declared.entity_list.TheConstants.{MOST_ENTITIES};
 ghost use Rattle.siman_pdus.specs.Answers.{is_answer_to};
 ghost use Rattle.exercise_model.specs.Change.{able, responds};
 ghost use Rattle.exercise_model.specs.Station.{is_opening, listed_state};
@@ -9,8 +10,7 @@ ghost use Rattle.siman_application.specs.Answer.{chosen, is_meant};
 ghost use Rattle.siman_application.specs.Listed.{states_in, IsPossible, after};
 
 use crate::entity_list::{carry_out, choose, state_in};
-use crate::number::names_none;
-use dis_records::{EntityState, Kind};
+use dis_records::{EntityState, Kind, is_open};
 use exercise_model::{Change, responds};
 use siman_pdus::{ABLE, Pdu};
 use std::alloc::{AllocError, Global};
@@ -25,6 +25,7 @@ pub(crate) struct Entities {
 
 impl Model for Entities {
     ghost use Rattle.std.specs.Prelude.{◌≡◌, ◌≤◌, true, length};
+    ghost use Rattle.siman_application.specs.declared.entity_list.TheConstants.{MOST_ENTITIES};
     ghost use Rattle.exercise_model.specs.Station.{is_opening};
     ghost use Rattle.siman_application.specs.Listed.{Entities};
 
@@ -32,7 +33,7 @@ impl Model for Entities {
 
     ghost view = { λ s. s.list.items };
 
-    ghost invariant = { λ s. (is_opening s.list.items ≡ true) × (length s.list.items ≤ 4096) };
+    ghost invariant = { λ s. (is_opening s.list.items ≡ true) × (length s.list.items ≤ MOST_ENTITIES) };
 }
 
 impl Entities {
@@ -42,7 +43,7 @@ impl Entities {
         opening: &[(u16, EntityState)],
     ) -> Result<Entities, AllocError>
         requires opening { IsTrue (is_opening opening.now) }
-        requires few { length opening.now ≤ 4096 }
+        requires few { length opening.now ≤ MOST_ENTITIES }
         ensures { IfOk result (λ entities. entities ≡ opening.now) }
     {
         let list = Vec::from_slice(alloc, opening)?;
@@ -68,7 +69,7 @@ impl Entities {
     pub(crate) fn is_meant(&self, kind: Kind, number: u16) -> bool
         ensures { result ≡ is_meant kind (states_in self.now) number }
     {
-        names_none(kind, number) || self.state(number) != EntityState::Absent
+        is_open(kind, number) || self.state(number) != EntityState::Absent
     }
 
     /// Makes a change against which no entity stands. Only a Create Entity takes memory.

@@ -1,15 +1,16 @@
 //! Entities by rising numbers, with their states.
 
-ghost use Rattle.std.specs.Prelude.{◌≡◌, ◌≤◌, ◌<◌, Some, true, length, IsTrue, OnOk, OnErr, MatchOption, insert, remove};
+ghost use Rattle.std.specs.Prelude.{◌≡◌, ◌≤◌, ◌<◌, ◌+◌, Some, true, length, IsTrue, OnOk, OnErr, MatchOption, insert, remove};
 ghost use Rattle.dis_records.specs.declared.entity_state.EntityState.{EntityState};
+ghost use Rattle.exercise_model.specs.declared.station.TheConstants.{LARGEST_ENTITY};
+ghost use Rattle.siman_application.specs.declared.entity_list.TheConstants.{MOST_ENTITIES};
 ghost use Rattle.exercise_model.specs.Station.{is_opening, listed_state};
 ghost use Rattle.exercise_model.specs.Place.{first_below};
 ghost use Rattle.exercise_model.specs.State.{changed};
 ghost use Rattle.siman_application.specs.Answer.{is_free, chosen};
 ghost use Rattle.siman_application.specs.Listed.{states_in, inserted, removed, all_changed, IsPossible};
 
-use crate::number::ANY_NUMBER;
-use dis_records::{EntityState, Kind, Scope};
+use dis_records::{ANY_NUMBER, EntityState, Kind, Scope};
 use exercise_model::{Change, is_entity};
 use std::alloc::AllocError;
 
@@ -38,8 +39,8 @@ fn is_free(entities: &[(u16, EntityState)], number: u16) -> bool
 /// The least number from 1 on that no entity has.
 pub(crate) fn least_free(entities: &[(u16, EntityState)]) -> u16
     requires opening { IsTrue (is_opening entities.now) }
-    requires few { length entities.now < 4096 }
-    ensures { first_below (is_free (states_in entities.now)) 65534 ≡ Some result }
+    requires few { length entities.now < MOST_ENTITIES }
+    ensures { first_below (is_free (states_in entities.now)) (LARGEST_ENTITY + 1) ≡ Some result }
 {
     let mut least = 1;
     for (number, _) in entities {
@@ -113,7 +114,7 @@ fn change_each(entities: &mut Vec<(u16, EntityState)>, change: Change)
 /// The number that a Create Entity for this number creates, if it does.
 pub(crate) fn choose(entities: &[(u16, EntityState)], number: u16) -> Option<u16>
     requires opening { IsTrue (is_opening entities.now) }
-    requires few { length entities.now ≤ 4096 }
+    requires few { length entities.now ≤ MOST_ENTITIES }
     ensures { result ≡ chosen (states_in entities.now) number }
 {
     if entities.len() >= MOST_ENTITIES {
@@ -134,10 +135,10 @@ pub(crate) fn carry_out(
     change: Change,
 ) -> Result<(), AllocError>
     requires opening { IsTrue (is_opening entities.old.items) }
-    requires few { length entities.old.items ≤ 4096 }
+    requires few { length entities.old.items ≤ MOST_ENTITIES }
     requires possible { IsPossible change (states_in entities.old.items) }
     ensures opening { is_opening entities.new.items ≡ true }
-    ensures few { length entities.new.items ≤ 4096 }
+    ensures few { length entities.new.items ≤ MOST_ENTITIES }
     ensures ok { OnOk result (states_in entities.new.items ≡ (λ e. changed e (listed_state entities.old.items e) change)) }
     ensures err { OnErr result (entities.new.items ≡ entities.old.items) }
 {

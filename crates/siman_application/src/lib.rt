@@ -16,7 +16,6 @@ mod entity_list;
 mod fault;
 mod kept;
 mod law;
-mod number;
 mod outfit;
 mod records;
 mod taking;

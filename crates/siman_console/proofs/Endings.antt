@@ -1,6 +1,8 @@
 -- How a command ends that told what it had to say.
 use Rattle.std.proofs.Common.{◌≡◌, ℕ, List, Option, Some, None, Bool, Result, refl}
 use Rattle.std.specs.Prelude.{IfSome}
+use Rattle.siman_console.specs.declared.check.TheConstants.{LARGEST_CERTIFICATE}
+use Rattle.siman_console.specs.declared.show.TheConstants.{LARGEST_RECORDING}
 use Rattle.exercise_recording.specs.Reading.{recording_at}
 use Rattle.exercise_check.specs.Certificate.{certificate_at}
 use Rattle.exercise_recording.specs.declared.format_fault.FormatFault.{FormatFault}
@@ -30,14 +32,14 @@ ends_known_both Tells (Some a) None told ended old new tells ends = tt
 ends_known_both Tells (Some a) (Some b) told ended old new tells ends = (told, tells, (ended.told, ends))
 
 -- What was shown or judged of what a reader has has this status.
-pub tells_show : (known : Option (List ℕ)) (shown : Result (Unit {0}) Fault) (told : Result ℕ Fault) (old new : Option (List ℕ)) → told ≡ shown_status shown → IfSome known (λ bytes. Shows (recording_at 268435456 bytes) shown old new)
-    → IfSome known (λ bytes. TellsShow (recording_at 268435456 bytes) told old new)
+pub tells_show : (known : Option (List ℕ)) (shown : Result (Unit {0}) Fault) (told : Result ℕ Fault) (old new : Option (List ℕ)) → told ≡ shown_status shown → IfSome known (λ bytes. Shows (recording_at LARGEST_RECORDING bytes) shown old new)
+    → IfSome known (λ bytes. TellsShow (recording_at LARGEST_RECORDING bytes) told old new)
 tells_show None shown told old new is shows = tt
 tells_show (Some bytes) shown told old new is shows = (shown, shows, is)
 
 pub tells_check : (first second : Option (List ℕ)) (judged : Result Bool FilesFault) (told : Result ℕ Fault) (old new : Option (List ℕ)) → told ≡ judged_status judged
-    → IfSome first (λ r. IfSome second (λ c. Judges (recording_at 268435456 r) (certificate_at 1048576 c) judged old new))
-    → IfSome first (λ r. IfSome second (λ c. TellsCheck (recording_at 268435456 r) (certificate_at 1048576 c) told old new))
+    → IfSome first (λ r. IfSome second (λ c. Judges (recording_at LARGEST_RECORDING r) (certificate_at LARGEST_CERTIFICATE c) judged old new))
+    → IfSome first (λ r. IfSome second (λ c. TellsCheck (recording_at LARGEST_RECORDING r) (certificate_at LARGEST_CERTIFICATE c) told old new))
 tells_check None second judged told old new is judges = tt
 tells_check (Some r) None judged told old new is judges = tt
 tells_check (Some r) (Some c) judged told old new is judges = (judged, judges, is)

@@ -1,10 +1,11 @@
 -- What was fetched of a reader, and that an answer depends on no more.
-use Rattle.std.proofs.Common.{◌≡◌, ℕ, ◌<◌, ◌≤◌, List, [], ◌++◌, Option, Some, None, nat_lt, length, take, IfSome, if◌then◌else◌, arith, sym, ap, ◌∙◌, inl, inr, take_all}
+use Rattle.std.proofs.Common.{◌≡◌, ℕ, ◌+◌, ◌<◌, ◌≤◌, List, [], ◌++◌, Option, Some, None, nat_lt, length, take, IfSome, if◌then◌else◌, arith, sym, ap, ◌∙◌, inl, inr, take_all}
 use Rattle.std.proofs.lemmas.Bool.{cases_lt}
 use Rattle.std.proofs.lemmas.Bool.Decides.{nat_tests}
 use Rattle.std.proofs.lemmas.Grind.{common_steps}
 use Rattle.std.proofs.lemmas.List.{length-take-le}
 use Rattle.std.specs.Io.KnownBytes.{Consumes, IsAtEnd}
+use Rattle.siman_console.specs.declared.hex_text.TheConstants.{LONGEST_HEX}
 use Rattle.siman_console.specs.HexText.{fetched}
 use Rattle.siman_console.specs.Answer.{Said, not_byte_pairs, said_of_hex, said_of_input, without_line_end}
 
@@ -13,19 +14,19 @@ taken-parts : (n : ℕ) (front rest : List ℕ) → length front ≤ n → (leng
 taken-parts n front rest within end = grind (arith, common_steps)
 
 -- A buffer of the size that is fetched was filled from a reader as far as the reader went.
-fetched-filled : (old new : Option (List ℕ)) (buf : List ℕ) (n : ℕ) → length buf ≡ 65537 → n ≤ length buf → Consumes old new (take n buf) → (n < length buf → IsAtEnd new) → IfSome old (λ bytes. take n buf ≡ fetched bytes)
+fetched-filled : (old new : Option (List ℕ)) (buf : List ℕ) (n : ℕ) → length buf ≡ LONGEST_HEX + 1 → n ≤ length buf → Consumes old new (take n buf) → (n < length buf → IsAtEnd new) → IfSome old (λ bytes. take n buf ≡ fetched bytes)
 fetched-filled None new buf n size within consumed end = tt
 fetched-filled (Some xs) None buf n size within consumed end = absurd consumed
 fetched-filled (Some xs) (Some ys) buf n size within consumed end =
     let long = length-take-le n buf within in
-    rw consumed (taken-parts 65537 (take n buf) ys (omega arith) (λ h. end (omega arith)))
+    rw consumed (taken-parts (LONGEST_HEX + 1) (take n buf) ys (omega arith) (λ h. end (omega arith)))
 
 -- what is left of a vector that was written whole and cut is the front of what was written
 cut-written : (size n : ℕ) (buf past : List ℕ) → length buf ≡ size → take n (take size (buf ++ past)) ≡ take n buf
 cut-written size n buf past e = grind (arith, common_steps)
 
 -- The same of a vector that was the buffer, and was cut after it.
-pub fetched-cut : (old new : Option (List ℕ)) (size : ℕ) (buf past : List ℕ) (n : ℕ) (text : List ℕ) → size ≡ 65537 → length buf ≡ size → n ≤ length buf
+pub fetched-cut : (old new : Option (List ℕ)) (size : ℕ) (buf past : List ℕ) (n : ℕ) (text : List ℕ) → size ≡ LONGEST_HEX + 1 → length buf ≡ size → n ≤ length buf
     → Consumes old new (take n buf) → (n < length buf → IsAtEnd new) → text ≡ take n (take size (buf ++ past)) → IfSome old (λ bytes. text ≡ fetched bytes)
 fetched-cut old new size buf past n text limit whole within consumed end cut =
     rw (cut, cut-written size n buf past whole) (fetched-filled old new buf n (whole ∙ limit) within consumed end)
@@ -34,12 +35,12 @@ over : (m n : ℕ) (x y : Said) → m < n → (if nat_lt m n then x else y) ≡ 
 over m n x y h = grind (arith, nat_tests)
 
 -- what is said of too many bytes
-too_many : (bytes : List ℕ) → 65536 < length bytes → said_of_input bytes ≡ not_byte_pairs
-too_many bytes h = over 65536 (length bytes) not_byte_pairs (said_of_hex (without_line_end bytes)) h
+too_many : (bytes : List ℕ) → LONGEST_HEX < length bytes → said_of_input bytes ≡ not_byte_pairs
+too_many bytes h = over LONGEST_HEX (length bytes) not_byte_pairs (said_of_hex (without_line_end bytes)) h
 
 -- The answer is the same for what was fetched.
 pub said_of_input-fetched : (bytes : List ℕ) → said_of_input (fetched bytes) ≡ said_of_input bytes
-said_of_input-fetched bytes = elim (cases_lt (length bytes) 65537) [
-  | inl h ↦ ap said_of_input (take_all 65537 bytes (omega arith))
-  | inr h ↦ let long = length-take-le 65537 bytes h in too_many (fetched bytes) (omega arith) ∙ sym (too_many bytes (omega arith))
+said_of_input-fetched bytes = elim (cases_lt (length bytes) (LONGEST_HEX + 1)) [
+  | inl h ↦ ap said_of_input (take_all (LONGEST_HEX + 1) bytes (omega arith))
+  | inr h ↦ let long = length-take-le (LONGEST_HEX + 1) bytes h in too_many (fetched bytes) (omega arith) ∙ sym (too_many bytes (omega arith))
 ]

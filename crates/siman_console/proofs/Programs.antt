@@ -3,6 +3,8 @@ use Rattle.std.proofs.Common.{ℕ, zero, suc, List, [], ◌∷◌, ◌++◌, Opt
 use Rattle.std.specs.Prelude.{IfSome}
 use Rattle.std.specs.List.{All}
 use Rattle.std.specs.Io.KnownBytes.{Keeps}
+use Rattle.siman_console.specs.declared.check.TheConstants.{LARGEST_CERTIFICATE}
+use Rattle.siman_console.specs.declared.show.TheConstants.{LARGEST_RECORDING}
 use Rattle.exercise_recording.specs.Reading.{recording_at}
 use Rattle.exercise_check.specs.Certificate.{certificate_at}
 use Rattle.siman_console.specs.Answer.{said_of_input, IsTold}
@@ -38,13 +40,13 @@ all_two P x y first second (suc zero) d within = second
 all_two P x y first second (suc (suc k)) d within = absurd (omega arith)
 
 -- what is known of the files, or of some
-pub judging : (r c : Option (List ℕ)) (told : Told) (out : Stream) → IfSome r (λ r. IfSome c (λ c. TellsCheck (recording_at 268435456 r) (certificate_at 1048576 c) told out.old out.new))
+pub judging : (r c : Option (List ℕ)) (told : Told) (out : Stream) → IfSome r (λ r. IfSome c (λ c. TellsCheck (recording_at LARGEST_RECORDING r) (certificate_at LARGEST_CERTIFICATE c) told out.old out.new))
     → (recorded : Recorded) × (certified : Certified) × TellsCheck recorded certified told out.old out.new → TellsJudged r c told out
 judging (Some r) (Some c) told out known some = known
 judging (Some r) None told out known some = some
 judging None c told out known some = some
 
-pub showing : (r : Option (List ℕ)) (told : Told) (out : Stream) → IfSome r (λ r. TellsShow (recording_at 268435456 r) told out.old out.new)
+pub showing : (r : Option (List ℕ)) (told : Told) (out : Stream) → IfSome r (λ r. TellsShow (recording_at LARGEST_RECORDING r) told out.old out.new)
     → (recorded : Recorded) × TellsShow recorded told out.old out.new → TellsShown r told out
 showing (Some r) told out known some = known
 showing None told out known some = some

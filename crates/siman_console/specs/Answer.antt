@@ -1,6 +1,7 @@
 -- What the command `pdu` answers, and how it ends.
 use Rattle.std.specs.Prelude.{◌≡◌, ℕ, ◌≤◌, nat_lt, List, [], length, take, slice_index, ◌-◌, ◌==◌, Option, Some, None, Result, Ok, Err, if◌then◌else◌}
 use Rattle.std.specs.Io.KnownBytes.{Appends, Keeps}
+use Rattle.siman_console.specs.declared.hex_text.TheConstants.{LONGEST_HEX}
 use Rattle.dis_records.specs.Header.{header_at}
 use Rattle.siman_pdus.specs.declared.fault.PduFault.{PduFault}
 use Rattle.siman_pdus.specs.declared.pdu.Pdu.{Pdu}
@@ -48,7 +49,7 @@ without_line_end text = if slice_index text (length text - 1) == 10 then take (l
 
 -- what is answered to the bytes of standard input
 abbrev pub said_of_input : List ℕ → Said
-said_of_input bytes = if nat_lt 65536 (length bytes) then not_byte_pairs else said_of_hex (without_line_end bytes)
+said_of_input bytes = if nat_lt LONGEST_HEX (length bytes) then not_byte_pairs else said_of_hex (without_line_end bytes)
 
 -- An answer was written whole, or of its text a prefix, and none of it where memory ran out or there is none to give.
 abbrev pub IsTold : Said → Result ℕ Fault → Option (List ℕ) → Option (List ℕ) → Type 0

@@ -4,6 +4,8 @@ use Rattle.std.specs.declared.alloc.Global.{Global}
 use Rattle.std.specs.Io.KnownBytes.{Keeps}
 use Rattle.std.specs.declared.io.ErrorKind.{ErrorKind}
 use Rattle.std.specs.declared.io.ErrorKind.TheVariants.{OutOfMemory}
+use Rattle.siman_console.specs.declared.check.TheConstants.{LARGEST_CERTIFICATE}
+use Rattle.siman_console.specs.declared.show.TheConstants.{LARGEST_RECORDING}
 use Rattle.clap.specs.declared.error.kind.ErrorKind.{ErrorKind as UsageKind}
 use Rattle.exercise_recording.specs.Reading.{recording_at}
 use Rattle.exercise_check.specs.Certificate.{certificate_at}
@@ -28,12 +30,12 @@ TellsInput None told out = (bytes : List ℕ) × IsTold (said_of_input bytes) to
 
 -- `show` had these bytes to show, or some
 abbrev pub TellsShown : Option (List ℕ) → Told → Stream → Type 0
-TellsShown (Some bytes) told out = TellsShow (recording_at 268435456 bytes) told out.old out.new
+TellsShown (Some bytes) told out = TellsShow (recording_at LARGEST_RECORDING bytes) told out.old out.new
 TellsShown None told out = (recorded : Recorded) × TellsShow recorded told out.old out.new
 
 -- `check` had these bytes to judge, where both are known, or some
 abbrev pub TellsJudged : Option (List ℕ) → Option (List ℕ) → Told → Stream → Type 0
-TellsJudged (Some r) (Some c) told out = TellsCheck (recording_at 268435456 r) (certificate_at 1048576 c) told out.old out.new
+TellsJudged (Some r) (Some c) told out = TellsCheck (recording_at LARGEST_RECORDING r) (certificate_at LARGEST_CERTIFICATE c) told out.old out.new
 TellsJudged r c told out = (recorded : Recorded) × (certified : Certified) × TellsCheck recorded certified told out.old out.new
 
 -- how a file that was not opened is told: want of memory, or else `file: NAME` with the name as it was given

@@ -1,6 +1,7 @@
 //! What `pdu` answers for a datagram.
 
 ghost use Rattle.std.specs.Prelude.{◌≡◌, ℕ, ◌<◌, ◌≤◌, List, [], ◌∷◌, ◌++◌, length, IfOk};
+ghost use Rattle.siman_console.specs.declared.hex_text.TheConstants.{LONGEST_HEX};
 ghost use Rattle.hex.specs.Hex.{IsBytes, encode_lower};
 ghost use Rattle.siman_pdus.specs.declared.pdu.Pdu.{Pdu};
 ghost use Rattle.siman_pdus.specs.Spelling.{Spells};
@@ -73,7 +74,7 @@ pub fn answers_follow_the_grammar()
     ensures spelled { (pdu : Pdu) (b : List ℕ) → Spells pdu b → answer_to b ≡ shown pdu }
     ensures not_spelled { (b : List ℕ) → ((pdu : Pdu) → ¬ Spells pdu b) → (answer_to b).status ≡ 1 }
     ensures hex { (b : List ℕ) → IsBytes b → length b ≤ 32768 → said_of_hex (encode_lower b) ≡ answer_to b }
-    ensures line { (text : List ℕ) → length text < 65536 → said_of_input (text ++ 10 ∷ []) ≡ said_of_hex text }
+    ensures line { (text : List ℕ) → length text < LONGEST_HEX → said_of_input (text ++ 10 ∷ []) ≡ said_of_hex text }
 {
     spellings_are_apart();
 }

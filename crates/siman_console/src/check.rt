@@ -2,6 +2,8 @@
 
 ghost use Rattle.std.specs.Prelude.{◌≡◌, ◌≤◌, IfSome, OnOk, Ok};
 ghost use Rattle.std.specs.Io.KnownBytes.{Keeps};
+ghost use Rattle.siman_console.specs.declared.check.TheConstants.{LARGEST_CERTIFICATE};
+ghost use Rattle.siman_console.specs.declared.show.TheConstants.{LARGEST_RECORDING};
 ghost use Rattle.exercise_recording.specs.Reading.{recording_at};
 ghost use Rattle.exercise_check.specs.Certificate.{certificate_at};
 ghost use Rattle.siman_console.specs.Check.{Recorded, Certified, Judges, judged_status, TellsCheck, EndsCheck};
@@ -33,7 +35,7 @@ pub fn check_files<R: Read + Drop, C: Read + Drop, W: Write>(
     certificate: C,
     out: &mut W,
 ) -> Result<bool, FilesFault>
-    ensures known { IfSome (R.remaining recording) (λ r. IfSome (C.remaining certificate) (λ c. Judges (recording_at 268435456 r) (certificate_at 1048576 c) result (W.contents out.old) (W.contents out.new))) }
+    ensures known { IfSome (R.remaining recording) (λ r. IfSome (C.remaining certificate) (λ c. Judges (recording_at LARGEST_RECORDING r) (certificate_at LARGEST_CERTIFICATE c) result (W.contents out.old) (W.contents out.new))) }
     // Whatever it read, it judged that.
     ensures some { (recorded : Recorded) × (certified : Certified) × Judges recorded certified result (W.contents out.old) (W.contents out.new) }
 {
@@ -53,7 +55,7 @@ pub fn check_command<R: Read + Drop, C: Read + Drop, W: Write, E: Write>(
     out: &mut W,
     errors: &mut E,
 ) -> u8
-    ensures known { IfSome (R.remaining recording) (λ r. IfSome (C.remaining certificate) (λ c. EndsCheck (recording_at 268435456 r) (certificate_at 1048576 c) result (W.contents out.old) (W.contents out.new) (E.contents errors.old) (E.contents errors.new))) }
+    ensures known { IfSome (R.remaining recording) (λ r. IfSome (C.remaining certificate) (λ c. EndsCheck (recording_at LARGEST_RECORDING r) (certificate_at LARGEST_CERTIFICATE c) result (W.contents out.old) (W.contents out.new) (E.contents errors.old) (E.contents errors.new))) }
     // Whatever it read, it ended as that asks for.
     ensures ends { (recorded : Recorded) × (certified : Certified) × EndsCheck recorded certified result (W.contents out.old) (W.contents out.new) (E.contents errors.old) (E.contents errors.new) }
     ensures silent { result ≤ 1 → Keeps (E.contents errors.old) (E.contents errors.new) }
@@ -68,7 +70,7 @@ pub(crate) fn judged<R: Read + Drop, C: Read + Drop, W: Write>(
     certificate: C,
     out: &mut W,
 ) -> Result<u8, Fault<'static>>
-    ensures known { IfSome (R.remaining recording) (λ r. IfSome (C.remaining certificate) (λ c. TellsCheck (recording_at 268435456 r) (certificate_at 1048576 c) result (W.contents out.old) (W.contents out.new))) }
+    ensures known { IfSome (R.remaining recording) (λ r. IfSome (C.remaining certificate) (λ c. TellsCheck (recording_at LARGEST_RECORDING r) (certificate_at LARGEST_CERTIFICATE c) result (W.contents out.old) (W.contents out.new))) }
     ensures some { (recorded : Recorded) × (certified : Certified) × TellsCheck recorded certified result (W.contents out.old) (W.contents out.new) }
 {
     status_of(check_files(alloc, recording, certificate, out))

@@ -6,7 +6,7 @@ ghost use Rattle.siman_console.specs.Answer.{said_of_hex, said_of_input, without
 
 use crate::answer::Answer;
 use crate::fault::{Fault, end};
-use crate::hex_text::{LONGEST, hex_bytes};
+use crate::hex_text::{LONGEST_HEX, hex_bytes};
 use crate::input::read_text;
 use byte_files::put;
 use std::alloc::Global;
@@ -69,7 +69,7 @@ fn tell<W: Write>(alloc: Global, hex: &[u8], out: &mut W) -> Result<u8, Fault<'s
 fn tell_line<W: Write>(alloc: Global, text: &[u8], out: &mut W) -> Result<u8, Fault<'static>>
     ensures { IsTold (said_of_input text.now) result (W.contents out.old) (W.contents out.new) }
 {
-    if text.len() > LONGEST {
+    if text.len() > LONGEST_HEX {
         return Err(Fault::NotBytePairs);
     }
     tell(alloc, before_line_end(text), out)

@@ -7,7 +7,7 @@ use crate::fault::Fault;
 use std::alloc::Global;
 
 /// The size in bytes of the longest hex text that is read.
-pub const LONGEST: usize = 65_536;
+pub const LONGEST_HEX: usize = 65_536;
 
 /// The bytes that a text spells in pairs of hex digits of either case, with nothing else before,
 /// between or after them.
@@ -15,7 +15,7 @@ pub fn hex_bytes(alloc: Global, text: &[u8]) -> Result<Vec<u8>, Fault<'static>>
     ensures read { IfOk result (λ bytes. bytes_of text.now ≡ Some bytes.items) }
     ensures refused { IfErr result (λ fault. (fault ≡ Fault.Memory) ⊎ ((fault ≡ Fault.NotBytePairs) × (bytes_of text.now ≡ None))) }
 {
-    if text.len() > LONGEST {
+    if text.len() > LONGEST_HEX {
         return Err(Fault::NotBytePairs);
     }
     match hex::decode(alloc, text) {

@@ -1,6 +1,7 @@
 -- What a manager keeps, and one step of it for each call.
 use Rattle.std.specs.Prelude.{ℕ, ◌+◌, ◌-◌, ◌^◌, Bool, true, false, ◌&&◌, ◌==◌, nat_le, nat_lt, List, [], ◌∷◌, ◌++◌, length, slice_get, slice_set, find, Option, Some, None, if◌then◌else◌}
 use Rattle.std.specs.Option.{option_map}
+use Rattle.dis_records.specs.declared.header.TheConstants.{LARGEST_DATAGRAM}
 use Rattle.dis_records.specs.declared.header.Version.TheVariants as versions
 use Rattle.siman_pdus.specs.declared.pdu.Body.{Body}
 use Rattle.siman_pdus.specs.declared.pdu.Body.TheVariants.{CreateEntity, RemoveEntity, StartResume, StopFreeze, Acknowledge, ActionRequest, ActionResponse, DataQuery, SetData, DataPdu, EventReport, Comment}
@@ -62,7 +63,7 @@ next_id s count = s.first_id + count
 abbrev pub refusal : Settings → ℕ → Order → ℕ → Option OrderFault
 refusal s count order stamp =
     if nat_lt (next_id s count) (2 ^ 32)
-    then (if nat_le (pdu_size (order_pdu s (next_id s count) order stamp)) 8192 then None else Some faults.TooLong)
+    then (if nat_le (pdu_size (order_pdu s (next_id s count) order stamp)) LARGEST_DATAGRAM then None else Some faults.TooLong)
     else Some faults.IdsSpent
 
 -- an order as it is made: sent once

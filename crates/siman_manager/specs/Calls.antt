@@ -1,5 +1,6 @@
 -- Lists of calls, the latest first: what the steps of a manager come to over them, and, beside that, the life of each order, told without any table.
 use Rattle.std.specs.Prelude.{◌≡◌, ◌<◌, ◌≤◌, ◌^◌, ℕ, zero, suc, ◌+◌, ◌-◌, Bool, true, false, ◌&&◌, ◌==◌, nat_le, nat_lt, List, [], ◌∷◌, ◌++◌, length, map, Option, Some, None, option_map, option_to_list, IsTrue, if◌then◌else◌}
+use Rattle.dis_records.specs.declared.header.TheConstants.{LARGEST_DATAGRAM}
 use Rattle.dis_records.specs.declared.entity.EntityId.{EntityId}
 use Rattle.siman_pdus.specs.Spelling.{pdu_size}
 use Rattle.siman_pdus.specs.declared.pdu.Pdu.{Pdu}
@@ -158,7 +159,7 @@ manager_id s = record { site = s.address.site; application = s.address.applicati
 pub record IsOrder (s : Settings) (k : ℕ) (p : Pdu) : Type 0 where
   pub id : request_id_of p.body ≡ Some (s.first_id + k)
   pub below : s.first_id + k < 2 ^ 32
-  pub size : pdu_size p ≤ 8192
+  pub size : pdu_size p ≤ LARGEST_DATAGRAM
   pub exercise : p.exercise ≡ s.exercise
   pub origin : p.origin ≡ manager_id s
 

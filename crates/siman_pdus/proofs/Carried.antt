@@ -6,6 +6,7 @@ use Rattle.std.proofs.Math.Nat.{mod-lt}
 use Rattle.std.proofs.lemmas.Bool.{cases_lt}
 use Rattle.std.proofs.lemmas.List.{get_or_past}
 use Rattle.std.proofs.lemmas.List.Elements.{All-nil, All-cons, All-head, All-tail, All-append, All-replicate}
+use Rattle.dis_records.specs.declared.header.TheConstants.{LARGEST_DATAGRAM}
 use Rattle.dis_records.specs.declared.clock_time.ClockTime.{ClockTime}
 use Rattle.dis_records.specs.declared.datum.FixedDatum.{FixedDatum}
 use Rattle.dis_records.specs.declared.entity.EntityId.{EntityId}
@@ -104,14 +105,14 @@ identifiers : (xs : List ℕ) → All IsId xs → Carry (id_layouts xs)
 identifiers [] h = tt
 identifiers (id ∷ xs) h = (number32 id (All-head IsId id xs h), identifiers xs (All-tail IsId id xs h))
 
-datums : (d : DatumLists) → AreDatumsInRange d → size (datums_layout d) ≤ 8192 → Carry (datums_layout d)
+datums : (d : DatumLists) → AreDatumsInRange d → size (datums_layout d) ≤ LARGEST_DATAGRAM → Carry (datums_layout d)
 datums d h le =
     let all : size (fixed_layouts d.fixed ++ variable_layouts d.variable) ≡ size (fixed_layouts d.fixed) + size (variable_layouts d.variable) = size_join _ _ in (
       number32 (length d.fixed) (omega (arith, all, size_fixed d.fixed)),
       (number32 (length d.variable) (omega (arith, all, variable_least d.variable)), Carry-append (fixed_layouts d.fixed) (variable_layouts d.variable) (fixed d.fixed h.0) (variable d.variable h.1)),
     )
 
-ids : (d : IdLists) → AreIdsInRange d → size (ids_layout d) ≤ 8192 → Carry (ids_layout d)
+ids : (d : IdLists) → AreIdsInRange d → size (ids_layout d) ≤ LARGEST_DATAGRAM → Carry (ids_layout d)
 ids d h le =
     let all : size (id_layouts d.fixed ++ id_layouts d.variable) ≡ size (id_layouts d.fixed) + size (id_layouts d.variable) = size_join _ _ in (
       number32 (length d.fixed) (omega (arith, all, size_ids d.fixed)),
@@ -120,7 +121,7 @@ ids d h le =
 
 -- ---- bodies
 
-body : (b : Body) → IsBodyInRange b → size (body_layout b) ≤ 8192 → Carry (body_layout b)
+body : (b : Body) → IsBodyInRange b → size (body_layout b) ≤ LARGEST_DATAGRAM → Carry (body_layout b)
 body (CreateEntity request) h le = (number32 request h, tt)
 body (RemoveEntity request) h le = (number32 request h, tt)
 body (StartResume real sim request) h le = (number32 real.hour h.0.0, (number32 real.past h.0.1, (number32 sim.hour h.1.0, (number32 sim.past h.1.1, (number32 request h.2, tt)))))
@@ -162,7 +163,7 @@ header p n h lt = (
 
 -- ---- a PDU
 
-pub pdu_carried : (p : Pdu) → IsInRange p → pdu_size p ≤ 8192 → Carry (pdu_layout p (pdu_size p))
+pub pdu_carried : (p : Pdu) → IsInRange p → pdu_size p ≤ LARGEST_DATAGRAM → Carry (pdu_layout p (pdu_size p))
 pdu_carried p h le =
     let n = pdu_size p in
     let front = header_layout (header_of p n) in
@@ -172,13 +173,13 @@ pdu_carried p h le =
     (Carry-append (front ++ origin) target (Carry-append front origin (header p n h (omega (arith, le))) (entity p.origin h.origin)) (entity p.target h.target))
     (body p.body h.body (omega (arith, le)))
 
-pub text_is_spelled : (p : Pdu) → IsInRange p → pdu_size p ≤ 8192 → Spells p (pdu_text p)
+pub text_is_spelled : (p : Pdu) → IsInRange p → pdu_size p ≤ LARGEST_DATAGRAM → Spells p (pdu_text p)
 text_is_spelled p h le = text_spelled p (fit_carried (pdu_layout p (pdu_size p)) (pdu_carried p h le)) le
 
-pub text_is_read : (p : Pdu) → IsInRange p → pdu_size p ≤ 8192 → reading (pdu_text p) ≡ Some p
+pub text_is_read : (p : Pdu) → IsInRange p → pdu_size p ≤ LARGEST_DATAGRAM → reading (pdu_text p) ≡ Some p
 text_is_read p h le = reading_is p (pdu_text p) (text_is_spelled p h le)
 
-pub text_has_size : (p : Pdu) → IsInRange p → pdu_size p ≤ 8192 → length (pdu_text p) ≡ pdu_size p
+pub text_has_size : (p : Pdu) → IsInRange p → pdu_size p ≤ LARGEST_DATAGRAM → length (pdu_text p) ≡ pdu_size p
 text_has_size p h le = length-text (pdu_layout p (pdu_size p)) (fit_carried (pdu_layout p (pdu_size p)) (pdu_carried p h le))
 
 -- what is past the end counts as 0
@@ -189,5 +190,5 @@ bytes_everywhere b h i =
       | inr le ↦ rw (get_or_past b i 0 le) (omega arith)
     ]
 
-pub text_is_bytes : (p : Pdu) → IsInRange p → pdu_size p ≤ 8192 → (i : ℕ) → get_or (pdu_text p) i 0 < 256
+pub text_is_bytes : (p : Pdu) → IsInRange p → pdu_size p ≤ LARGEST_DATAGRAM → (i : ℕ) → get_or (pdu_text p) i 0 < 256
 text_is_bytes p h le = bytes_everywhere (pdu_text p) (bytes_carried (pdu_layout p (pdu_size p)) (pdu_carried p h le))

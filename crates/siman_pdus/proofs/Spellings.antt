@@ -4,6 +4,7 @@ use Rattle.std.specs.Prelude.{IfOk, IfErr}
 use Rattle.std.specs.Result.{result_ok}
 use Rattle.std.specs.Int.{w8, w16}
 use Rattle.std.proofs.lemmas.List.{length-append}
+use Rattle.dis_records.specs.declared.header.TheConstants.{LARGEST_DATAGRAM}
 use Rattle.dis_records.specs.declared.entity.EntityId.{EntityId}
 use Rattle.dis_records.specs.declared.header.Header.{Header}
 use Rattle.dis_records.specs.Layout.{Fit, Spell, number_at}
@@ -152,7 +153,7 @@ answered_reads (Err fault) b answered = elim answered.1 [
 
 -- ---- what is written
 
-pub text_spelled : (p : Pdu) → Fit (pdu_layout p (pdu_size p)) → pdu_size p ≤ 8192 → Spells p (pdu_text p)
+pub text_spelled : (p : Pdu) → Fit (pdu_layout p (pdu_size p)) → pdu_size p ≤ LARGEST_DATAGRAM → Spells p (pdu_text p)
 text_spelled p fits limit =
     let layout = pdu_layout p (pdu_size p) in
     let len : length (pdu_text p) ≡ pdu_size p = length-text layout fits in

@@ -1,6 +1,7 @@
 -- The grammar: which bytes spell a PDU. Each layout is in the order and the words of the standard (IEEE 1278.1-2012, 7.5.2 to 7.5.13).
 use Rattle.std.specs.Prelude.{ℕ, ◌≤◌, List, [], ◌∷◌, ◌++◌, length}
 use Rattle.std.specs.Int.{w16, w32}
+use Rattle.dis_records.specs.declared.header.TheConstants.{LARGEST_DATAGRAM}
 use Rattle.dis_records.specs.declared.kind.Kind.{Kind}
 use Rattle.dis_records.specs.declared.kind.Kind.TheVariants as kinds
 use Rattle.dis_records.specs.declared.header.Header.{Header}
@@ -80,7 +81,7 @@ pdu_layout p n = header_layout (header_of p n) ++ entity_layout p.origin ++ enti
 -- b is a datagram of at most 8192 bytes that spells p, with its own length in the header.
 pub record Spells (p : Pdu) (b : List ℕ) : Type 0 where
   pub spell : Spell (pdu_layout p (length b)) b
-  pub limit : length b ≤ 8192
+  pub limit : length b ≤ LARGEST_DATAGRAM
 
 -- the number of bytes of each spelling of p
 abbrev pub pdu_size : Pdu → ℕ

@@ -2,6 +2,7 @@
 
 ghost use Rattle.std.specs.Prelude.{◌≡◌, ◌+◌, ◌<◌, ◌≤◌, ◌++◌, ◌↔◌, [], ◌∷◌, OnOk, OnErr, Err, vec_len, vec_capacity};
 ghost use Rattle.std.specs.Int.{w16, w32};
+ghost use Rattle.dis_records.specs.declared.header.TheConstants.{LARGEST_DATAGRAM};
 ghost use Rattle.dis_records.specs.ClockTime.{clock_time_layout};
 ghost use Rattle.dis_records.specs.Datum.{fixed_layouts, variable_layout, variable_layouts, id_layouts};
 ghost use Rattle.dis_records.specs.Entity.{entity_layout};
@@ -116,7 +117,7 @@ fn put_id_records(out: &mut Vec<u8>, ids: &[u32])
 
 #[tactic(auto, using(crate::proofs::Texts::size_join, crate::proofs::Texts::size_fixed, crate::proofs::Texts::variable_least))]
 fn put_datums(out: &mut Vec<u8>, fixed: &[FixedDatum], variable: &[VariableDatum])
-    requires limit { size (records_layout fixed.now variable.now) ≤ 8192 }
+    requires limit { size (records_layout fixed.now variable.now) ≤ LARGEST_DATAGRAM }
     requires room { HasRoom out.old (size (records_layout fixed.now variable.now)) }
     ensures { Puts (records_layout fixed.now variable.now) out.old out.new }
 {
@@ -128,7 +129,7 @@ fn put_datums(out: &mut Vec<u8>, fixed: &[FixedDatum], variable: &[VariableDatum
 
 #[tactic(auto, using(crate::proofs::Texts::size_join, crate::proofs::Texts::size_ids))]
 fn put_ids(out: &mut Vec<u8>, fixed: &[u32], variable: &[u32])
-    requires limit { size (id_lists_layout fixed.now variable.now) ≤ 8192 }
+    requires limit { size (id_lists_layout fixed.now variable.now) ≤ LARGEST_DATAGRAM }
     requires room { HasRoom out.old (size (id_lists_layout fixed.now variable.now)) }
     ensures { Puts (id_lists_layout fixed.now variable.now) out.old out.new }
 {
@@ -139,7 +140,7 @@ fn put_ids(out: &mut Vec<u8>, fixed: &[u32], variable: &[u32])
 }
 
 fn put_body(out: &mut Vec<u8>, body: &Body)
-    requires limit { size (body_layout body.now) ≤ 8192 }
+    requires limit { size (body_layout body.now) ≤ LARGEST_DATAGRAM }
     requires room { HasRoom out.old (size (body_layout body.now)) }
     ensures { Puts (body_layout body.now) out.old out.new }
 {
@@ -239,7 +240,7 @@ pub fn kind_of(body: &Body) -> Kind
 
 fn put_pdu(out: &mut Vec<u8>, pdu: &Pdu, length: u16)
     requires own { length ≡ pdu_size pdu.now }
-    requires limit { pdu_size pdu.now ≤ 8192 }
+    requires limit { pdu_size pdu.now ≤ LARGEST_DATAGRAM }
     requires room { HasRoom out.old (pdu_size pdu.now) }
     ensures { Puts (pdu_layout pdu.now (pdu_size pdu.now)) out.old out.new }
 {
@@ -263,7 +264,7 @@ pub fn encode(pdu: &Pdu, out: &mut Vec<u8>) -> Result<(), EncodeFault>
     ensures ok { OnOk result (out.new.items ≡ out.old.items ++ pdu_text pdu.now) }
     // What is written is decoded again, to the same PDU.
     ensures spelled { OnOk result (Spells pdu.now (pdu_text pdu.now)) }
-    ensures too_long { (result ≡ Err EncodeFault.TooLong) ↔ (8192 < pdu_size pdu.now) }
+    ensures too_long { (result ≡ Err EncodeFault.TooLong) ↔ (LARGEST_DATAGRAM < pdu_size pdu.now) }
     // It lacks memory only where the room that is spare does not do.
     ensures memory { result ≡ Err EncodeFault.Memory → vec_capacity out.old < vec_len out.old + pdu_size pdu.now }
     ensures err { OnErr result (out.new.items ≡ out.old.items) }

@@ -1,6 +1,7 @@
 //! The ranges of the numbers of a PDU.
 
 ghost use Rattle.std.specs.Prelude.{◌≡◌, ◌<◌, ◌≤◌, ℕ, List, Some, length, slice_index};
+ghost use Rattle.dis_records.specs.declared.header.TheConstants.{LARGEST_DATAGRAM};
 ghost use Rattle.siman_pdus.specs.declared.pdu.Pdu.{Pdu};
 ghost use Rattle.siman_pdus.specs.Ranges.{AreDatumsInRange, IsInRange};
 ghost use Rattle.siman_pdus.specs.Reading.{reading};
@@ -24,8 +25,8 @@ pub fn datums_are_in_range(datums: &Datums)
 /// most 8192 bytes is spelled by its canonical text, which is bytes and is read as it.
 pub fn ranges_and_texts_agree()
     ensures in_range { (pdu : Pdu) (b : List ℕ) → ((i : ℕ) → slice_index b i < 256) → reading b ≡ Some pdu → IsInRange pdu }
-    ensures spelled { (pdu : Pdu) → IsInRange pdu → pdu_size pdu ≤ 8192 → Spells pdu (pdu_text pdu) }
-    ensures read { (pdu : Pdu) → IsInRange pdu → pdu_size pdu ≤ 8192 → reading (pdu_text pdu) ≡ Some pdu }
-    ensures size { (pdu : Pdu) → IsInRange pdu → pdu_size pdu ≤ 8192 → length (pdu_text pdu) ≡ pdu_size pdu }
-    ensures bytes { (pdu : Pdu) → IsInRange pdu → pdu_size pdu ≤ 8192 → (i : ℕ) → slice_index (pdu_text pdu) i < 256 }
+    ensures spelled { (pdu : Pdu) → IsInRange pdu → pdu_size pdu ≤ LARGEST_DATAGRAM → Spells pdu (pdu_text pdu) }
+    ensures read { (pdu : Pdu) → IsInRange pdu → pdu_size pdu ≤ LARGEST_DATAGRAM → reading (pdu_text pdu) ≡ Some pdu }
+    ensures size { (pdu : Pdu) → IsInRange pdu → pdu_size pdu ≤ LARGEST_DATAGRAM → length (pdu_text pdu) ≡ pdu_size pdu }
+    ensures bytes { (pdu : Pdu) → IsInRange pdu → pdu_size pdu ≤ LARGEST_DATAGRAM → (i : ℕ) → slice_index (pdu_text pdu) i < 256 }
 {}

@@ -2,21 +2,22 @@
 
 ghost use Rattle.std.specs.Prelude.{◌≡◌, ◌+◌, ◌≤◌, length};
 ghost use Rattle.std.specs.Option.{SomeIff};
+ghost use Rattle.dis_records.specs.declared.header.TheConstants.{LARGEST_DATAGRAM};
 ghost use Rattle.dis_records.specs.Datum.{variable_layouts};
 ghost use Rattle.dis_records.specs.Layout.{size};
 ghost use Rattle.siman_pdus.specs.Spelling.{records_layout, id_lists_layout, pdu_size};
 
 use crate::pdu::{Body, Pdu};
-use dis_records::{FixedDatum, LARGEST, VariableDatum, padded_size};
+use dis_records::{FixedDatum, LARGEST_DATAGRAM, VariableDatum, padded_size};
 
 fn variable_size(records: &[VariableDatum], start: usize) -> Option<usize>
-    requires { start ≤ 8192 }
-    ensures { let end = start + size (variable_layouts records.now) in SomeIff result (end ≤ 8192) end }
+    requires { start ≤ LARGEST_DATAGRAM }
+    ensures { let end = start + size (variable_layouts records.now) in SomeIff result (end ≤ LARGEST_DATAGRAM) end }
 {
     let mut end = start;
     for datum in records {
         end += padded_size(datum.bits()) as usize;
-        if end > LARGEST {
+        if end > LARGEST_DATAGRAM {
             return None;
         }
     }
@@ -27,13 +28,13 @@ fn variable_size(records: &[VariableDatum], start: usize) -> Option<usize>
 #[tactic(auto, using(crate::proofs::Texts::size_join, crate::proofs::Texts::size_fixed))]
 fn datums_size(fixed: &[FixedDatum], variable: &[VariableDatum], counts: usize) -> Option<usize>
     requires { counts ≤ 1000 }
-    ensures { let end = counts + size (records_layout fixed.now variable.now) in SomeIff result (end ≤ 8192) end }
+    ensures { let end = counts + size (records_layout fixed.now variable.now) in SomeIff result (end ≤ LARGEST_DATAGRAM) end }
 {
-    if fixed.len() > LARGEST / 8 {
+    if fixed.len() > LARGEST_DATAGRAM / 8 {
         return None;
     }
     let end = counts + 8 + 8 * fixed.len();
-    if end > LARGEST {
+    if end > LARGEST_DATAGRAM {
         return None;
     }
     variable_size(variable, end)
@@ -43,13 +44,13 @@ fn datums_size(fixed: &[FixedDatum], variable: &[VariableDatum], counts: usize) 
 #[tactic(auto, using(crate::proofs::Texts::size_join, crate::proofs::Texts::size_ids))]
 fn ids_size(fixed: &[u32], variable: &[u32], counts: usize) -> Option<usize>
     requires { counts ≤ 1000 }
-    ensures { let end = counts + size (id_lists_layout fixed.now variable.now) in SomeIff result (end ≤ 8192) end }
+    ensures { let end = counts + size (id_lists_layout fixed.now variable.now) in SomeIff result (end ≤ LARGEST_DATAGRAM) end }
 {
-    if fixed.len() > LARGEST / 4 || variable.len() > LARGEST / 4 {
+    if fixed.len() > LARGEST_DATAGRAM / 4 || variable.len() > LARGEST_DATAGRAM / 4 {
         return None;
     }
     let end = counts + 8 + 4 * fixed.len() + 4 * variable.len();
-    if end > LARGEST {
+    if end > LARGEST_DATAGRAM {
         return None;
     }
     Some(end)
@@ -57,7 +58,7 @@ fn ids_size(fixed: &[u32], variable: &[u32], counts: usize) -> Option<usize>
 
 /// The number of bytes of the text of a PDU, or `None` where it would have more than 8192.
 pub fn encoded_size(pdu: &Pdu) -> Option<u16>
-    ensures { SomeIff result (pdu_size pdu.now ≤ 8192) (pdu_size pdu.now) }
+    ensures { SomeIff result (pdu_size pdu.now ≤ LARGEST_DATAGRAM) (pdu_size pdu.now) }
 {
     let size = match &pdu.body {
         Body::CreateEntity { .. } | Body::RemoveEntity { .. } => 28,

@@ -1,4 +1,6 @@
 -- The command ends as what it judged says.
+use Rattle.siman_console.specs.declared.check.TheConstants.{LARGEST_CERTIFICATE}
+use Rattle.siman_console.specs.declared.show.TheConstants.{LARGEST_RECORDING}
 use Rattle.exercise_recording.specs.Reading.{recording_at}
 use Rattle.exercise_check.specs.Certificate.{certificate_at}
 use Rattle.siman_console.specs.Check.{TellsCheck}
@@ -7,7 +9,7 @@ use Rattle.siman_console.proofs.check.check_command.Goals as goal
 
 pub returns-clause-known : goal.returns-clause-known
 returns-clause-known g c =
-    ends_known_both (λ r k told. TellsCheck (recording_at 268435456 r) (certificate_at 1048576 k) told (g.W.Write.contents c.args.out.now) (g.W.Write.contents c.judged.new.out)) (g.R.Read.remaining c.args.recording) (g.C.Read.remaining c.args.certificate) _ c.end.result _ _ c.judged.ensures.known c.end.ensures
+    ends_known_both (λ r k told. TellsCheck (recording_at LARGEST_RECORDING r) (certificate_at LARGEST_CERTIFICATE k) told (g.W.Write.contents c.args.out.now) (g.W.Write.contents c.judged.new.out)) (g.R.Read.remaining c.args.recording) (g.C.Read.remaining c.args.certificate) _ c.end.result _ _ c.judged.ensures.known c.end.ensures
 
 pub returns-clause-ends : goal.returns-clause-ends
 returns-clause-ends g c =

@@ -1,4 +1,5 @@
 -- The command ends as what it showed says.
+use Rattle.siman_console.specs.declared.show.TheConstants.{LARGEST_RECORDING}
 use Rattle.exercise_recording.specs.Reading.{recording_at}
 use Rattle.siman_console.specs.Show.{TellsShow}
 use Rattle.siman_console.proofs.Endings.{ends_known, ends_with}
@@ -6,7 +7,7 @@ use Rattle.siman_console.proofs.show.show_command.Goals as goal
 
 pub returns-clause-known : goal.returns-clause-known
 returns-clause-known g c =
-    ends_known (λ bytes told. TellsShow (recording_at 268435456 bytes) told (g.W.Write.contents c.args.out.now) (g.W.Write.contents c.shown.new.out)) (g.R.Read.remaining c.args.recording) _ c.end.result _ _ c.shown.ensures.known c.end.ensures
+    ends_known (λ bytes told. TellsShow (recording_at LARGEST_RECORDING bytes) told (g.W.Write.contents c.args.out.now) (g.W.Write.contents c.shown.new.out)) (g.R.Read.remaining c.args.recording) _ c.end.result _ _ c.shown.ensures.known c.end.ensures
 
 pub returns-clause-ends : goal.returns-clause-ends
 returns-clause-ends g c =

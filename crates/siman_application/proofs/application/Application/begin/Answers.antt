@@ -1,4 +1,5 @@
 use Rattle.std.proofs.Common.{◌≡◌, ◌≤◌, ap, sym, ◌∙◌, length, arith}
+use Rattle.siman_application.specs.declared.entity_list.TheConstants.{MOST_ENTITIES}
 use Rattle.exercise_model.specs.Station.{StationData, is_opening}
 use Rattle.siman_application.proofs.Right.{begun_in_range, right_start}
 use Rattle.siman_application.proofs.application.Application.begin.Goals as goal
@@ -16,5 +17,5 @@ returns-clause-ranges c = begun_in_range c.args.exercise c.in_ok-station.station
 
 pub returns-clause-too_many : goal.returns-clause-too_many
 returns-clause-too_many c =
-    let few : length c.opening.result.now ≤ 4096 = c.if-opening-gt-MOST_ENTITIES.false in
+    let few : length c.opening.result.now ≤ MOST_ENTITIES = c.if-opening-gt-MOST_ENTITIES.false in
     (λ e. absurd cc, λ h. absurd (omega (arith, few, h, ap length c.opening.ensures.items)))

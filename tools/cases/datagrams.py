@@ -1,9 +1,10 @@
-"""Datagrams of each kind: whole, cut, longer, and with fields changed."""
+"""Datagrams of each kind: whole, cut, longer, and with fields changed; and the tables of LAYOUTS.md."""
+import re
 import struct
 
 import pages
 from cases import texts
-from cases.examples import README_DATAGRAM
+from cases.examples import README_DATAGRAM, TOP
 
 
 def with_length(datagram):
@@ -39,6 +40,25 @@ def try_largest_datagrams(trials):
         trials.expect(["pdu", datagram.hex()], pages.answer_to_datagram(datagram))
 
 
+def tables_of_layouts():
+    """The offsets and sizes of the fields of each kind, as LAYOUTS.md has them from byte 24 on, without the records."""
+    tables = {}
+    for section in (TOP / "docs" / "LAYOUTS.md").read_text(encoding="utf-8").split("\n## ")[1:]:
+        fields = [(int(at), int(size)) for at, size in re.findall(r"^\| (\d+) \| (\d+) \|", section, re.MULTILINE)]
+        for kind in re.findall(r"\((\d+)\)", section.splitlines()[0]):
+            tables[int(kind)] = fields
+    return tables
+
+
+def try_layouts(trials):
+    tables = tables_of_layouts()
+    for kind, (name, layout, contents) in pages.BODIES.items():
+        sizes = [part for _, size in layout for part in ([4, 4] if size == 8 else [size])] + [4, 4] * bool(contents)
+        fields = [(24 + sum(sizes[:place]), size) for place, size in enumerate(sizes)]
+        trials.state(f"the layout of {name} in LAYOUTS.md", fields, tables.get(kind))
+
+
 def try_all(trials, _):
+    try_layouts(trials)
     try_datagrams(trials)
     try_largest_datagrams(trials)

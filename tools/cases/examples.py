@@ -10,6 +10,11 @@ TEXTS_REPORT = (
     b"yes records=9 others=0\nanswer 2 request 1\nanswer 6 request 5\nknown 3 change 2\nknown 7 change 6\n"
     b"entity 2:3:7 running\n"
 )
+# What check says of logs_joined.dsrc and of logs_joined_wrong_state.dsrc, both with logs_joined.dsct.
+JOINED_REPORT = (
+    b"yes records=7 others=0\nanswer 1 request 0\nanswer 4 request 0\nknown 6 change 1\nentity 2:3:7 stopped\n"
+)
+JOINED_NO = b"no step=3 cause=13 wrong-state\n"
 FORMATS_RECORDING = bytes.fromhex(
     "4453524330303031 01 0001 0002 0003 0001 0007 01 02 0000 0000000000000005 0002 ABCD"
     "01 0000 0000000000000100 0001 EF 03 0000 0007 02 00 00000003"

@@ -3,6 +3,7 @@ import random
 
 import pages
 from cases import texts
+from cases.examples import JOINED_NO, JOINED_REPORT
 from cases.scenes import scenes
 from cases.wandering import wandering
 from pages import Outcome
@@ -24,6 +25,20 @@ def try_scenes(trials):
     trials.state("the causes of the scenes", set(pages.CAUSES), causes)
 
 
+def try_joined_logs(trials):
+    """The examples whose certificate takes the entries in another order than the file."""
+    certificate = "examples/logs_joined.dsct"
+    steps = (trials.folder / certificate).read_bytes()
+    for name, stated in [
+        ("examples/logs_joined.dsrc", Outcome(0, JOINED_REPORT, b"")),
+        ("examples/logs_joined_wrong_state.dsrc", Outcome(1, JOINED_NO, b"")),
+    ]:
+        recording = (trials.folder / name).read_bytes()
+        trials.state(f"the verdict on {name}", stated, pages.answer_to_check(recording, steps))
+        trials.expect(["check", name, certificate], stated)
+        trials.expect(["show", name], pages.answer_to_show(recording))
+
+
 def try_wandering(trials):
     for seed in range(HISTORIES):
         recording, steps = wandering(random.Random(seed), HISTORY_LENGTH)
@@ -33,4 +48,5 @@ def try_wandering(trials):
 
 def try_all(trials, _):
     try_scenes(trials)
+    try_joined_logs(trials)
     try_wandering(trials)

@@ -1,7 +1,8 @@
 """What the program answers by the pages of docs/, for the script outside.py.
 
-PROFILE.md says which datagrams spell a PDU, FORMATS.md which files are recordings and certificates, MODEL.md when a
-certificate explains a recording, and TEXTS.md how each answer is written. Nothing here looks at the program.
+LAYOUTS.md and PROFILE.md say which datagrams spell a PDU, FORMATS.md which files are recordings and certificates,
+MODEL.md when a certificate explains a recording, and TEXTS.md how each answer is written. Nothing here looks at the
+program.
 """
 from .datagrams import *
 from .files import *

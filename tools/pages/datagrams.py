@@ -1,4 +1,6 @@
-"""Datagrams and hex text: the PDU that one spells or its refusal, by PROFILE.md, and the lines of it, by TEXTS.md."""
+"""Datagrams and hex text: the PDU that one spells or its refusal, by LAYOUTS.md and PROFILE.md, and the lines of it, by
+TEXTS.md.
+"""
 import re
 from collections import namedtuple
 

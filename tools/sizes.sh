@@ -1,0 +1,28 @@
+#!/bin/sh
+# Prints the table of sizes of docs/HOUSE.md: lines of code, definitions and proofs of each crate as wc counts them, and
+# the wrong bodies in must-fail; behind the sum the crate of the tests, by itself.
+set -eu
+cd -- "$(dirname -- "$0")/../crates"
+
+# The lines of all files of a folder, if it is there, with an ending.
+lines() {
+    if [ -d "$1" ]; then find "$1" -name "*.$2" -exec cat {} + | wc -l; else echo 0; fi
+}
+
+row() { printf '| %s | %d | %d | %d | %d |\n' "$@"; }
+
+src=0 specs=0 proofs=0 edits=0
+printf '| Crate | `src` | `specs` | `proofs` | Edits in `must-fail` |\n|---|---|---|---|---|\n'
+for name in *; do
+    set -- "$(lines "$name/src" rt)" "$(lines "$name/specs" antt)" "$(lines "$name/proofs" antt)" \
+        "$(find "$name" -path "$name/must-fail/*.edit" | wc -l)"
+    if [ "$name" = siman_tests ]; then
+        tests="the tests, \`$name\`: $(grep -r '#\[test\]' "$name/src" | wc -l) of them"
+        last=$(row "$tests" "$@")
+        continue
+    fi
+    row "\`$name\`" "$@"
+    src=$((src + $1)) specs=$((specs + $2)) proofs=$((proofs + $3)) edits=$((edits + $4))
+done
+row 'in all' "$src" "$specs" "$proofs" "$edits"
+printf '%s\n' "$last"

@@ -10,6 +10,8 @@ def try_words(trials):
     not_text = Outcome(2, b"", b"words: not UTF-8\n")
     recording, certificate = trials.file(FORMATS_RECORDING), trials.file(FORMATS_CERTIFICATE)
     trials.expect(["--help"], Outcome(0, Some(), b""))
+    trials.expect(["--version"], Outcome(0, b"siman 0.1.0\n", b""))
+    trials.expect(["-V"], Outcome(0, b"siman 0.1.0\n", b""))
     for words in [
         ["pdu"], ["show"], ["check"], ["check", recording], ["pdu", "07", "01"], ["pdu", README_DATAGRAM.decode(), ""],
         ["show", recording, recording], ["check", recording, certificate, certificate], ["nothing"], [""],

@@ -7,3 +7,4 @@ pub mod Header
 pub mod Datum
 pub mod Refusals
 pub mod Records
+pub mod Texts

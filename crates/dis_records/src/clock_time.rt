@@ -1,5 +1,7 @@
 //! Clock times.
 
+use std::fmt;
+
 /// A time that exceeds one hour (IEEE 1278.1-2012, 6.2.14). Both numbers are carried and shown as
 /// they stand, and nothing is computed from them (profile).
 #[derive(Clone, Copy, Debug, PartialEq, Eq)]
@@ -9,4 +11,16 @@ pub struct ClockTime {
     /// The time past the hour, built like a timestamp: upper 31 bits the time, lowest bit 1 for
     /// absolute time.
     pub past: u32,
+}
+
+/// `hour/past`, two numbers as they were carried.
+impl fmt::Display for ClockTime {
+    ghost use Rattle.std.specs.Prelude.{Some};
+    ghost use Rattle.dis_records.specs.Texts.{clock_text};
+
+    ghost output = { λ t. Some (clock_text t) };
+
+    fn fmt<W: fmt::Write>(&self, f: &mut fmt::Formatter<W>) -> fmt::Result {
+        write!(f, "{}/{}", self.hour, self.past)
+    }
 }

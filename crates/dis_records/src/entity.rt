@@ -5,6 +5,7 @@ ghost use Rattle.dis_records.specs.Address.{Pair};
 ghost use Rattle.dis_records.specs.Entity.{is_addressed};
 
 use crate::address::Address;
+use std::fmt;
 
 /// All sites or all applications, in its place (IEEE 1278.1-2012, 6.2.28).
 const ALL: u16 = 0xFFFF;
@@ -16,6 +17,18 @@ pub struct EntityId {
     pub site: u16,
     pub application: u16,
     pub entity: u16,
+}
+
+/// `site:application:entity`.
+impl fmt::Display for EntityId {
+    ghost use Rattle.std.specs.Prelude.{Some};
+    ghost use Rattle.dis_records.specs.Texts.{entity_text};
+
+    ghost output = { λ id. Some (entity_text id) };
+
+    fn fmt<W: fmt::Write>(&self, f: &mut fmt::Formatter<W>) -> fmt::Result {
+        write!(f, "{}:{}:{}", self.site, self.application, self.entity)
+    }
 }
 
 /// The entities that a request and its answer speak of (profile).

@@ -1,5 +1,7 @@
 //! What an exercise knows of an entity.
 
+use std::fmt;
+
 /// The state of an entity in an exercise: not there, there and frozen, or there and simulated
 /// (IEEE 1278.1-2012, 5.6.5; that an entity has exactly one of these is this project's profile).
 #[derive(Clone, Copy, Debug, PartialEq, Eq)]
@@ -10,4 +12,20 @@ pub enum EntityState {
     Stopped,
     /// It is there, and its simulation runs.
     Running,
+}
+
+/// `absent`, `stopped` or `running`.
+impl fmt::Display for EntityState {
+    ghost use Rattle.std.specs.Prelude.{Some};
+    ghost use Rattle.dis_records.specs.Texts.{state_text};
+
+    ghost output = { λ s. Some (state_text s) };
+
+    fn fmt<W: fmt::Write>(&self, f: &mut fmt::Formatter<W>) -> fmt::Result {
+        match self {
+            EntityState::Absent => write!(f, "absent"),
+            EntityState::Stopped => write!(f, "stopped"),
+            EntityState::Running => write!(f, "running"),
+        }
+    }
 }

@@ -6,7 +6,8 @@ ghost use Rattle.dis_records.specs.Header.{IsHeader, header_layout, header_at, h
 
 use crate::field::{u8_at, u16_at, u32_at};
 use crate::kind::Kind;
-use thiserror::Error;
+use std::error::Error;
+use std::fmt;
 
 /// The size of a header in bytes.
 pub const HEADER_SIZE: usize = 12;
@@ -24,7 +25,8 @@ pub enum Version {
 }
 
 impl Version {
-    fn code(self) -> u8
+    /// The number that the header carries.
+    pub fn code(self) -> u8
         ensures { result ≡ version_code self }
     {
         match self {
@@ -49,27 +51,42 @@ pub struct Header {
 }
 
 /// Why a datagram does not begin with a header: the first of these, in this order, that holds.
-#[derive(Clone, Copy, Debug, PartialEq, Eq, Error)]
+#[derive(Clone, Copy, Debug, PartialEq, Eq)]
 pub enum HeaderFault {
     /// It has fewer than 12 bytes.
-    #[error("truncated")]
     Truncated,
     /// The protocol version is this number and not 7.
-    #[error("version {0}")]
     Version(u8),
     /// The protocol family is this number and not 5.
-    #[error("family {0}")]
     Family(u8),
     /// The PDU type is this number and none of 11 to 22.
-    #[error("kind {0}")]
     Kind(u8),
     /// It has more than 8192 bytes.
-    #[error("long")]
     Long,
     /// The length field has this number, which is not the number of its bytes.
-    #[error("length-field {0}")]
     LengthField(u16),
 }
+
+/// Its name, and what was found.
+impl fmt::Display for HeaderFault {
+    ghost use Rattle.std.specs.Prelude.{Some};
+    ghost use Rattle.dis_records.specs.Texts.{header_fault_text};
+
+    ghost output = { λ fault. Some (header_fault_text fault) };
+
+    fn fmt<W: fmt::Write>(&self, f: &mut fmt::Formatter<W>) -> fmt::Result {
+        match self {
+            HeaderFault::Truncated => write!(f, "truncated"),
+            HeaderFault::Version(version) => write!(f, "version {version}"),
+            HeaderFault::Family(family) => write!(f, "family {family}"),
+            HeaderFault::Kind(kind) => write!(f, "kind {kind}"),
+            HeaderFault::Long => write!(f, "long"),
+            HeaderFault::LengthField(length) => write!(f, "length-field {length}"),
+        }
+    }
+}
+
+impl Error for HeaderFault {}
 
 /// The header of a datagram, whose length field is its number of bytes, at most 8192.
 pub fn read_header(bytes: &[u8]) -> Result<Header, HeaderFault>

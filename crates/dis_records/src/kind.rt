@@ -4,6 +4,8 @@ ghost use Rattle.std.specs.Prelude.{◌≡◌, IfSome, IsNone, IsTrue, ◌↔◌
 ghost use Rattle.dis_records.specs.Kind.{kind_code, is_kind_code};
 ghost use Rattle.dis_records.specs.Entity.{is_create};
 
+use std::fmt;
+
 /// A kind of PDU; its number is the PDU type.
 #[derive(Clone, Copy, Debug, PartialEq, Eq)]
 pub enum Kind {
@@ -59,6 +61,31 @@ impl Kind {
         match self {
             Kind::CreateEntity => true,
             _ => false,
+        }
+    }
+}
+
+/// Its name, as `create-entity`.
+impl fmt::Display for Kind {
+    ghost use Rattle.std.specs.Prelude.{Some};
+    ghost use Rattle.dis_records.specs.Texts.{kind_text};
+
+    ghost output = { λ kind. Some (kind_text kind) };
+
+    fn fmt<W: fmt::Write>(&self, f: &mut fmt::Formatter<W>) -> fmt::Result {
+        match self {
+            Kind::CreateEntity => write!(f, "create-entity"),
+            Kind::RemoveEntity => write!(f, "remove-entity"),
+            Kind::StartResume => write!(f, "start-resume"),
+            Kind::StopFreeze => write!(f, "stop-freeze"),
+            Kind::Acknowledge => write!(f, "acknowledge"),
+            Kind::ActionRequest => write!(f, "action-request"),
+            Kind::ActionResponse => write!(f, "action-response"),
+            Kind::DataQuery => write!(f, "data-query"),
+            Kind::SetData => write!(f, "set-data"),
+            Kind::DataPdu => write!(f, "data"),
+            Kind::EventReport => write!(f, "event-report"),
+            Kind::Comment => write!(f, "comment"),
         }
     }
 }

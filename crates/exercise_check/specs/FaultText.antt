@@ -1,5 +1,9 @@
--- The texts of a certificate's faults (profile).
+-- The texts of a certificate's faults, and of its first bad step (profile).
 use Rattle.std.specs.Prelude.{ℕ, List, ◌++◌, codes, decimal}
+use Rattle.exercise_model.specs.declared.cause.Cause.{Cause}
+use Rattle.exercise_model.specs.Numbers.{cause_number, cause_text}
+use Rattle.exercise_check.specs.declared.checker.CheckFault.{CheckFault}
+use Rattle.exercise_check.specs.declared.checker.CheckFault.TheVariants.{Bad, Memory as OutOfMemory}
 use Rattle.exercise_check.specs.declared.certificate_fault.CertificateFormatFault.{CertificateFormatFault}
 use Rattle.exercise_check.specs.declared.certificate_fault.CertificateFormatFault.TheVariants.{Magic, Truncated, Trailing, OverLimit}
 use Rattle.exercise_check.specs.declared.certificate_fault.CertificateFault.{CertificateFault}
@@ -28,3 +32,12 @@ abbrev pub certificate_fault_text : CertificateFault → List ℕ
 certificate_fault_text (Format f) = format_fault_text f
 certificate_fault_text Read = codes "read"
 certificate_fault_text Memory = codes "memory"
+
+-- the first bad step of a certificate, and its cause: no step=N cause=N NAME
+abbrev pub no_text : ℕ → Cause → List ℕ
+no_text step cause = codes "no step=" ++ decimal step ++ codes " cause=" ++ decimal (cause_number cause) ++ codes " " ++ cause_text cause
+
+-- why a certificate is refused
+abbrev pub check_fault_text : CheckFault → List ℕ
+check_fault_text (Bad step cause) = no_text step cause
+check_fault_text OutOfMemory = codes "memory"

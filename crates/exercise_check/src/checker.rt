@@ -13,19 +13,37 @@ use crate::checked::Checked;
 use crate::course::{Course, Progress};
 use exercise_model::{Cause, ExerciseLog};
 use std::alloc::{AllocError, Global};
-use thiserror::Error;
+use std::error::Error;
+use std::fmt;
 
 /// Why a certificate is refused.
-#[derive(Clone, Copy, Debug, PartialEq, Eq, Error)]
+#[derive(Clone, Copy, Debug, PartialEq, Eq)]
 pub enum CheckFault {
     /// A step, from 0, and the first cause that holds there; all steps before it are good. Where
     /// the numbers of steps and entries differ it is step 0 with CountDiffers.
-    #[error("step={step} cause={cause}")]
     Bad { step: usize, cause: Cause },
     /// There is no memory to judge it.
-    #[error("memory")]
     Memory,
 }
+
+/// `no step=N cause=N NAME`, or `memory`.
+impl fmt::Display for CheckFault {
+    ghost use Rattle.std.specs.Prelude.{Some};
+    ghost use Rattle.exercise_check.specs.FaultText.{check_fault_text};
+
+    ghost output = { λ fault. Some (check_fault_text fault) };
+
+    fn fmt<W: fmt::Write>(&self, f: &mut fmt::Formatter<W>) -> fmt::Result {
+        match self {
+            CheckFault::Bad { step, cause } => {
+                write!(f, "no step={step} cause={} {cause}", cause.number())
+            }
+            CheckFault::Memory => write!(f, "memory"),
+        }
+    }
+}
+
+impl Error for CheckFault {}
 
 impl From<AllocError> for CheckFault {
     ghost use Rattle.std.specs.Prelude.{◌≡◌};

@@ -1,17 +1,17 @@
 -- What the command `pdu` answers, and how it ends.
-use Rattle.std.specs.Prelude.{◌≡◌, ℕ, ◌≤◌, nat_lt, List, [], length, take, slice_index, ◌-◌, ◌==◌, Option, Some, None, Result, Ok, Err, if◌then◌else◌}
+use Rattle.std.specs.Prelude.{◌≡◌, ℕ, ◌++◌, codes, decimal, ◌≤◌, nat_lt, List, [], length, take, slice_index, ◌-◌, ◌==◌, Option, Some, None, Result, Ok, Err, if◌then◌else◌}
 use Rattle.std.specs.Io.KnownBytes.{Appends, Keeps}
 use Rattle.siman_console.specs.declared.hex_text.TheConstants.{LONGEST_HEX}
 use Rattle.dis_records.specs.Header.{header_at}
 use Rattle.siman_pdus.specs.declared.fault.PduFault.{PduFault}
 use Rattle.siman_pdus.specs.declared.pdu.Pdu.{Pdu}
 use Rattle.siman_pdus.specs.Reading.{pdu_from, refusal_of}
+use Rattle.siman_pdus.specs.Texts.{refusal_number, pdu_fault_text}
 use Rattle.siman_console.specs.declared.fault.Fault.{Fault}
 use Rattle.siman_console.specs.declared.fault.Fault.TheVariants.{NotBytePairs, Input, File, Words, Recording, Certificate, Output, Memory}
 use Rattle.siman_console.specs.Ending.{EndsWith}
 use Rattle.siman_console.specs.HexText.{bytes_of}
-use Rattle.siman_console.specs.Records.{pdu_lines}
-use Rattle.siman_console.specs.Refusal.{refusal_line}
+use Rattle.siman_console.specs.Records.{pdu_lines, line_end}
 
 -- a status, and the text that goes out before
 pub record Said : Type 0 where
@@ -20,6 +20,10 @@ pub record Said : Type 0 where
 
 abbrev pub shown : Pdu → Said
 shown pdu = record { status = 0; text = pdu_lines pdu }
+
+-- refused NUMBER NAME
+abbrev pub refusal_line : PduFault → List ℕ
+refusal_line fault = codes "refused " ++ decimal (refusal_number fault) ++ codes " " ++ pdu_fault_text fault ++ line_end
 
 abbrev pub refused : PduFault → Said
 refused fault = record { status = 1; text = refusal_line fault }

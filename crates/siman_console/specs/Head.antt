@@ -1,41 +1,12 @@
 -- The head of a PDU as text: the name of its kind, its header, its two identifiers, the fields of its body and the counts of its records.
 use Rattle.std.specs.Prelude.{ℕ, List, ◌++◌, length, codes, decimal}
-use Rattle.dis_records.specs.declared.clock_time.ClockTime.{ClockTime}
-use Rattle.dis_records.specs.declared.entity.EntityId.{EntityId}
-use Rattle.dis_records.specs.declared.header.Version.{Version}
-use Rattle.dis_records.specs.declared.header.Version.TheVariants.{V7}
-use Rattle.dis_records.specs.declared.kind.Kind.{Kind}
-use Rattle.dis_records.specs.declared.kind.Kind.TheVariants as kinds
+use Rattle.dis_records.specs.Header.{version_code}
+use Rattle.dis_records.specs.Texts.{entity_text, clock_text, kind_text}
 use Rattle.siman_pdus.specs.declared.pdu.Body.{Body}
 use Rattle.siman_pdus.specs.declared.pdu.Body.TheVariants.{CreateEntity, RemoveEntity, StartResume, StopFreeze, Acknowledge, ActionRequest, ActionResponse, DataQuery, SetData, DataPdu, EventReport, Comment}
 use Rattle.siman_pdus.specs.declared.pdu.Pdu.{Pdu}
 use Rattle.siman_pdus.specs.DatumLists.{DatumLists, IdLists}
 use Rattle.siman_pdus.specs.Spelling.{body_kind}
-
--- an entity identifier: site:application:entity
-abbrev pub entity_text : EntityId → List ℕ
-entity_text id = decimal id.site ++ codes ":" ++ decimal id.application ++ codes ":" ++ decimal id.entity
-
--- a clock time: hour/past
-abbrev pub clock_text : ClockTime → List ℕ
-clock_text time = decimal time.hour ++ codes "/" ++ decimal time.past
-
-abbrev pub version_number : Version → ℕ
-version_number V7 = 7
-
-abbrev pub kind_text : Kind → List ℕ
-kind_text kinds.CreateEntity = codes "create-entity"
-kind_text kinds.RemoveEntity = codes "remove-entity"
-kind_text kinds.StartResume = codes "start-resume"
-kind_text kinds.StopFreeze = codes "stop-freeze"
-kind_text kinds.Acknowledge = codes "acknowledge"
-kind_text kinds.ActionRequest = codes "action-request"
-kind_text kinds.ActionResponse = codes "action-response"
-kind_text kinds.DataQuery = codes "data-query"
-kind_text kinds.SetData = codes "set-data"
-kind_text kinds.DataPdu = codes "data"
-kind_text kinds.EventReport = codes "event-report"
-kind_text kinds.Comment = codes "comment"
 
 abbrev pub counts_text : ℕ → ℕ → List ℕ
 counts_text fixed variable = codes " fixed=" ++ decimal fixed ++ codes " variable=" ++ decimal variable
@@ -62,6 +33,6 @@ fields_text (Comment datums) = datum_counts datums
 
 abbrev pub head_text : Pdu → List ℕ
 head_text pdu =
-    kind_text (body_kind pdu.body) ++ codes " version=" ++ decimal (version_number pdu.version) ++ codes " exercise=" ++ decimal pdu.exercise
+    kind_text (body_kind pdu.body) ++ codes " version=" ++ decimal (version_code pdu.version) ++ codes " exercise=" ++ decimal pdu.exercise
     ++ codes " stamp=" ++ decimal pdu.stamp ++ codes " status=" ++ decimal pdu.status
     ++ codes " from=" ++ entity_text pdu.origin ++ codes " to=" ++ entity_text pdu.target ++ fields_text pdu.body

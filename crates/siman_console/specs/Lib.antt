@@ -1,6 +1,5 @@
 pub mod Head
 pub mod Records
-pub mod Refusal
 pub mod HexText
 pub mod Answer
 pub mod Report

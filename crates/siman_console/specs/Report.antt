@@ -3,19 +3,13 @@ use Rattle.std.specs.Prelude.{ℕ, zero, suc, List, [], ◌++◌, length, codes,
 use Rattle.std.specs.List.{flat_map}
 use Rattle.dis_records.specs.Address.{Pair}
 use Rattle.dis_records.specs.declared.entity_state.EntityState.{EntityState}
-use Rattle.dis_records.specs.declared.entity_state.EntityState.TheVariants as states
+use Rattle.dis_records.specs.Texts.{state_text}
 use Rattle.exercise_model.specs.declared.cause.Cause.{Cause}
-use Rattle.exercise_model.specs.declared.cause.Cause.TheVariants as causes
 use Rattle.exercise_model.specs.Recording.{PlainRecording}
 use Rattle.exercise_model.specs.History.{station_at}
-use Rattle.exercise_model.specs.Numbers.{cause_number}
+use Rattle.exercise_check.specs.FaultText.{no_text}
 use Rattle.exercise_model.specs.Account.{pair_of, change_behind, others_of, entities_of}
 use Rattle.siman_console.specs.Records.{line_end}
-
-abbrev pub state_text : EntityState → List ℕ
-state_text states.Absent = codes "absent"
-state_text states.Stopped = codes "stopped"
-state_text states.Running = codes "running"
 
 -- the texts that a function gives for 0, 1 and so on below n, one after the other
 unfoldable pub texts_below : (ℕ → List ℕ) → ℕ → List ℕ
@@ -60,21 +54,6 @@ report_text r =
     yes_line (length r.entries) (others_of r) ++ texts_below (answer_at r) (length r.entries) ++ texts_below (known_at r) (length r.entries)
     ++ texts_below (entities_at r) (length r.setting.stations)
 
-abbrev pub cause_text : Cause → List ℕ
-cause_text causes.CountDiffers = codes "count-differs"
-cause_text causes.NoSuchRecord = codes "no-such-record"
-cause_text causes.OutOfOrder = codes "out-of-order"
-cause_text causes.BadLink = codes "bad-link"
-cause_text causes.WrongSender = codes "wrong-sender"
-cause_text causes.ReusedIdentifier = codes "reused-identifier"
-cause_text causes.NoRequest = codes "no-request"
-cause_text causes.WrongAnswer = codes "wrong-answer"
-cause_text causes.ChangedAnswer = codes "changed-answer"
-cause_text causes.Impossible = codes "impossible"
-cause_text causes.Stranger = codes "stranger"
-cause_text causes.NeverSent = codes "never-sent"
-cause_text causes.WrongState = codes "wrong-state"
-
 -- no step=N cause=N NAME
 abbrev pub no_line : ℕ → Cause → List ℕ
-no_line step cause = codes "no step=" ++ decimal step ++ codes " cause=" ++ decimal (cause_number cause) ++ codes " " ++ cause_text cause ++ line_end
+no_line step cause = no_text step cause ++ line_end

@@ -4,6 +4,7 @@ use Rattle.std.specs.List.{flat_map}
 use Rattle.std.specs.Option.{option_map_or}
 use Rattle.std.specs.Io.KnownBytes.{Appends, Keeps}
 use Rattle.dis_records.specs.declared.entity_state.EntityState.{EntityState}
+use Rattle.dis_records.specs.Texts.{state_text}
 use Rattle.siman_pdus.specs.declared.pdu.Pdu.{Pdu}
 use Rattle.exercise_recording.specs.declared.format_fault.FormatFault.{FormatFault}
 use Rattle.exercise_recording.specs.declared.format_fault.RecordingFault.TheVariants as recordings
@@ -18,7 +19,7 @@ use Rattle.siman_console.specs.declared.fault.Fault.TheVariants.{NotBytePairs, I
 use Rattle.siman_console.specs.Ending.{EndsWith}
 use Rattle.siman_console.specs.Head.{head_text}
 use Rattle.siman_console.specs.Records.{line_end}
-use Rattle.siman_console.specs.Report.{state_text, texts_below}
+use Rattle.siman_console.specs.Report.{texts_below}
 
 -- exercise=X stations=N records=N
 abbrev pub counts_line : PlainRecording → List ℕ

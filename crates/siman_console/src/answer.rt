@@ -1,14 +1,13 @@
 //! What `pdu` answers for a datagram.
 
-ghost use Rattle.std.specs.Prelude.{◌≡◌, ℕ, ◌<◌, ◌≤◌, List, [], ◌∷◌, ◌++◌, length, IfOk};
+ghost use Rattle.std.specs.Prelude.{◌≡◌, ℕ, ◌<◌, ◌≤◌, List, [], ◌∷◌, ◌++◌, length, IfOk, string_bytes};
 ghost use Rattle.siman_console.specs.declared.hex_text.TheConstants.{LONGEST_HEX};
 ghost use Rattle.hex.specs.Hex.{IsBytes, encode_lower};
 ghost use Rattle.siman_pdus.specs.declared.pdu.Pdu.{Pdu};
 ghost use Rattle.siman_pdus.specs.Spelling.{Spells};
-ghost use Rattle.siman_console.specs.Answer.{answer_to, said_of_hex, said_of_input, shown};
+ghost use Rattle.siman_console.specs.Answer.{refusal_line, answer_to, said_of_hex, said_of_input, shown};
 
 use crate::records::pdu_lines;
-use crate::refusal::Refusal;
 use siman_pdus::{PduFault, decode, spellings_are_apart};
 use std::alloc::{AllocError, Global};
 use std::marker::Model;
@@ -35,6 +34,16 @@ impl Model for Answer {
     ghost view = { λ a. record { status = a.status; text = string_bytes a.text } };
 }
 
+/// The line of a refusal, with its number and what was found or where.
+fn refusal_line(alloc: Global, fault: PduFault) -> Result<String, AllocError>
+    ensures { IfOk result (λ line. string_bytes line ≡ refusal_line fault) }
+{
+    let number = fault.number();
+    let mut line = String::new(alloc);
+    writeln!(line, "refused {number} {fault}")?;
+    Ok(line)
+}
+
 impl Answer {
     /// The answer for a datagram: the lines of the PDU that it spells with status 0, or else the line of its
     /// refusal with status 1.
@@ -49,7 +58,7 @@ impl Answer {
             Err(PduFault::Memory) => Err(AllocError),
             Err(fault) => Ok(Answer {
                 status: REFUSED,
-                text: format!(in alloc; "{}\n", Refusal(fault))?,
+                text: refusal_line(alloc, fault)?,
             }),
         }
     }

@@ -10,23 +10,18 @@
 
 mod answer;
 mod check;
-mod clock_time;
 mod datagram;
-mod entity;
 mod entry_lines;
 mod fault;
 mod files_fault;
 mod head;
 mod hex_text;
 mod input;
-mod kind;
 mod outside;
 mod program;
 mod records;
-mod refusal;
 mod report;
 mod show;
-mod state;
 mod words;
 
 pub use answer::answers_follow_the_grammar;
@@ -36,6 +31,5 @@ pub use fault::Ended;
 pub use files_fault::FilesFault;
 pub use outside::Outside;
 pub use program::run;
-pub use refusal::refusal_number;
 pub use show::{LARGEST_RECORDING, show_command};
 pub use words::{Task, read_words, usage_command};

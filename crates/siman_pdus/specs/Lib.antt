@@ -8,3 +8,4 @@ pub mod Ranges
 pub mod Writing
 pub mod Role
 pub mod Answers
+pub mod Texts

@@ -1,29 +1,66 @@
 //! Why a datagram is no PDU, and why a PDU could not be written.
 
 ghost use Rattle.std.specs.Prelude.{◌≡◌};
+ghost use Rattle.siman_pdus.specs.Texts.{refusal_number};
 ghost use Rattle.siman_pdus.specs.declared.fault.PduFault.TheVariants.{Memory};
 
 use dis_records::HeaderFault;
 use std::alloc::{AllocError, AllocFailed};
-use thiserror::Error;
+use std::error::Error;
+use std::fmt;
 
 /// Why a datagram is no PDU: the first of these, in this order, that holds.
-#[derive(Clone, Copy, Debug, PartialEq, Eq, Error)]
+#[derive(Clone, Copy, Debug, PartialEq, Eq)]
 pub enum PduFault {
     /// Its header is refused.
-    #[error(transparent)]
     Header(HeaderFault),
     /// A part of its body is not wholly there, the first of them from this offset on, in bytes
     /// from 0. The parts are the fixed part from offset 12, then each datum record or identifier.
-    #[error("body-short at {0}")]
     BodyShort(usize),
     /// Bytes are left after the last part of its body, from this offset on.
-    #[error("body-long at {0}")]
     BodyLong(usize),
     /// Memory ran out.
-    #[error("memory")]
     Memory,
 }
+
+impl PduFault {
+    /// Its number, from 1 on in the order in which refusals are looked for. Want of memory, which
+    /// refuses nothing, has the last one.
+    pub fn number(self) -> u8
+        ensures { result ≡ refusal_number self }
+    {
+        match self {
+            PduFault::Header(HeaderFault::Truncated) => 1,
+            PduFault::Header(HeaderFault::Version(_)) => 2,
+            PduFault::Header(HeaderFault::Family(_)) => 3,
+            PduFault::Header(HeaderFault::Kind(_)) => 4,
+            PduFault::Header(HeaderFault::Long) => 5,
+            PduFault::Header(HeaderFault::LengthField(_)) => 6,
+            PduFault::BodyShort(_) => 7,
+            PduFault::BodyLong(_) => 8,
+            PduFault::Memory => 9,
+        }
+    }
+}
+
+/// Its name, with what was found or the offset where it was found.
+impl fmt::Display for PduFault {
+    ghost use Rattle.std.specs.Prelude.{Some};
+    ghost use Rattle.siman_pdus.specs.Texts.{pdu_fault_text};
+
+    ghost output = { λ fault. Some (pdu_fault_text fault) };
+
+    fn fmt<W: fmt::Write>(&self, f: &mut fmt::Formatter<W>) -> fmt::Result {
+        match self {
+            PduFault::Header(fault) => write!(f, "{fault}"),
+            PduFault::BodyShort(offset) => write!(f, "body-short at {offset}"),
+            PduFault::BodyLong(offset) => write!(f, "body-long at {offset}"),
+            PduFault::Memory => write!(f, "memory"),
+        }
+    }
+}
+
+impl Error for PduFault {}
 
 impl From<AllocError> for PduFault {
     ghost from_gives = { λ _ e. e ≡ Memory };
@@ -42,7 +79,7 @@ impl<T: Drop> From<AllocFailed<T>> for PduFault {
 }
 
 /// Why a PDU was not written.
-#[derive(Clone, Copy, Debug, PartialEq, Eq, Error)]
+#[derive(Clone, Copy, Debug, PartialEq, Eq, thiserror::Error)]
 pub enum EncodeFault {
     /// Its text would have more than 8192 bytes.
     #[error("too long")]

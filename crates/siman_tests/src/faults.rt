@@ -174,7 +174,7 @@ fn faults_of_stations_and_certificates_are_told_by_name(rt: HostRuntime) {
         cause: Cause::WrongState,
     };
     let rows = [
-        (bad, "step=8 cause=wrong-state"),
+        (bad, "no step=8 cause=13 wrong-state"),
         (CheckFault::Memory, "memory"),
     ];
     assert_eq!(rt; first_otherwise(rt.alloc(), &rows), None);

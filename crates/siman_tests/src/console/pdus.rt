@@ -3,7 +3,7 @@
 use super::{Left, leaves};
 use crate::streams::{FailingReader, FailingWriter};
 use dis_records::HeaderFault;
-use siman_console::{pdu_command, pdu_from, refusal_number};
+use siman_console::{pdu_command, pdu_from};
 use siman_pdus::PduFault;
 use std::alloc::Global;
 use std::io::{ErrorKind, Read};
@@ -165,7 +165,7 @@ fn a_refusal_has_its_number_and_its_place(rt: HostRuntime) {
 /// The first fault that has another number than its own.
 fn first_numbered_otherwise(faults: &[(PduFault, u8)]) -> Option<PduFault> {
     for (fault, number) in faults {
-        if refusal_number(*fault) != *number {
+        if fault.number() != *number {
             return Some(*fault);
         }
     }

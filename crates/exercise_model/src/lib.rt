@@ -29,7 +29,7 @@ pub use acknowledge::{AcknowledgeKey, key_of, responds, responds_under};
 pub use cause::Cause;
 pub use dis_records::LARGEST_DATAGRAM;
 pub use entry::{EntryView, LogEntry};
-pub use exchange::{is_answer, is_asked, is_from, is_under_identifier};
+pub use exchange::{is_answer, is_asked, is_from};
 pub use fault::LogFault;
 pub use laws::first_answers_change_states;
 pub use log::ExerciseLog;
@@ -39,5 +39,6 @@ pub use run_laws::{
     accounts_are_whole, allowed_stays_allowed, ends_are_one, logs_suffice, what_explains_holds,
 };
 pub use setting::Setting;
+pub use siman_pdus::is_under_identifier;
 pub use state::{Change, is_entity, scope_has, state_made};
-pub use station::{LARGEST_ENTITY, MOST_STATIONS, Station, are_stations, is_above};
+pub use station::{LARGEST_ENTITY, MOST_STATIONS, Station, are_stations, is_above, listed_state};

@@ -2,6 +2,7 @@
 use Rattle.std.proofs.Common.{◌≡◌, ℕ, List, [], ◌∷◌, refl, ap, sym, ◌∙◌, subst}
 use Rattle.std.specs.Prelude.{Bool, true, false, ◌==◌, ◌&&◌, ◌||◌, not, Option, Some, None, if◌then◌else◌}
 use Rattle.std.specs.Option.{option_or, option_map_or}
+use Rattle.std.proofs.lemmas.Bool.{and_from}
 use Rattle.dis_records.specs.declared.entity_state.EntityState.{EntityState}
 use Rattle.dis_records.specs.Entity.{scope_of}
 use Rattle.siman_pdus.specs.declared.pdu.Pdu.{Pdu}
@@ -29,7 +30,6 @@ use Rattle.siman_application.specs.Play.{play, known, reply, state_over}
 use Rattle.siman_application.specs.Ranges.{IsOutfitInRange}
 use Rattle.siman_application.specs.OwnLog.{Turn, Tells, Orders, Passes, Takes, Loses, taken_in, sent_after, log_in, is_due}
 use Rattle.siman_application.proofs.Answered.{for_parts, is_answer, answer_stamped, equal_self}
-use Rattle.siman_application.proofs.Numbers.{and_both}
 use Rattle.siman_application.proofs.Played.{key_is, request_id, outside_range, stays_by, states_go_on}
 use Rattle.siman_application.proofs.Right.{spelled_more}
 use Rattle.siman_application.proofs.Replies.{for_at}
@@ -72,10 +72,10 @@ not_change x p log acked = by (responds able p) (key_of p) refl refl where
 
 pub same_key_self : (k : AcknowledgeKey) → same_key k k ≡ true
 same_key_self k =
-    and_both (k.flag == k.flag) ((k.request == k.request) && ((k.site == k.site) && ((k.application == k.application) && (k.entity == k.entity)))) (equal_self k.flag)
-    (and_both (k.request == k.request) ((k.site == k.site) && ((k.application == k.application) && (k.entity == k.entity))) (equal_self k.request)
-    (and_both (k.site == k.site) ((k.application == k.application) && (k.entity == k.entity)) (equal_self k.site)
-    (and_both (k.application == k.application) (k.entity == k.entity) (equal_self k.application) (equal_self k.entity))))
+    and_from (k.flag == k.flag) ((k.request == k.request) && ((k.site == k.site) && ((k.application == k.application) && (k.entity == k.entity)))) (equal_self k.flag)
+    (and_from (k.request == k.request) ((k.site == k.site) && ((k.application == k.application) && (k.entity == k.entity))) (equal_self k.request)
+    (and_from (k.site == k.site) ((k.application == k.application) && (k.entity == k.entity)) (equal_self k.site)
+    (and_from (k.application == k.application) (k.entity == k.entity) (equal_self k.application) (equal_self k.entity))))
 
 pub responds_itself : (n : ℕ) (k : AcknowledgeKey) (p : Pdu) → responds n p ≡ true → key_of p ≡ Some k → responds_under n k p ≡ true
 responds_itself n k p r e = ap (λ (b : Bool). b && option_map_or (same_key k) (key_of p) false) r ∙ ap (λ (o : Option AcknowledgeKey). option_map_or (same_key k) o false) e ∙ same_key_self k
@@ -121,8 +121,8 @@ takes_up a s stamp b q r p f ts read text are alike settled to first =
 pub under_itself : (q : Pdu) → is_request_body q.body ≡ true → is_under_key q q ≡ true
 under_itself q e =
     let id = request_id q e in
-    and_both (same_pair q.origin q.origin) (same_id (request_id_of q.body) (request_id_of q.body))
-    (and_both (q.origin.site == q.origin.site) (q.origin.application == q.origin.application) (equal_self q.origin.site) (equal_self q.origin.application))
+    and_from (same_pair q.origin q.origin) (same_id (request_id_of q.body) (request_id_of q.body))
+    (and_from (q.origin.site == q.origin.site) (q.origin.application == q.origin.application) (equal_self q.origin.site) (equal_self q.origin.application))
     (ap (λ (o : Option ℕ). same_id o (request_id_of q.body)) id.1 ∙ ap (same_id (Some id.0)) id.1 ∙ equal_self id.0)
 
 -- what is taken first is the first under its key from then on

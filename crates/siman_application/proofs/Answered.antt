@@ -3,6 +3,7 @@ use Rattle.std.proofs.Common.{◌≡◌, ℕ, ◌+◌, zero, suc, ◌≤◌, ref
 use Rattle.std.specs.Prelude.{Bool, true, false, ◌==◌, ◌&&◌, ◌||◌, not, nat_le, Option, Some, None, if◌then◌else◌}
 use Rattle.std.specs.Option.{option_or}
 use Rattle.std.proofs.lemmas.Bool.Decides.{nat_tests}
+use Rattle.std.proofs.lemmas.Bool.{and_from, and_parts}
 use Rattle.dis_records.specs.declared.entity_number.TheConstants.{ANY_NUMBER}
 use Rattle.exercise_model.specs.declared.station.TheConstants.{LARGEST_ENTITY}
 use Rattle.dis_records.specs.declared.entity_state.EntityState.{EntityState}
@@ -28,7 +29,6 @@ use Rattle.siman_application.specs.Distinct.{is_for}
 use Rattle.siman_application.specs.Answer.{Knowledge, has_place, is_free, chosen, is_meant, own_number, answer_pdu, plain_answer, created, obeyed, data_answer, held_records, told_of, ids_of, answer_by, answer, with_stamp}
 use Rattle.exercise_model.specs.State.{change_of}
 use Rattle.siman_application.specs.Listed.{IsPossible}
-use Rattle.siman_application.proofs.Numbers.{and_parts, and_both}
 use Rattle.siman_application.proofs.Cut.{cut_is}
 
 pub equal_self : (n : ℕ) → (n == n) ≡ true
@@ -138,11 +138,11 @@ is_chosen y n m e = chosen_by y n m (has_place y) refl (n == ANY_NUMBER) refl e
 pub answers_it : (a : Outfit) (q : Pdu) (stamp m : ℕ) (body : Body) → IsFor a q → matches_kind body (body_kind q.body) ≡ true → same_id (request_id_of body) (request_id_of q.body) ≡ true
     → are_fitting (body_kind q.body) q.target.entity m ≡ true → is_answer_to (answer_pdu a q stamp m body) q ≡ true
 answers_it a q stamp m body own kind id fits =
-    and_both (matches_kind body (body_kind q.body)) (same_id (request_id_of body) (request_id_of q.body) && (same_pair q.origin q.origin && (is_addressed q.target a.station.address && are_fitting (body_kind q.body) q.target.entity m))) kind
-    (and_both (same_id (request_id_of body) (request_id_of q.body)) (same_pair q.origin q.origin && (is_addressed q.target a.station.address && are_fitting (body_kind q.body) q.target.entity m)) id
-    (and_both (same_pair q.origin q.origin) (is_addressed q.target a.station.address && are_fitting (body_kind q.body) q.target.entity m)
-    (and_both (q.origin.site == q.origin.site) (q.origin.application == q.origin.application) (equal_self q.origin.site) (equal_self q.origin.application))
-    (and_both (is_addressed q.target a.station.address) (are_fitting (body_kind q.body) q.target.entity m) own.addressed fits)))
+    and_from (matches_kind body (body_kind q.body)) (same_id (request_id_of body) (request_id_of q.body) && (same_pair q.origin q.origin && (is_addressed q.target a.station.address && are_fitting (body_kind q.body) q.target.entity m))) kind
+    (and_from (same_id (request_id_of body) (request_id_of q.body)) (same_pair q.origin q.origin && (is_addressed q.target a.station.address && are_fitting (body_kind q.body) q.target.entity m)) id
+    (and_from (same_pair q.origin q.origin) (is_addressed q.target a.station.address && are_fitting (body_kind q.body) q.target.entity m)
+    (and_from (q.origin.site == q.origin.site) (q.origin.application == q.origin.application) (equal_self q.origin.site) (equal_self q.origin.application))
+    (and_from (is_addressed q.target a.station.address) (are_fitting (body_kind q.body) q.target.entity m) own.addressed fits)))
 
 outside_role : (b : Bool) → is_request_role (if b then roles.Answer else roles.Outside) ≡ true → ⊥
 outside_role true e = absurd cc

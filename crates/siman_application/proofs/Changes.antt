@@ -2,6 +2,7 @@
 use Rattle.std.proofs.Common.{◌≡◌, ℕ, zero, suc, ◌+◌, ◌<◌, ◌≤◌, [], ◌∷◌, length, refl, ap, sym, subst, ◌∙◌, arith}
 use Rattle.std.specs.Prelude.{Bool, true, false, ◌==◌, ◌&&◌, not, nat_lt, nat_le, Some, None, if◌then◌else◌}
 use Rattle.std.proofs.lemmas.Bool.Decides.{nat_tests}
+use Rattle.std.proofs.lemmas.Bool.{and_parts, eq-eqb, le-leb, lt-ltb}
 use Rattle.dis_records.specs.declared.entity_number.TheConstants.{ANY_NUMBER}
 use Rattle.exercise_model.specs.declared.station.TheConstants.{LARGEST_ENTITY}
 use Rattle.siman_application.specs.declared.entity_list.TheConstants.{MOST_ENTITIES}
@@ -17,7 +18,7 @@ use Rattle.exercise_model.specs.Place.{first_below}
 use Rattle.exercise_model.specs.State.{changed, state_made, scope_has}
 use Rattle.siman_application.specs.Answer.{is_free, count_present, has_place, chosen}
 use Rattle.siman_application.specs.Listed.{Entities, states_in, inserted, removed, all_changed, IsPossible}
-use Rattle.siman_application.proofs.Numbers.{and_parts, below-true, le-true, equal-true, Rises, rises_from, rises_to, other_number, state_head, state_past, absent_up_to}
+use Rattle.siman_application.proofs.Numbers.{Rises, rises_from, rises_to, other_number, state_head, state_past, absent_up_to}
 
 -- One more entity.
 
@@ -100,10 +101,10 @@ state_removed_by a n e x xs r rest true t true u =
     let same : x.0 ≡ n = grind (arith, nat_tests) in let here : n ≡ e = grind (arith, nat_tests) in absent_up_to x.0 e xs r.rest (omega arith)
 state_removed_by a n e x xs r rest true t false u =
     let same : x.0 ≡ n = grind (arith, nat_tests) in
-    sym (state_past x.0 e x.1 xs (λ clash. let no : (n == e) ≡ true = equal-true n e (sym same ∙ clash) in absurd cc))
+    sym (state_past x.0 e x.1 xs (λ clash. let no : (n == e) ≡ true = eq-eqb n e (sym same ∙ clash) in absurd cc))
 state_removed_by a n e x xs r rest false t true u =
     let here : n ≡ e = grind (arith, nat_tests) in
-    state_past x.0 e x.1 (removed n xs) (λ clash. let no : (x.0 == n) ≡ true = equal-true x.0 n (clash ∙ sym here) in absurd cc) ∙ rest ∙ ap (λ (c : Bool). if c then Absent else listed_state xs e) u
+    state_past x.0 e x.1 (removed n xs) (λ clash. let no : (x.0 == n) ≡ true = eq-eqb x.0 n (clash ∙ sym here) in absurd cc) ∙ rest ∙ ap (λ (c : Bool). if c then Absent else listed_state xs e) u
 state_removed_by a n e x xs r rest false t false u =
     ap (λ (z : EntityState). if x.0 == e then x.1 else z) (rest ∙ ap (λ (c : Bool). if c then Absent else listed_state xs e) u)
 
@@ -176,7 +177,7 @@ pub one_more : (n : ℕ) (x : ℕ × EntityState) (xs : Entities) → is_absent 
     → (b : Bool) → (x.0 == suc n) ≡ b → up_to (suc n) (x ∷ xs) ≡ up_to n (x ∷ xs) + (if is_absent (if b then x.1 else listed_state xs (suc n)) then 0 else 1)
 one_more n x xs there absent rest true t =
     let same : x.0 ≡ suc n = grind (arith, nat_tests) in
-    let in_new : nat_le x.0 (suc n) ≡ true = le-true x.0 (suc n) (omega arith) in
+    let in_new : nat_le x.0 (suc n) ≡ true = le-leb x.0 (suc n) (omega arith) in
     let in_old : nat_le x.0 n ≡ false = grind (arith, nat_tests) in
     let one : ◌≡◌ {A = ℕ} (if nat_le x.0 (suc n) then 1 else 0) 1 = ap (λ (b : Bool). if b then 1 else 0) in_new in
     let none : ◌≡◌ {A = ℕ} (if nat_le x.0 n then 1 else 0) 0 = ap (λ (b : Bool). if b then 1 else 0) in_old in
@@ -184,12 +185,12 @@ one_more n x xs there absent rest true t =
     let gone : ◌≡◌ {A = ℕ} (if is_absent (listed_state xs (suc n)) then 0 else 1) 0 = ap (λ (y : EntityState). if is_absent y then 0 else 1) (absent same) in
     omega (arith, rest, one, none, held, gone)
 one_more n x xs there absent rest false t =
-    let other : (x.0 ≡ suc n) → ⊥ = λ same. let yes : (x.0 == suc n) ≡ true = equal-true x.0 (suc n) same in absurd cc in
+    let other : (x.0 ≡ suc n) → ⊥ = λ same. let yes : (x.0 == suc n) ≡ true = eq-eqb x.0 (suc n) same in absurd cc in
     let alike : nat_le x.0 (suc n) ≡ nat_le x.0 n = alike_of (nat_le x.0 n) refl other in
     let one : ◌≡◌ {A = ℕ} (if nat_le x.0 (suc n) then 1 else 0) (if nat_le x.0 n then 1 else 0) = ap (λ (b : Bool). if b then 1 else 0) alike in
     omega (arith, rest, one) where
       alike_of : (b : Bool) → nat_le x.0 n ≡ b → ((x.0 ≡ suc n) → ⊥) → nat_le x.0 (suc n) ≡ b
-      alike_of true u other = let low : x.0 ≤ n = grind (arith, nat_tests) in le-true x.0 (suc n) (omega arith)
+      alike_of true u other = let low : x.0 ≤ n = grind (arith, nat_tests) in le-leb x.0 (suc n) (omega arith)
       alike_of false u other = past (nat_le x.0 (suc n)) refl where
         past : (c : Bool) → nat_le x.0 (suc n) ≡ c → c ≡ false
         past false v = refl
@@ -213,7 +214,7 @@ pub up_to_all : (a : ℕ) (xs : Entities) → is_opening_above a xs ≡ true →
 up_to_all a [] o = refl
 up_to_all a (x ∷ xs) o =
     let r : Rises a x.0 x.1 xs = rises_from a x xs o in
-    let one : ◌≡◌ {A = ℕ} (if nat_le x.0 LARGEST_ENTITY then 1 else 0) 1 = ap (λ (b : Bool). if b then 1 else 0) (le-true x.0 LARGEST_ENTITY r.within) in
+    let one : ◌≡◌ {A = ℕ} (if nat_le x.0 LARGEST_ENTITY then 1 else 0) 1 = ap (λ (b : Bool). if b then 1 else 0) (le-leb x.0 LARGEST_ENTITY r.within) in
     omega (arith, one, up_to_all x.0 xs r.rest)
 
 pub count_up_to : (a n : ℕ) (xs : Entities) → is_opening_above a xs ≡ true → count_present (states_in xs) n ≡ up_to n xs
@@ -293,11 +294,11 @@ chosen_none xs n o full = chosen_of (states_in xs) n 0 false (place_there xs fal
 
 pub chosen_least : (xs : Entities) (n m : ℕ) → is_opening xs ≡ true → length xs < MOST_ENTITIES → n ≡ ANY_NUMBER → first_below (is_free (states_in xs)) (LARGEST_ENTITY + 1) ≡ Some m → chosen (states_in xs) n ≡ Some m
 chosen_least xs n m o few any least =
-    chosen_of (states_in xs) n 0 true (place_there xs true o (below-true (length xs) MOST_ENTITIES few))
-    ∙ ap (λ (b : Bool). if b then first_below (is_free (states_in xs)) (LARGEST_ENTITY + 1) else (if is_free (states_in xs) n then Some n else None)) (equal-true n ANY_NUMBER any) ∙ least
+    chosen_of (states_in xs) n 0 true (place_there xs true o (lt-ltb (length xs) MOST_ENTITIES few))
+    ∙ ap (λ (b : Bool). if b then first_below (is_free (states_in xs)) (LARGEST_ENTITY + 1) else (if is_free (states_in xs) n then Some n else None)) (eq-eqb n ANY_NUMBER any) ∙ least
 
 pub chosen_own : (xs : Entities) (n : ℕ) → is_opening xs ≡ true → length xs < MOST_ENTITIES → ((n ≡ ANY_NUMBER) → ⊥) → (b : Bool) → is_free (states_in xs) n ≡ b → chosen (states_in xs) n ≡ (if b then Some n else None)
 chosen_own xs n o few own b free =
-    chosen_of (states_in xs) n 0 true (place_there xs true o (below-true (length xs) MOST_ENTITIES few))
+    chosen_of (states_in xs) n 0 true (place_there xs true o (lt-ltb (length xs) MOST_ENTITIES few))
     ∙ ap (λ (c : Bool). if c then first_below (is_free (states_in xs)) (LARGEST_ENTITY + 1) else (if is_free (states_in xs) n then Some n else None)) (other_number n ANY_NUMBER own)
     ∙ ap (λ (c : Bool). if c then Some n else None) free

@@ -3,6 +3,7 @@ use Rattle.std.proofs.Common.{◌≡◌, ℕ, zero, suc, ◌+◌, ◌-◌, ◌*�
 use Rattle.std.specs.Prelude.{Bool, true, false, nat_le, if◌then◌else◌}
 use Rattle.std.proofs.lemmas.Bool.Decides.{nat_tests}
 use Rattle.std.proofs.lemmas.List.{take_all}
+use Rattle.std.proofs.lemmas.Bool.{le-leb, lt-leb}
 use Rattle.dis_records.specs.declared.header.TheConstants.{LARGEST_DATAGRAM}
 use Rattle.dis_records.specs.declared.datum.FixedDatum.{FixedDatum}
 use Rattle.dis_records.specs.Datum.{Datum, padded, fixed_layouts, variable_layouts}
@@ -15,12 +16,6 @@ use Rattle.siman_application.specs.Answer.{largest, first_records, record_count,
 use Rattle.siman_application.specs.Records.{fitting, cut_records}
 
 -- The largest number that passes.
-
-le-false : (m n : ℕ) → n < m → nat_le m n ≡ false
-le-false m n h = grind (arith, nat_tests)
-
-le-true : (m n : ℕ) → m ≤ n → nat_le m n ≡ true
-le-true m n h = grind (arith, nat_tests)
 
 largest_next : (test : ℕ → Bool) (k n : ℕ) → k ≤ suc n → (0 < k → test k ≡ true) → (k < suc n → test (suc n) ≡ false) → (k ≤ n → largest test n ≡ k)
     → (b : Bool) → nat_le k n ≡ b → (if test (suc n) then suc n else largest test n) ≡ k
@@ -86,7 +81,7 @@ fitting_most room (d ∷ ds) (suc i) within h = fitting_most_by room d ds i (fit
 
 fitting_none : (ds : List Datum) → fitting 0 ds ≡ []
 fitting_none [] = refl
-fitting_none (d ∷ ds) = ap (λ (b : Bool). if b then d ∷ fitting (0 - padded d.bits) ds else []) (le-false (padded d.bits) 0 (omega arith))
+fitting_none (d ∷ ds) = ap (λ (b : Bool). if b then d ∷ fitting (0 - padded d.bits) ds else []) (lt-leb (padded d.bits) 0 (omega arith))
 
 pub length-take : {X : Type 0} (n : ℕ) (xs : List X) → n ≤ length xs → length (take n xs) ≡ n
 length-take zero xs h = refl
@@ -152,8 +147,8 @@ cut_by : (a : Outfit) (q : Pdu) (stamp request : ℕ) (d : DatumLists) (k : ℕ)
 cut_by a q stamp request d k f =
     ap (λ (n : ℕ). data_pdu a q stamp request (first_records n d))
     (largest_is (λ n. nat_le (pdu_size (data_pdu a q stamp request (first_records n d))) LARGEST_DATAGRAM) k (record_count d) f.within
-    (λ some. le-true (pdu_size (data_pdu a q stamp request (first_records k d))) LARGEST_DATAGRAM (omega (arith, data_size a q stamp request (first_records k d), f.fits)))
-    (λ j lt high. le-false (pdu_size (data_pdu a q stamp request (first_records j d))) LARGEST_DATAGRAM (omega (arith, data_size a q stamp request (first_records j d), f.most j lt high))))
+    (λ some. le-leb (pdu_size (data_pdu a q stamp request (first_records k d))) LARGEST_DATAGRAM (omega (arith, data_size a q stamp request (first_records k d), f.fits)))
+    (λ j lt high. lt-leb (pdu_size (data_pdu a q stamp request (first_records j d))) LARGEST_DATAGRAM (omega (arith, data_size a q stamp request (first_records j d), f.most j lt high))))
     ∙ ap (data_pdu a q stamp request) f.same
 
 pub cut_is : (a : Outfit) (q : Pdu) (stamp request : ℕ) (d : DatumLists) → data_answer a q stamp request d ≡ data_pdu a q stamp request (cut_records d)

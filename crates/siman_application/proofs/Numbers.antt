@@ -3,6 +3,7 @@ use Rattle.std.proofs.Common.{◌≡◌, ℕ, zero, suc, ◌+◌, ◌<◌, ◌�
 use Rattle.std.specs.Prelude.{Bool, true, false, ◌==◌, ◌&&◌, not, nat_lt, nat_le, Option, Some, None, if◌then◌else◌}
 use Rattle.std.specs.Option.{option_or}
 use Rattle.std.proofs.lemmas.Bool.Decides.{nat_tests}
+use Rattle.std.proofs.lemmas.Bool.{and_from, and_parts, eq-eqb, le-leb, lt-ltb}
 use Rattle.exercise_model.specs.declared.station.TheConstants.{LARGEST_ENTITY}
 use Rattle.dis_records.specs.declared.entity_state.EntityState.{EntityState}
 use Rattle.dis_records.specs.declared.entity_state.EntityState.TheVariants.{Absent}
@@ -10,23 +11,6 @@ use Rattle.exercise_model.specs.Station.{is_entity, is_absent, is_opening, is_op
 use Rattle.exercise_model.specs.Place.{first_below}
 use Rattle.siman_application.specs.Answer.{is_free}
 use Rattle.siman_application.specs.Listed.{Entities, states_in}
-
-pub and_parts : (a b : Bool) → (a && b) ≡ true → (a ≡ true) × (b ≡ true)
-and_parts true b e = (refl, e)
-and_parts false b e = absurd cc
-
-pub and_both : (a b : Bool) → a ≡ true → b ≡ true → (a && b) ≡ true
-and_both true b e f = f
-and_both false b e f = absurd cc
-
-pub below-true : (m n : ℕ) → m < n → nat_lt m n ≡ true
-below-true m n h = grind (arith, nat_tests)
-
-pub le-true : (m n : ℕ) → m ≤ n → nat_le m n ≡ true
-le-true m n h = grind (arith, nat_tests)
-
-pub equal-true : (m n : ℕ) → m ≡ n → (m == n) ≡ true
-equal-true m n h = grind (arith, nat_tests)
 
 -- Opening lists.
 
@@ -55,9 +39,9 @@ rises_from a x xs e =
 
 pub rises_to : (a : ℕ) (x : ℕ × EntityState) (xs : Entities) → Rises a x.0 x.1 xs → is_opening_above a (x ∷ xs) ≡ true
 rises_to a x xs r =
-    and_both (nat_lt a x.0) (nat_le x.0 LARGEST_ENTITY && (not (is_absent x.1) && is_opening_above x.0 xs)) (below-true a x.0 r.above)
-    (and_both (nat_le x.0 LARGEST_ENTITY) (not (is_absent x.1) && is_opening_above x.0 xs) (le-true x.0 LARGEST_ENTITY r.within)
-    (and_both (not (is_absent x.1)) (is_opening_above x.0 xs) (ap not r.there) r.rest))
+    and_from (nat_lt a x.0) (nat_le x.0 LARGEST_ENTITY && (not (is_absent x.1) && is_opening_above x.0 xs)) (lt-ltb a x.0 r.above)
+    (and_from (nat_le x.0 LARGEST_ENTITY) (not (is_absent x.1) && is_opening_above x.0 xs) (le-leb x.0 LARGEST_ENTITY r.within)
+    (and_from (not (is_absent x.1)) (is_opening_above x.0 xs) (ap not r.there) r.rest))
 
 pub other_number : (m n : ℕ) → ((m ≡ n) → ⊥) → (m == n) ≡ false
 other_number m n h = by (m == n) refl where
@@ -67,7 +51,7 @@ other_number m n h = by (m == n) refl where
 
 -- the state at a head, and past it
 pub state_head : (n e : ℕ) (y : EntityState) (xs : Entities) → n ≡ e → listed_state ((n, y) ∷ xs) e ≡ y
-state_head n e y xs h = ap (λ (b : Bool). if b then y else listed_state xs e) (equal-true n e h)
+state_head n e y xs h = ap (λ (b : Bool). if b then y else listed_state xs e) (eq-eqb n e h)
 
 pub state_past : (n e : ℕ) (y : EntityState) (xs : Entities) → ((n ≡ e) → ⊥) → listed_state ((n, y) ∷ xs) e ≡ listed_state xs e
 state_past n e y xs h = ap (λ (b : Bool). if b then y else listed_state xs e) (other_number n e h)
@@ -124,7 +108,7 @@ pub least_start : (xs : Entities) → is_opening xs ≡ true → LeastAt xs 0 1
 least_start xs o = record { least_is = omega arith; rises = o; above = λ e h. refl; none = none_below_one (states_in xs) }
 
 pub is_entity-true : (e : ℕ) → 1 ≤ e → e ≤ LARGEST_ENTITY → is_entity e ≡ true
-is_entity-true e low high = and_both (nat_le 1 e) (nat_le e LARGEST_ENTITY) (le-true 1 e low) (le-true e LARGEST_ENTITY high)
+is_entity-true e low high = and_from (nat_le 1 e) (nat_le e LARGEST_ENTITY) (le-leb 1 e low) (le-leb e LARGEST_ENTITY high)
 
 pub least_more : (xs : Entities) (i least : ℕ) (x : ℕ × EntityState) → drop i xs ≡ x ∷ drop (i + 1) xs → LeastAt xs i least → x.0 ≡ least → LeastAt xs (i + 1) (least + 1)
 least_more xs i least x at l same =
@@ -145,7 +129,7 @@ pub least_found : (xs : Entities) (i least : ℕ) → LeastAt xs i least → lea
 least_found xs i least l within absent =
     let is : least ≡ i + 1 = l.least_is in
     first_found (is_free (states_in xs)) least (LARGEST_ENTITY + 1) l.none
-    (and_both (is_entity least) (is_absent (listed_state xs least)) (is_entity-true least (omega arith) within) (ap is_absent (sym (l.above least (omega arith)) ∙ absent)))
+    (and_from (is_entity least) (is_absent (listed_state xs least)) (is_entity-true least (omega arith) within) (ap is_absent (sym (l.above least (omega arith)) ∙ absent)))
     (omega arith)
 
 -- a gap before the entity at the head

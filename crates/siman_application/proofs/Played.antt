@@ -3,6 +3,7 @@ use Rattle.std.proofs.Common.{◌≡◌, ℕ, List, [], ◌∷◌, refl, ap, sym
 use Rattle.std.specs.Prelude.{Bool, true, false, ◌==◌, ◌&&◌, ◌||◌, not, option_and_then, Option, Some, None, if◌then◌else◌}
 use Rattle.std.specs.Option.{option_or, option_map_or}
 use Rattle.std.proofs.lemmas.Bool.Decides.{nat_tests}
+use Rattle.std.proofs.lemmas.Bool.{and_from, and_parts}
 use Rattle.dis_records.specs.declared.entity.EntityId.{EntityId}
 use Rattle.dis_records.specs.declared.entity.Scope.{Scope}
 use Rattle.dis_records.specs.declared.entity.Scope.TheVariants.{One, All}
@@ -35,7 +36,6 @@ use Rattle.siman_application.specs.Listed.{IsPossible, after}
 use Rattle.siman_application.specs.Kept.{AreFor, AreSpelled}
 use Rattle.siman_application.specs.Play.{is_for_entities, play, known, state_over}
 use Rattle.siman_application.proofs.Answered.{IsFor, IsAnswer, for_parts, is_answer, equal_self, outside}
-use Rattle.siman_application.proofs.Numbers.{and_parts, and_both}
 
 -- Keys.
 
@@ -106,8 +106,8 @@ keys_agree q d p r k j pt pi rt ri kp jr e =
     let application : q.origin.application ≡ d.origin.application = sym (kp.application ∙ ap (λ (i : EntityId). i.application) pt) ∙ equal_of k.application j.application e4.0 ∙ jr.application ∙ ap (λ (i : EntityId). i.application) rt in
     let id : same_id (request_id_of q.body) (request_id_of d.body) ≡ true =
     ap (λ (o : Option ℕ). same_id o (request_id_of d.body)) (sym pi ∙ kp.request) ∙ ap (same_id (Some k.request)) (sym ri ∙ jr.request) ∙ e2.0 in
-    and_both (same_pair q.origin d.origin) (same_id (request_id_of q.body) (request_id_of d.body))
-    (and_both (q.origin.site == d.origin.site) (q.origin.application == d.origin.application) (equal_to q.origin.site d.origin.site site) (equal_to q.origin.application d.origin.application application)) id
+    and_from (same_pair q.origin d.origin) (same_id (request_id_of q.body) (request_id_of d.body))
+    (and_from (q.origin.site == d.origin.site) (q.origin.application == d.origin.application) (equal_to q.origin.site d.origin.site site) (equal_to q.origin.application d.origin.application application)) id
 
 -- an Acknowledge of another request is not under the key
 pub other_key : (q d p r : Pdu) (n : ℕ) (k : AcknowledgeKey) → p.target ≡ q.origin → request_id_of p.body ≡ request_id_of q.body → r.target ≡ d.origin → request_id_of r.body ≡ request_id_of d.body
@@ -190,11 +190,11 @@ none_acked a (d ∷ ds) spelled are q p n k target id key none = by (is_for_enti
 
 pub is_asked_by : (a : Outfit) (y : ℕ → EntityState) (q p : Pdu) (request : ℕ) → IsFor a q → IsAnswer a y q p → request_id_of q.body ≡ Some request → is_asked a.station.address p q ≡ true
 is_asked_by a y q p request own is id =
-    and_both (is_request_body q.body) (is_addressed q.target a.station.address && (same_id (request_id_of p.body) (request_id_of q.body) && same_pair q.origin p.target)) own.request
-    (and_both (is_addressed q.target a.station.address) (same_id (request_id_of p.body) (request_id_of q.body) && same_pair q.origin p.target) own.addressed
-    (and_both (same_id (request_id_of p.body) (request_id_of q.body)) (same_pair q.origin p.target)
+    and_from (is_request_body q.body) (is_addressed q.target a.station.address && (same_id (request_id_of p.body) (request_id_of q.body) && same_pair q.origin p.target)) own.request
+    (and_from (is_addressed q.target a.station.address) (same_id (request_id_of p.body) (request_id_of q.body) && same_pair q.origin p.target) own.addressed
+    (and_from (same_id (request_id_of p.body) (request_id_of q.body)) (same_pair q.origin p.target)
     (ap (λ (o : Option ℕ). same_id o (request_id_of q.body)) (is.id ∙ id) ∙ ap (same_id (Some request)) id ∙ equal_self request)
-    (ap (same_pair q.origin) is.target ∙ and_both (q.origin.site == q.origin.site) (q.origin.application == q.origin.application) (equal_self q.origin.site) (equal_self q.origin.application))))
+    (ap (same_pair q.origin) is.target ∙ and_from (q.origin.site == q.origin.site) (q.origin.application == q.origin.application) (equal_self q.origin.site) (equal_self q.origin.application))))
 
 -- each request has an identifier
 request_id_by : (body : Body) → is_request_body body ≡ true → (n : ℕ) × (request_id_of body ≡ Some n)

@@ -5,6 +5,7 @@ use Rattle.std.specs.List.{list_any}
 use Rattle.std.specs.Option.{option_or}
 use Rattle.std.proofs.lemmas.Bool.Decides.{nat_tests}
 use Rattle.std.proofs.lemmas.List.Elements.{All-nil, All-cons, All-head, All-tail, All-append, All-take}
+use Rattle.std.proofs.lemmas.Bool.{and_parts}
 use Rattle.exercise_model.specs.declared.station.TheConstants.{LARGEST_ENTITY}
 use Rattle.dis_records.specs.declared.header.TheConstants.{LARGEST_DATAGRAM}
 use Rattle.dis_records.specs.declared.datum.FixedDatum.{FixedDatum}
@@ -34,7 +35,6 @@ use Rattle.siman_application.specs.Kept.{AreFor}
 use Rattle.siman_application.specs.Play.{is_for_entities, fixed_after, variable_after, known, answer_under, reply_after, reply}
 use Rattle.siman_application.proofs.Answered.{for_parts, is_chosen, outside}
 use Rattle.siman_application.proofs.Cut.{cut_is, cut_fits, data_size}
-use Rattle.siman_application.proofs.Numbers.{and_parts}
 
 -- Records under identifiers.
 

@@ -11,11 +11,12 @@ use Rattle.siman_pdus.specs.Same.{is_same_order}
 use Rattle.siman_pdus.specs.Spelling.{pdu_text}
 use Rattle.dis_records.specs.declared.entity_state.EntityState.TheVariants.{Absent}
 use Rattle.std.proofs.lemmas.Bool.Decides.{nat_tests}
+use Rattle.std.proofs.lemmas.Bool.{and_parts}
 use Rattle.exercise_model.specs.declared.station.TheConstants.{LARGEST_ENTITY}
 use Rattle.exercise_model.specs.State.{entity_state, state_after}
 use Rattle.exercise_model.specs.Station.{StationData, is_address, is_entity, is_opening, is_station, listed_state}
 use Rattle.siman_application.specs.Records.{fixed_id, variable_id, last_under}
-use Rattle.siman_application.proofs.Numbers.{absent_up_to, absent_past, and_parts}
+use Rattle.siman_application.proofs.Numbers.{absent_up_to, absent_past}
 use Rattle.siman_application.specs.declared.kept.KeptRequest.{KeptRequest}
 use Rattle.siman_application.specs.declared.kept.RequestKey.{RequestKey}
 use Rattle.siman_application.specs.Outfit.{Outfit}

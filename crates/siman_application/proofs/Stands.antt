@@ -3,6 +3,7 @@ use Rattle.std.proofs.Common.{◌≡◌, ℕ, List, [], ◌∷◌, refl, ap, sym
 use Rattle.std.specs.Prelude.{Bool, true, false, ◌==◌, ◌&&◌, ◌||◌, not, is_none, is_some, Option, Some, None}
 use Rattle.std.specs.Option.{option_map_or}
 use Rattle.std.proofs.lemmas.Bool.Decides.{nat_tests}
+use Rattle.std.proofs.lemmas.Bool.{and_from}
 use Rattle.dis_records.specs.declared.entity_state.EntityState.{EntityState}
 use Rattle.siman_pdus.specs.declared.pdu.Pdu.{Pdu}
 use Rattle.siman_pdus.specs.declared.roles.Role.{Role}
@@ -30,7 +31,6 @@ use Rattle.siman_application.specs.Play.{known, reply, state_over}
 use Rattle.siman_application.specs.Ranges.{IsOutfitInRange}
 use Rattle.siman_application.specs.OwnLog.{Turn, Tells, Orders, Passes, Takes, Loses, taken_in, sent_after, log_in, is_due, AnswersStand}
 use Rattle.siman_application.proofs.Answered.{IsAnswer, is_answer, equal_self}
-use Rattle.siman_application.proofs.Numbers.{and_both}
 use Rattle.siman_application.proofs.Played.{key_is}
 use Rattle.siman_application.proofs.Replies.{for_at}
 use Rattle.siman_application.proofs.Meant.{IsReplyText, IsTaken, AreMeant}
@@ -149,7 +149,7 @@ fresh_possible a s stamp b q f ts own same rest = by (responds able (answer a (k
 
 answer_from : (a : Outfit) (y : ℕ → EntityState) (q p : Pdu) → IsAnswer a y q p → is_from a.station.address p ≡ true
 answer_from a y q p is =
-    and_both (p.origin.site == a.station.address.site) (p.origin.application == a.station.address.application)
+    and_from (p.origin.site == a.station.address.site) (p.origin.application == a.station.address.application)
     (ap (λ (n : ℕ). n == a.station.address.site) is.site ∙ equal_self a.station.address.site) (ap (λ (n : ℕ). n == a.station.address.application) is.application ∙ equal_self a.station.address.application)
 
 no_request_by : (r : Role) → is_answer_role r ≡ true → is_request_role r ≡ false

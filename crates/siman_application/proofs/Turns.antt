@@ -3,6 +3,7 @@ use Rattle.std.proofs.Common.{◌≡◌, ℕ, List, [], ◌∷◌, refl, ap, sym
 use Rattle.std.specs.Prelude.{Bool, true, false, ◌==◌, ◌&&◌, ◌||◌, not, is_none, option_and_then, Option, Some, None, if◌then◌else◌}
 use Rattle.std.specs.Option.{option_or}
 use Rattle.std.proofs.lemmas.Bool.Decides.{nat_tests}
+use Rattle.std.proofs.lemmas.Bool.{and_from, and_parts}
 use Rattle.dis_records.specs.declared.entity_state.EntityState.{EntityState}
 use Rattle.dis_records.specs.Entity.{is_addressed}
 use Rattle.siman_pdus.specs.declared.pdu.Pdu.{Pdu}
@@ -20,7 +21,6 @@ use Rattle.siman_application.specs.Answer.{answer}
 use Rattle.siman_application.specs.Play.{known, reply, reply_after, answer_under}
 use Rattle.siman_application.specs.OwnLog.{Turn, Tells, Orders, Passes, Takes, Loses, taken_in, sent_after, log_in, is_due}
 use Rattle.siman_application.proofs.Answered.{for_parts}
-use Rattle.siman_application.proofs.Numbers.{and_parts, and_both}
 use Rattle.siman_application.proofs.Played.{equal_swaps, pair_swaps}
 use Rattle.siman_application.proofs.Meanings.{taken_means}
 use Rattle.siman_application.proofs.Meant.{AreMeant}
@@ -121,13 +121,13 @@ asked_parts a p q e =
 pub asked_for : (a : Outfit) (b : List ℕ) (p q : Pdu) → meaning a.exercise b ≡ Some q → is_asked a.station.address p q ≡ true → is_for a q ≡ true
 asked_for a b p q m e =
     let parts = asked_parts a p q e in
-    and_both (q.exercise == a.exercise) (is_request_body q.body && is_addressed q.target a.station.address) (meant_for a.exercise b q m)
-    (and_both (is_request_body q.body) (is_addressed q.target a.station.address) parts.0 parts.1)
+    and_from (q.exercise == a.exercise) (is_request_body q.body && is_addressed q.target a.station.address) (meant_for a.exercise b q m)
+    (and_from (is_request_body q.body) (is_addressed q.target a.station.address) parts.0 parts.1)
 
 pub asked_under : (a : Outfit) (r p q : Pdu) → GoesTo r p → is_asked a.station.address p q ≡ true → is_under_key r q ≡ true
 asked_under a r p q goes e =
     let parts = asked_parts a p q e in
-    and_both (same_pair r.origin q.origin) (same_id (request_id_of r.body) (request_id_of q.body))
+    and_from (same_pair r.origin q.origin) (same_id (request_id_of r.body) (request_id_of q.body))
     (pair_swaps r.origin q.origin ∙ ap (same_pair q.origin) (sym goes.target) ∙ parts.3)
     (ap (λ (o : Option ℕ). same_id o (request_id_of q.body)) (sym goes.id) ∙ parts.2)
 
@@ -136,9 +136,9 @@ pub under_asked : (a : Outfit) (r p q : Pdu) → GoesTo r p → is_for a q ≡ t
 under_asked a r p q goes own e =
     let parts = for_parts a q own in
     let u = and_parts (same_pair r.origin q.origin) (same_id (request_id_of r.body) (request_id_of q.body)) e in
-    and_both (is_request_body q.body) (is_addressed q.target a.station.address && (same_id (request_id_of p.body) (request_id_of q.body) && same_pair q.origin p.target)) parts.request
-    (and_both (is_addressed q.target a.station.address) (same_id (request_id_of p.body) (request_id_of q.body) && same_pair q.origin p.target) parts.addressed
-    (and_both (same_id (request_id_of p.body) (request_id_of q.body)) (same_pair q.origin p.target)
+    and_from (is_request_body q.body) (is_addressed q.target a.station.address && (same_id (request_id_of p.body) (request_id_of q.body) && same_pair q.origin p.target)) parts.request
+    (and_from (is_addressed q.target a.station.address) (same_id (request_id_of p.body) (request_id_of q.body) && same_pair q.origin p.target) parts.addressed
+    (and_from (same_id (request_id_of p.body) (request_id_of q.body)) (same_pair q.origin p.target)
     (ap (λ (o : Option ℕ). same_id o (request_id_of q.body)) goes.id ∙ u.1)
     (ap (same_pair q.origin) goes.target ∙ pair_swaps q.origin r.origin ∙ u.0)))
 

@@ -9,9 +9,9 @@ ghost use Rattle.exercise_model.specs.State.{changed, change_of};
 ghost use Rattle.siman_application.specs.Answer.{chosen, is_meant};
 ghost use Rattle.siman_application.specs.Listed.{states_in, IsPossible, after};
 
-use crate::entity_list::{carry_out, choose, state_in};
+use crate::entity_list::{carry_out, choose};
 use dis_records::{EntityState, Kind, is_open};
-use exercise_model::{Change, responds};
+use exercise_model::{Change, listed_state, responds};
 use siman_pdus::{ABLE, Pdu};
 use std::alloc::{AllocError, Global};
 use std::marker::Model;
@@ -54,7 +54,7 @@ impl Entities {
     pub(crate) fn state(&self, entity: u16) -> EntityState
         ensures { result ≡ listed_state self.now entity }
     {
-        state_in(&self.list, entity)
+        listed_state(&self.list, entity)
     }
 
     /// The number that a Create Entity for this number creates, if it does.

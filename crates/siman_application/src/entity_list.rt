@@ -11,29 +11,17 @@ ghost use Rattle.siman_application.specs.Answer.{is_free, chosen};
 ghost use Rattle.siman_application.specs.Listed.{states_in, inserted, removed, all_changed, IsPossible};
 
 use dis_records::{ANY_NUMBER, EntityState, Kind, Scope};
-use exercise_model::{Change, is_entity};
+use exercise_model::{Change, is_entity, listed_state};
 use std::alloc::AllocError;
 
 /// How many entities an application has at most (profile).
 pub(crate) const MOST_ENTITIES: usize = 4096;
 
-/// The state of an entity: Absent where it is not in the list.
-pub(crate) fn state_in(entities: &[(u16, EntityState)], entity: u16) -> EntityState
-    ensures { result ≡ listed_state entities.now entity }
-{
-    for (number, state) in entities {
-        if *number == entity {
-            return *state;
-        }
-    }
-    EntityState::Absent
-}
-
 /// Whether an entity of this number can be created.
 fn is_free(entities: &[(u16, EntityState)], number: u16) -> bool
     ensures { result ≡ is_free (states_in entities.now) number }
 {
-    is_entity(number) && state_in(entities, number) == EntityState::Absent
+    is_entity(number) && listed_state(entities, number) == EntityState::Absent
 }
 
 /// The least number from 1 on that no entity has.

@@ -2,6 +2,7 @@
 use Rattle.std.proofs.Common.{◌≡◌, ℕ, suc, ◌-◌, ◌^◌, ◌<◌, ◌≤◌, List, [], ◌∷◌, length, refl, ap, sym, ◌∙◌, subst, arith, length-append, length-set}
 use Rattle.std.specs.Prelude.{Bool, true, false, ◌==◌, nat_le, nat_lt, slice_get, Option, Some, None, option_map, IsTrue, if◌then◌else◌}
 use Rattle.std.proofs.lemmas.Bool.Decides.{nat_tests}
+use Rattle.std.proofs.lemmas.Bool.{leb-true, ltb-true}
 use Rattle.dis_records.specs.declared.header.TheConstants.{LARGEST_DATAGRAM}
 use Rattle.siman_pdus.specs.declared.pdu.Pdu.{Pdu}
 use Rattle.siman_pdus.specs.Role.{request_id_of, is_request_body}
@@ -55,19 +56,13 @@ both_true true true x y e = (refl, refl)
 both_true true false x y e = absurd cc
 both_true false b x y e = absurd cc
 
-le-true : (m n : ℕ) → nat_le m n ≡ true → m ≤ n
-le-true m n e = grind (arith, nat_tests)
-
-lt-true : (m n : ℕ) → nat_lt m n ≡ true → m < n
-lt-true m n e = grind (arith, nat_tests)
-
 made_is_order : (s : Settings) (n : ℕ) (order : Order) (stamp : ℕ) → refusal s n order stamp ≡ None → IsTrue (is_request_body order.body) → IsOrder s n (order_pdu s (next_id s n) order stamp)
 made_is_order s n order stamp e is_request =
     let within : (nat_lt (next_id s n) (2 ^ 32) ≡ true) × (nat_le (pdu_size (order_pdu s (next_id s n) order stamp)) LARGEST_DATAGRAM ≡ true) = both_true _ _ faults.TooLong faults.IdsSpent e in
     record {
       id = id-numbered (next_id s n) order.body is_request;
-      below = lt-true (next_id s n) (2 ^ 32) within.0;
-      size = le-true (pdu_size (order_pdu s (next_id s n) order stamp)) LARGEST_DATAGRAM within.1;
+      below = ltb-true (next_id s n) (2 ^ 32) within.0;
+      size = leb-true (pdu_size (order_pdu s (next_id s n) order stamp)) LARGEST_DATAGRAM within.1;
       exercise = refl;
       origin = refl;
     }

@@ -23,7 +23,7 @@ pub use decoding::{decode, spellings_are_apart};
 pub use encoding::{encode, kind_of};
 pub use exchange::{request_id, role};
 pub use fault::{EncodeFault, PduFault};
-pub use order::{answers, same_order, same_pdu};
+pub use order::{answers, is_under_identifier, same_order, same_pdu};
 pub use pdu::{ABLE, Body, Pdu, UNABLE};
 pub use ranges::{datums_are_in_range, numbers_are_in_range, ranges_and_texts_agree};
 pub use roles::Role;

@@ -49,7 +49,8 @@ version_is versions.V7 = refl
 same_version : (v w : Version) → v ≡ w
 same_version versions.V7 versions.V7 = refl
 
-same_fields : (g : Header) (version : Version) (exercise : ℕ) (kind : Kind) (stamp own status : ℕ) → g.version ≡ version → g.exercise ≡ exercise → g.kind ≡ kind → g.stamp ≡ stamp → g.length ≡ own → g.status ≡ status
+same_fields : (g : Header) (version : Version) (exercise : ℕ) (kind : Kind) (stamp own status : ℕ) → g.version ≡ version → g.exercise ≡ exercise
+    → g.kind ≡ kind → g.stamp ≡ stamp → g.length ≡ own → g.status ≡ status
     → g ≡ record { version = version; exercise = exercise; kind = kind; stamp = stamp; length = own; status = status }
 same_fields g version exercise kind stamp own status a b c d e f = rw (← a, ← b, ← c, ← d, ← e, ← f) refl
 
@@ -103,7 +104,8 @@ unfolding kind_from
 kind_code-kind_from n e =
     let bounds : (11 ≤ n) × (n ≤ 22) = grind (arith, e) in
     one_of n 11 _ _ refl (λ a. one_of n 12 _ _ refl (λ b. one_of n 13 _ _ refl (λ c. one_of n 14 _ _ refl (λ d. one_of n 15 _ _ refl (λ f. one_of n 16 _ _ refl
-    (λ g. one_of n 17 _ _ refl (λ h. one_of n 18 _ _ refl (λ i. one_of n 19 _ _ refl (λ j. one_of n 20 _ _ refl (λ k. one_of n 21 _ _ refl (λ l. omega arith)))))))))))
+    (λ g. one_of n 17 _ _ refl
+      (λ h. one_of n 18 _ _ refl (λ i. one_of n 19 _ _ refl (λ j. one_of n 20 _ _ refl (λ k. one_of n 21 _ _ refl (λ l. omega arith)))))))))))
 
 pub header_reads : (b : List ℕ) → header_refusal b ≡ None → IsHeader (header_at b) b
 header_reads b e =
@@ -129,6 +131,7 @@ pub read_at : (r : Result Header HeaderFault) (b : List ℕ) → IfOk r (λ h. I
 read_at (Ok h) b is = (header_stands h b is, header_is h b is)
 read_at (Err fault) b is = tt
 
-pub read_only : (r : Result Header HeaderFault) (b : List ℕ) → IfOk r (λ h. IsHeader h b) → IfErr r (λ fault. header_refusal b ≡ Some fault) → (h : Header) → IsHeader h b → r ≡ Ok h
+pub read_only : (r : Result Header HeaderFault) (b : List ℕ) → IfOk r (λ h. IsHeader h b) → IfErr r (λ fault. header_refusal b ≡ Some fault)
+    → (h : Header) → IsHeader h b → r ≡ Ok h
 read_only (Ok g) b is refused h stands = ap (λ (x : Header). Ok x) (header_is g b is ∙ sym (header_is h b stands))
 read_only (Err fault) b is refused h stands = let clash = sym (header_stands h b stands) ∙ refused in absurd cc

@@ -45,7 +45,8 @@ fixed_stand (suc n) at b =
     let e : at + 8 ≡ at + 4 + 4 = omega arith in
     (refl, (refl, subst (λ (k : ℕ). StandAt (fixed_layouts (fixed_at n (at + 8) b)) k b) e (fixed_stand n (at + 8) b)))
 
-fixed_same : (d : FixedDatum) (id value : ℕ) (ds es : List FixedDatum) → d.id ≡ id → d.value ≡ value → ds ≡ es → d ∷ ds ≡ record { id = id; value = value } ∷ es
+fixed_same : (d : FixedDatum) (id value : ℕ) (ds es : List FixedDatum) → d.id ≡ id → d.value ≡ value → ds ≡ es
+    → d ∷ ds ≡ record { id = id; value = value } ∷ es
 fixed_same d id value ds es p q r = rw (← p, ← q, r) refl
 
 pub fixed_is : (ds : List FixedDatum) (at : ℕ) (b : List ℕ) → StandAt (fixed_layouts ds) at b → ds ≡ fixed_at (length ds) at b
@@ -90,19 +91,24 @@ length-variable_at (suc n) at b = ap suc (length-variable_at n (at + padded (num
 pub size-variable_layout : (d : Datum) → size (variable_layout d) ≡ padded d.bits
 size-variable_layout d = omega arith
 
-pub variable_stand : (n at : ℕ) (b : List ℕ) → StandAt (variable_layouts (map canonical (variable_at n at b))) at b × (size (variable_layouts (map canonical (variable_at n at b))) ≡ total (variable_sizes n at b))
+pub variable_stand : (n at : ℕ) (b : List ℕ)
+    → StandAt (variable_layouts (map canonical (variable_at n at b))) at b ×
+      (size (variable_layouts (map canonical (variable_at n at b))) ≡ total (variable_sizes n at b))
 unfolding variable_at variable_sizes value_at
 variable_stand zero at b = (tt, refl)
 variable_stand (suc n) at b =
     let bits = number_at w32 (at + 4) b in
     let others = variable_stand n (at + padded bits) b in
-    let value : cleared bits (take (bytes_for bits) (drop (at + 8) b)) ≡ cleared bits (take (bytes_for bits) (drop (at + 4 + 4) b)) = let e : at + 8 ≡ at + 4 + 4 = omega arith in rw e refl in
+    let value : cleared bits (take (bytes_for bits) (drop (at + 8) b)) ≡ cleared bits
+      (take (bytes_for bits) (drop (at + 4 + 4) b)) = let e : at + 8 ≡ at + 4 + 4 = omega arith in rw e refl in
     ((refl, (refl, (value, (tt, subst (λ (k : ℕ). StandAt (variable_layouts (map canonical (variable_at n (at + padded bits) b))) k b) (sym (after at bits)) others.0)))), omega (arith, others.1))
 
-variable_same : (d : Datum) (id bits : ℕ) (bytes : List ℕ) (ds es : List Datum) → d.id ≡ id → d.bits ≡ bits → d.bytes ≡ bytes → ds ≡ es → d ∷ ds ≡ record { id = id; bits = bits; bytes = bytes } ∷ es
+variable_same : (d : Datum) (id bits : ℕ) (bytes : List ℕ) (ds es : List Datum) → d.id ≡ id → d.bits ≡ bits → d.bytes ≡ bytes → ds ≡ es
+    → d ∷ ds ≡ record { id = id; bits = bits; bytes = bytes } ∷ es
 variable_same d id bits bytes ds es p q r s = rw (← p, ← q, ← r, s) refl
 
-pub variable_is : (ds : List Datum) (at : ℕ) (b : List ℕ) → StandAt (variable_layouts ds) at b → (ds ≡ map canonical (variable_at (length ds) at b)) × (size (variable_layouts ds) ≡ total (variable_sizes (length ds) at b))
+pub variable_is : (ds : List Datum) (at : ℕ) (b : List ℕ) → StandAt (variable_layouts ds) at b
+    → (ds ≡ map canonical (variable_at (length ds) at b)) × (size (variable_layouts ds) ≡ total (variable_sizes (length ds) at b))
 unfolding variable_at variable_sizes value_at
 variable_is [] at b stand = (refl, refl)
 variable_is (d ∷ ds) at b stand =
@@ -111,4 +117,5 @@ variable_is (d ∷ ds) at b stand =
     let here : at + 4 + 4 + bytes_for d.bits + (padded d.bits - 8 - bytes_for d.bits) ≡ at + padded bits = rw (← bits_is) (after at d.bits) in
     let others = variable_is ds (at + padded bits) b (subst (λ (k : ℕ). StandAt (variable_layouts ds) k b) here stand.1.1.1.1) in
     let value : d.bytes ≡ cleared bits (take (bytes_for bits) (drop (at + 8) b)) = let e : at + 8 ≡ at + 4 + 4 = omega arith in rw (e, ← bits_is) stand.1.1.0 in
-    (variable_same d (number_at w32 at b) bits (cleared bits (take (bytes_for bits) (drop (at + 8) b))) ds (map canonical (variable_at (length ds) (at + padded bits) b)) stand.0 bits_is value others.0, omega (arith, others.1, bits_is))
+    (variable_same d (number_at w32 at b) bits (cleared bits (take (bytes_for bits) (drop (at + 8) b))) ds
+      (map canonical (variable_at (length ds) (at + padded bits) b)) stand.0 bits_is value others.0, omega (arith, others.1, bits_is))

@@ -9,7 +9,8 @@ pub fixed_none : (left at : ℕ) (b : List ℕ) → left ≡ 0 → fixed_at left
 unfolding fixed_at
 fixed_none left at b none = rw none refl
 
-pub fixed_more : (left at : ℕ) (b : List ℕ) → 0 < left → fixed_at left at b ≡ record { id = number_at w32 at b; value = number_at w32 (at + 4) b } ∷ fixed_at (left - 1) (at + 8) b
+pub fixed_more : (left at : ℕ) (b : List ℕ) → 0 < left
+    → fixed_at left at b ≡ record { id = number_at w32 at b; value = number_at w32 (at + 4) b } ∷ fixed_at (left - 1) (at + 8) b
 unfolding fixed_at
 fixed_more zero at b lt = absurd (omega arith)
 fixed_more (suc n) at b lt = let e : suc n - 1 ≡ n = omega arith in rw e refl
@@ -27,12 +28,15 @@ pub variable_none : (left at : ℕ) (b : List ℕ) → left ≡ 0 → variable_a
 unfolding variable_at
 variable_none left at b none = rw none refl
 
-pub variable_more : (left at : ℕ) (b : List ℕ) → 0 < left → variable_at left at b ≡ record { id = number_at w32 at b; bits = number_at w32 (at + 4) b; bytes = take (bytes_for (number_at w32 (at + 4) b)) (drop (at + 8) b) } ∷ variable_at (left - 1) (at + padded (number_at w32 (at + 4) b)) b
+pub variable_more : (left at : ℕ) (b : List ℕ) → 0 < left
+    → variable_at left at b ≡ record { id = number_at w32 at b; bits = number_at w32 (at + 4) b; bytes = take (bytes_for (number_at w32 (at + 4) b))
+      (drop (at + 8) b) } ∷ variable_at (left - 1) (at + padded (number_at w32 (at + 4) b)) b
 unfolding variable_at
 variable_more zero at b lt = absurd (omega arith)
 variable_more (suc n) at b lt = let e : suc n - 1 ≡ n = omega arith in rw e refl
 
-pub sizes_more : (left at : ℕ) (b : List ℕ) → 0 < left → variable_sizes left at b ≡ padded (number_at w32 (at + 4) b) ∷ variable_sizes (left - 1) (at + padded (number_at w32 (at + 4) b)) b
+pub sizes_more : (left at : ℕ) (b : List ℕ) → 0 < left
+    → variable_sizes left at b ≡ padded (number_at w32 (at + 4) b) ∷ variable_sizes (left - 1) (at + padded (number_at w32 (at + 4) b)) b
 unfolding variable_sizes
 sizes_more zero at b lt = absurd (omega arith)
 sizes_more (suc n) at b lt = let e : suc n - 1 ≡ n = omega arith in rw e refl

@@ -18,9 +18,11 @@ behind front piece back n len = rw (drop_at front (piece ++ back) (length front)
 field_stands : (f : Field) (front back : List ℕ) → FieldFits f → StandsAt f (length front) (front ++ (field_text f ++ back))
 unfolding number_at value_at
 field_stands (Byte n) front back fits = sym (ap (λ (bs : List ℕ). from_be_bytes w8 bs) (behind front (n ∷ []) back 1 refl))
-field_stands (Number w n) front back fits = sym (ap (λ (bs : List ℕ). from_be_bytes w bs) (behind front (to_be_bytes w n) back (byte_len w) fits.0) ∙ fits.1)
+field_stands (Number w n) front back fits =
+    sym (ap (λ (bs : List ℕ). from_be_bytes w bs) (behind front (to_be_bytes w n) back (byte_len w) fits.0) ∙ fits.1)
 field_stands (Padding n) front back fits = tt
-field_stands (Value bits bytes) front back fits = sym (ap (λ (bs : List ℕ). cleared bits bs) (behind front bytes back (bytes_for bits) fits.0) ∙ fits.1)
+field_stands (Value bits bytes) front back fits =
+    sym (ap (λ (bs : List ℕ). cleared bits bs) (behind front bytes back (bytes_for bits) fits.0) ∙ fits.1)
 
 pub text_stands : (fs : List Field) (front back : List ℕ) → Fit fs → StandAt fs (length front) (front ++ (text fs ++ back))
 text_stands [] front back fits = tt
@@ -30,7 +32,8 @@ text_stands (f ∷ fs) front back fits =
     let place : length (front ++ field_text f) ≡ length front + field_size f = omega (arith, length-append front (field_text f), length-field_text f fits.0) in
     let others = text_stands fs (front ++ field_text f) back fits.1 in (
       subst (λ (b : List ℕ). StandsAt f (length front) b) here (field_stands f front (text fs ++ back) fits.0),
-      subst (λ (k : ℕ). StandAt fs k (front ++ ((field_text f ++ text fs) ++ back))) place (subst (λ (b : List ℕ). StandAt fs (length (front ++ field_text f)) b) there others),
+      subst (λ (k : ℕ). StandAt fs k (front ++ ((field_text f ++ text fs) ++ back))) place
+        (subst (λ (b : List ℕ). StandAt fs (length (front ++ field_text f)) b) there others),
     )
 
 pub length-text : (fs : List Field) → Fit fs → length (text fs) ≡ size fs
@@ -40,7 +43,8 @@ length-text (f ∷ fs) fits = omega (arith, length-append (field_text f) (text f
 -- the text of fields that fit spells them
 pub text_spells : (fs : List Field) → Fit fs → Spell fs (text fs)
 text_spells fs fits =
-    record { stand = let e : text fs ++ [] ≡ text fs = append-nil (text fs) in subst (λ (b : List ℕ). StandAt fs 0 b) e (text_stands fs [] [] fits); whole = length-text fs fits }
+    record { stand = let e : text fs ++ [] ≡ text fs = append-nil (text fs) in subst (λ (b : List ℕ). StandAt fs 0 b) e
+      (text_stands fs [] [] fits); whole = length-text fs fits }
 
 pub fits16 : (n : ℕ) → n < 2 ^ 16 → FieldFits (Number w16 n)
 fits16 n lt = (refl, from_be_bytes-to_be_bytes_2 n lt)
@@ -54,6 +58,9 @@ Fit-append (f ∷ fs) gs p q = (p.0, Fit-append fs gs p.1 q)
 
 -- ---- what stands in a front of bytes
 
-pub number_at-append : (w : Width) (at : ℕ) (front back : List ℕ) → at + byte_len w ≤ length front → number_at w at (front ++ back) ≡ number_at w at front
+pub number_at-append : (w : Width) (at : ℕ) (front back : List ℕ) → at + byte_len w ≤ length front
+    → number_at w at (front ++ back) ≡ number_at w at front
 unfolding number_at
-number_at-append w at front back le = ap (λ (bs : List ℕ). from_be_bytes w bs) (ap (λ (bs : List ℕ). take (byte_len w) bs) (drop-append-le at front back (omega arith)) ∙ take-append-le (byte_len w) (drop at front) back (omega (arith, length-drop at front)))
+number_at-append w at front back le =
+    ap (λ (bs : List ℕ). from_be_bytes w bs) (ap (λ (bs : List ℕ). take (byte_len w) bs) (drop-append-le at front back (omega arith)) ∙ take-append-le
+      (byte_len w) (drop at front) back (omega (arith, length-drop at front)))

@@ -22,7 +22,8 @@ pub held_done : (r : PlainRecording) (h : History) (s : ℕ) → log_at s h ≡ 
 held_done r h s done v next e = absurd (omega (arith, beginning_length _ _ next, ap length done))
 
 -- a station whose next event has a cause against it
-held_cause : (r : PlainRecording) (h : History) (s i : ℕ) (w : Event) (cause : Cause) → own_event r s i ≡ Some w → length (log_before r s i) ≡ length (log_at s h) → cause_of r.setting h w ≡ Some cause → IsHeld r h s
+held_cause : (r : PlainRecording) (h : History) (s i : ℕ) (w : Event) (cause : Cause) → own_event r s i ≡ Some w
+    → length (log_before r s i) ≡ length (log_at s h) → cause_of r.setting h w ≡ Some cause → IsHeld r h s
 held_cause r h s i w cause own lengths bad v next e =
     let same : v ∷ log_at s h ≡ w ∷ log_before r s i = same_beginnings _ _ (log_of r s) next (log_before-next r s i w own) (ap suc (sym lengths)) in
     let heads : v ≡ w = cc in
@@ -30,7 +31,8 @@ held_cause r h s i w cause own lengths bad v next e =
     cc
 
 -- where each station is held, the run is stuck
-stuck_from_held : (r : PlainRecording) → IsRecording r → (h : History) → CoversPrefixes r h → ((s : ℕ) → s < length r.setting.stations → IsHeld r h s) → IsStuck r h
+stuck_from_held : (r : PlainRecording) → IsRecording r → (h : History) → CoversPrefixes r h → ((s : ℕ) → s < length r.setting.stations → IsHeld r h s)
+    → IsStuck r h
 unfolding log_of
 stuck_from_held r limits h covers held = record {
   covers = covers;
@@ -42,10 +44,12 @@ stuck_from_held r limits h covers held = record {
 }
 
 -- the event of an entry of station s, as its own
-own_from : (r : PlainRecording) (s i : ℕ) (e : Entry) → slice_get r.entries i ≡ Some e → station_of (event_of e) ≡ s → own_event r s i ≡ Some (event_of e)
+own_from : (r : PlainRecording) (s i : ℕ) (e : Entry) → slice_get r.entries i ≡ Some e → station_of (event_of e) ≡ s
+    → own_event r s i ≡ Some (event_of e)
 unfolding own_event
 own_from r s i e at here =
-    ap (option_and_then (λ e. if station_of (event_of e) == s then Some (event_of e) else None)) at ∙ ap (λ b. cond b (Some (event_of e)) None) (eq-eqb _ _ here)
+    ap (option_and_then (λ e. if station_of (event_of e) == s then Some (event_of e) else None)) at ∙ ap (λ b. cond b (Some (event_of e)) None)
+      (eq-eqb _ _ here)
 
 -- what is known of the next entry of a station
 pub record NextOf (c : CourseData) (s i : ℕ) : Type 0 where
@@ -54,7 +58,8 @@ pub record NextOf (c : CourseData) (s i : ℕ) : Type 0 where
   pub own : own_event c.recording s i ≡ Some (event_of entry)
   pub lengths : length (log_before c.recording s i) ≡ length (log_at s (so_far c))
 
-pub next_of : (c : CourseData) (s i : ℕ) → i < length c.recording.entries → IfSome (slice_get c.recording.entries i) (λ e. station_of (event_of e) ≡ s) → IsNext c i → NextOf c s i
+pub next_of : (c : CourseData) (s i : ℕ) → i < length c.recording.entries
+    → IfSome (slice_get c.recording.entries i) (λ e. station_of (event_of e) ≡ s) → IsNext c i → NextOf c s i
 next_of c s i within here next =
     let r = c.recording in
     let e = entry_within r.entries i within in
@@ -68,13 +73,16 @@ next_of c s i within here next =
     }
 
 -- a station that is barred is held
-pub barred_held : (old new : CourseData) (s i : ℕ) (cause : Cause) → NextOf old s i → IfSome (slice_get old.recording.entries i) (GoesOn old new i (Barred cause)) → IsHeld old.recording (so_far old) s × (new ≡ old)
+pub barred_held : (old new : CourseData) (s i : ℕ) (cause : Cause) → NextOf old s i
+    → IfSome (slice_get old.recording.entries i) (GoesOn old new i (Barred cause)) → IsHeld old.recording (so_far old) s × (new ≡ old)
 barred_held old new s i cause n goes =
     let bars = from_entry _ n.entry (GoesOn old new i (Barred cause)) n.at goes in
     (held_cause old.recording (so_far old) s i (event_of n.entry) cause n.own n.lengths bars.cause_is, bars.new_is)
 
 -- and this is its block
-pub barred_block : (old new : CourseData) (s i : ℕ) (cause : Cause) → NextOf old s i → IfSome (slice_get old.recording.entries i) (GoesOn old new i (Barred cause)) → IsBlock old.recording (so_far old) s (record { station = s; entry = i; cause = cause })
+pub barred_block : (old new : CourseData) (s i : ℕ) (cause : Cause) → NextOf old s i
+    → IfSome (slice_get old.recording.entries i) (GoesOn old new i (Barred cause))
+    → IsBlock old.recording (so_far old) s (record { station = s; entry = i; cause = cause })
 barred_block old new s i cause n goes = record {
   station = refl;
   event = event_of n.entry;
@@ -83,27 +91,33 @@ barred_block old new s i cause n goes = record {
 }
 
 -- a station that is held takes no entry
-pub held_takes_none : (old new : CourseData) (s i link : ℕ) → IsCourse old → IsHeld old.recording (so_far old) s → NextOf old s i → IfSome (slice_get old.recording.entries i) (GoesOn old new i (Taken link)) → ⊥
+pub held_takes_none : (old new : CourseData) (s i link : ℕ) → IsCourse old → IsHeld old.recording (so_far old) s → NextOf old s i
+    → IfSome (slice_get old.recording.entries i) (GoesOn old new i (Taken link)) → ⊥
 held_takes_none old new s i link course held n goes =
     let r = old.recording in
     let takes = from_entry _ n.entry (GoesOn old new i (Taken link)) n.at goes in
     let covers = good_logs r old.steps course.good s in
     let same : log_before r s i ≡ log_at s (so_far old) = same_beginnings _ _ (log_of r s) (log_before-beginning r s i) covers n.lengths in
-    held (event_of n.entry) (subst (λ log. IsBeginning (event_of n.entry ∷ log) (log_of r s)) same (log_before-next r s i (event_of n.entry) n.own)) takes.allowed
+    held (event_of n.entry) (subst (λ log. IsBeginning (event_of n.entry ∷ log) (log_of r s)) same
+      (log_before-next r s i (event_of n.entry) n.own)) takes.allowed
 
 -- where not all was taken, and nothing can go on, no run explains
-unexplained : (c : CourseData) → IsCourse c → IsStuck c.recording (so_far c) → length c.steps ≢ length c.recording.entries → (k : History) → Explains c.recording k → ⊥
+unexplained : (c : CourseData) → IsCourse c → IsStuck c.recording (so_far c) → length c.steps ≢ length c.recording.entries → (k : History)
+    → Explains c.recording k → ⊥
 unfolding log_of
 unexplained c course stuck less k explains =
     let r = c.recording in
     let sound = good_sound r course.limits c.steps course.good in
     let all = stuck_explains r (so_far c) k stuck explains in
-    less (sym sound.count ∙ same_count (length r.setting.stations) (so_far c) (past r.entries) sound.stations (past_within r course.limits) all.logs ∙ length-past r.entries)
+    less (sym sound.count ∙ same_count (length r.setting.stations) (so_far c) (past r.entries) sound.stations (past_within r course.limits) all.logs
+      ∙ length-past r.entries)
 
-pub blocks_done : (r : PlainRecording) (h : History) (s : ℕ) (blocks : List Block) → AreBlocks r h s blocks → IsDone r h s → AreBlocks r h (s + 1) blocks
+pub blocks_done : (r : PlainRecording) (h : History) (s : ℕ) (blocks : List Block) → AreBlocks r h s blocks → IsDone r h s
+    → AreBlocks r h (s + 1) blocks
 blocks_done r h s blocks before done = rw add-one (inl (done, before))
 
-pub blocks_push : (r : PlainRecording) (h : History) (s : ℕ) (blocks : List Block) (b : Block) → AreBlocks r h s blocks → IsBlock r h s b → AreBlocks r h (s + 1) (blocks ++ b ∷ [])
+pub blocks_push : (r : PlainRecording) (h : History) (s : ℕ) (blocks : List Block) (b : Block) → AreBlocks r h s blocks → IsBlock r h s b
+    → AreBlocks r h (s + 1) (blocks ++ b ∷ [])
 blocks_push r h s blocks b before block = rw add-one (inr (blocks, b, refl, before, block))
 
 -- two runs that can't go on have the same blocks
@@ -115,7 +129,8 @@ same_block r h k one other s b is = record {
   cause = sym (same_causes r.setting h k (same_prefixes r h k one other) is.event) ∙ is.cause;
 }
 
-same_blocks : (r : PlainRecording) (h k : History) → IsStuck r h → IsStuck r k → (n : ℕ) (blocks : List Block) → AreBlocks r h n blocks → AreBlocks r k n blocks
+same_blocks : (r : PlainRecording) (h k : History) → IsStuck r h → IsStuck r k → (n : ℕ) (blocks : List Block) → AreBlocks r h n blocks
+    → AreBlocks r k n blocks
 same_blocks r h k one other zero blocks are = are
 same_blocks r h k one other (suc s) blocks are =
     ⊎_elim
@@ -125,7 +140,8 @@ same_blocks r h k one other (suc s) blocks are =
     are
 
 -- where each station is held, an audit says so
-pub blocked_from_held : (c : CourseData) → IsCourse c → ((s : ℕ) → s < length c.recording.setting.stations → IsHeld c.recording (so_far c) s) → length c.steps ≢ length c.recording.entries
+pub blocked_from_held : (c : CourseData) → IsCourse c → ((s : ℕ) → s < length c.recording.setting.stations → IsHeld c.recording (so_far c) s)
+    → length c.steps ≢ length c.recording.entries
     → (blocks : List Block) → AreBlocks c.recording (so_far c) (length c.recording.setting.stations) blocks → IsBlocked c.recording blocks
 blocked_from_held c course held less blocks are =
     let r = c.recording in

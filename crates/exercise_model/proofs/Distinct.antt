@@ -20,13 +20,15 @@ less : (p q : Pair) → is_below p q ≡ true → IsLess p q
 less p q e =
     ⊎_elim
     (λ (site : nat_lt p.site q.site ≡ true). inl (ltb-true _ _ site))
-    (λ (both : ((p.site == q.site) && nat_lt p.application q.application) ≡ true). let parts = and_parts (p.site == q.site) (nat_lt p.application q.application) both in inr (eqb-true _ _ parts.0, ltb-true _ _ parts.1))
+    (λ (both : ((p.site == q.site) && nat_lt p.application q.application) ≡ true). let parts = and_parts (p.site == q.site)
+      (nat_lt p.application q.application) both in inr (eqb-true _ _ parts.0, ltb-true _ _ parts.1))
     (or_parts (nat_lt p.site q.site) ((p.site == q.site) && nat_lt p.application q.application) e)
 
 less_on : (p q u : Pair) → IsLess p q → IsLess q u → IsLess p u
 less_on p q u one other =
     ⊎_elim
-    (λ (a : p.site < q.site). ⊎_elim (λ (b : q.site < u.site). let c : p.site < u.site = omega arith in inl c) (λ (b : (q.site ≡ u.site) × (q.application < u.application)). let c : p.site < u.site = omega (arith, a, b.0) in inl c) other)
+    (λ (a : p.site < q.site). ⊎_elim (λ (b : q.site < u.site). let c : p.site < u.site = omega arith in inl c)
+      (λ (b : (q.site ≡ u.site) × (q.application < u.application)). let c : p.site < u.site = omega (arith, a, b.0) in inl c) other)
     (λ (a : (p.site ≡ q.site) × (p.application < q.application)).
     ⊎_elim (λ (b : q.site < u.site). let c : p.site < u.site = omega (arith, a.0, b) in inl c)
     (λ (b : (q.site ≡ u.site) × (q.application < u.application)).
@@ -34,19 +36,23 @@ less_on p q u one other =
     one
 
 -- stations that rise from above an address are all above it
-rising_from : (a : Pair) (ss : List StationData) → are_rising (Some a) ss ≡ true → (j : ℕ) → j < length ss → IsLess a (slice_index_or ss j nowhere).address
+rising_from : (a : Pair) (ss : List StationData) → are_rising (Some a) ss ≡ true → (j : ℕ) → j < length ss
+    → IsLess a (slice_index_or ss j nowhere).address
 rising_from a [] rising j within = absurd (omega arith)
 rising_from a (s ∷ ss) rising zero within = less a s.address (and_parts (is_below a s.address) (are_rising (Some s.address) ss) rising).0
 rising_from a (s ∷ ss) rising (suc j) within =
     let parts = and_parts (is_below a s.address) (are_rising (Some s.address) ss) rising in
     less_on a s.address (slice_index_or ss j nowhere).address (less a s.address parts.0) (rising_from s.address ss parts.1 j (omega arith))
 
-rising_at : (before : Option Pair) (ss : List StationData) → are_rising before ss ≡ true → (i j : ℕ) → i < j → j < length ss → IsLess (slice_index_or ss i nowhere).address (slice_index_or ss j nowhere).address
+rising_at : (before : Option Pair) (ss : List StationData) → are_rising before ss ≡ true → (i j : ℕ) → i < j → j < length ss
+    → IsLess (slice_index_or ss i nowhere).address (slice_index_or ss j nowhere).address
 rising_at before [] rising i j below within = absurd (omega arith)
 rising_at before (s ∷ ss) rising zero zero below within = absurd (omega arith)
-rising_at before (s ∷ ss) rising zero (suc j) below within = rising_from s.address ss (and_parts (is_above before s.address) (are_rising (Some s.address) ss) rising).1 j (omega arith)
+rising_at before (s ∷ ss) rising zero (suc j) below within =
+    rising_from s.address ss (and_parts (is_above before s.address) (are_rising (Some s.address) ss) rising).1 j (omega arith)
 rising_at before (s ∷ ss) rising (suc i) zero below within = absurd (omega arith)
-rising_at before (s ∷ ss) rising (suc i) (suc j) below within = rising_at (Some s.address) ss (and_parts (is_above before s.address) (are_rising (Some s.address) ss) rising).1 i j (omega arith) (omega arith)
+rising_at before (s ∷ ss) rising (suc i) (suc j) below within =
+    rising_at (Some s.address) ss (and_parts (is_above before s.address) (are_rising (Some s.address) ss) rising).1 i j (omega arith) (omega arith)
 
 -- one originator is not at two addresses of which one is below the other
 no_two_origins : (a c : Pair) (p : Pdu) → is_from a p ≡ true → is_from c p ≡ true → IsLess a c → ⊥
@@ -54,10 +60,12 @@ no_two_origins a c p one other below =
     let x = and_parts (p.origin.site == a.site) (p.origin.application == a.application) one in
     let y = and_parts (p.origin.site == c.site) (p.origin.application == c.application) other in
     let x0 = eqb-true _ _ x.0 in let x1 = eqb-true _ _ x.1 in let y0 = eqb-true _ _ y.0 in let y1 = eqb-true _ _ y.1 in
-    ⊎_elim (λ (less : a.site < c.site). absurd (omega (arith, x0, y0, less))) (λ (less : (a.site ≡ c.site) × (a.application < c.application)). absurd (omega (arith, x1, y1, less.1))) below
+    ⊎_elim (λ (less : a.site < c.site). absurd (omega (arith, x0, y0, less)))
+      (λ (less : (a.site ≡ c.site) × (a.application < c.application)). absurd (omega (arith, x1, y1, less.1))) below
 
 -- a PDU comes from one station
-pub one_origin : (w : SettingData) → IsSetting w → (p : Pdu) (i j : ℕ) → i < j → j < length w.stations → is_from (station_in w j).address p ≡ true → is_from (station_in w i).address p ≡ true → ⊥
+pub one_origin : (w : SettingData) → IsSetting w → (p : Pdu) (i j : ℕ) → i < j → j < length w.stations → is_from (station_in w j).address p ≡ true
+    → is_from (station_in w i).address p ≡ true → ⊥
 one_origin w setting p i j below within here there =
     let some = and_parts (nat_le 1 (length w.stations)) (nat_le (length w.stations) MOST_STATIONS && are_rising None w.stations) setting.stations in
     let rising = and_parts (nat_le (length w.stations) MOST_STATIONS) (are_rising None w.stations) some.1 in

@@ -34,8 +34,10 @@ pub goes : (a : Outfit) (k : Knowledge) (d : Pdu) (stamp : ℕ) → is_for a d �
 goes a k d stamp own = let is = is_answer a k d stamp own in record { target = is.target; id = is.id }
 
 -- an answer with another timestamp responds alike
-pub responds_stamped : (a : Outfit) (f : Placed) (stamp n : ℕ) (k : AcknowledgeKey) → is_for a f.request ≡ true → responds_under n k (answer_at a f stamp) ≡ responds_under n k (answer_at a f 0)
-responds_stamped a f stamp n k own = ap (responds_under n k) (answer_stamped a (known a f.before) f.request stamp 0 (for_parts a f.request own).request)
+pub responds_stamped : (a : Outfit) (f : Placed) (stamp n : ℕ) (k : AcknowledgeKey) → is_for a f.request ≡ true
+    → responds_under n k (answer_at a f stamp) ≡ responds_under n k (answer_at a f 0)
+responds_stamped a f stamp n k own =
+    ap (responds_under n k) (answer_stamped a (known a f.before) f.request stamp 0 (for_parts a f.request own).request)
 
 -- a request responds nothing
 pub silent_by : (body : Body) (n : ℕ) → is_request_body body ≡ true → same_id (response_of body) (Some n) ≡ false
@@ -57,15 +59,18 @@ silent p n k e = ap (λ (b : Bool). b && option_map_or (same_key k) (key_of p) f
 
 -- Acknowledges.
 
-pub ack_send : (x n : ℕ) (k : AcknowledgeKey) (s : ℕ) (b : List ℕ) (p : Pdu) (log : History) → meaning x b ≡ Some p → was_acknowledged x n k (Send s b ∷ log) ≡ (responds_under n k p || was_acknowledged x n k log)
+pub ack_send : (x n : ℕ) (k : AcknowledgeKey) (s : ℕ) (b : List ℕ) (p : Pdu) (log : History) → meaning x b ≡ Some p
+    → was_acknowledged x n k (Send s b ∷ log) ≡ (responds_under n k p || was_acknowledged x n k log)
 unfolding was_acknowledged
 ack_send x n k s b p log m = ap (λ (o : Option Pdu). option_map_or (responds_under n k) o false || was_acknowledged x n k log) m
 
-pub ack_get : (x n : ℕ) (k : AcknowledgeKey) (s : ℕ) (b : List ℕ) (log : History) → was_acknowledged x n k (Get s b ∷ log) ≡ was_acknowledged x n k log
+pub ack_get : (x n : ℕ) (k : AcknowledgeKey) (s : ℕ) (b : List ℕ) (log : History)
+    → was_acknowledged x n k (Get s b ∷ log) ≡ was_acknowledged x n k log
 unfolding was_acknowledged
 ack_get x n k s b log = refl
 
-pub ack_tell : (x n : ℕ) (k : AcknowledgeKey) (s e : ℕ) (y : EntityState) (log : History) → was_acknowledged x n k (Tell s e y ∷ log) ≡ was_acknowledged x n k log
+pub ack_tell : (x n : ℕ) (k : AcknowledgeKey) (s e : ℕ) (y : EntityState) (log : History)
+    → was_acknowledged x n k (Tell s e y ∷ log) ≡ was_acknowledged x n k log
 unfolding was_acknowledged
 ack_tell x n k s e y log = refl
 
@@ -86,19 +91,26 @@ or_same true = refl
 or_same false = refl
 
 -- the reply to a request whose key is known
-pub acks_same : (a : Outfit) (r p q : Pdu) (ds : List Pdu) (n stamp : ℕ) (k : AcknowledgeKey) (f : Placed) → GoesTo r p → IsKeyOf k p → is_for a f.request ≡ true → first_under q ds ≡ Some f
-    → (b : Bool) → is_under_key r f.request ≡ b → (responds_under n k (answer_at a f stamp) || acked_as a n k (first_under r ds)) ≡ acked_as a n k (first_under r ds)
+pub acks_same : (a : Outfit) (r p q : Pdu) (ds : List Pdu) (n stamp : ℕ) (k : AcknowledgeKey) (f : Placed) → GoesTo r p → IsKeyOf k p
+    → is_for a f.request ≡ true → first_under q ds ≡ Some f
+    → (b : Bool) → is_under_key r f.request ≡ b
+    → (responds_under n k (answer_at a f stamp) || acked_as a n k (first_under r ds)) ≡ acked_as a n k (first_under r ds)
 acks_same a r p q ds n stamp k f to key own first false u =
     let g = goes a (known a f.before) f.request stamp own in
     ap (λ (b : Bool). b || acked_as a n k (first_under r ds)) (other_key r f.request p (answer_at a f stamp) n k to.target to.id g.target g.id key u)
 acks_same a r p q ds n stamp k f to key own first true u =
-    let found : first_under r ds ≡ Some f = first_same r f.request (same_key_of r f.request u) ds ∙ sym (first_same q f.request (same_key_of q f.request (first_has q ds f first)) ds) ∙ first in
+    let found : first_under r ds ≡ Some f = first_same r f.request (same_key_of r f.request u) ds ∙ sym
+      (first_same q f.request (same_key_of q f.request (first_has q ds f first)) ds) ∙ first in
     ap (λ (b : Bool). b || acked_as a n k (first_under r ds)) (responds_stamped a f stamp n k own)
-    ∙ ap (λ (o : Option Placed). responds_under n k (answer_at a f 0) || acked_as a n k o) found ∙ or_same (responds_under n k (answer_at a f 0)) ∙ sym (ap (acked_as a n k) found)
+    ∙ ap (λ (o : Option Placed). responds_under n k (answer_at a f 0) || acked_as a n k o) found ∙ or_same (responds_under n k (answer_at a f 0)) ∙ sym
+      (ap (acked_as a n k) found)
 
 -- the reply to one that is the first under its key
-pub acks_fresh : (a : Outfit) (r p q : Pdu) (ds : List Pdu) (n stamp : ℕ) (k : AcknowledgeKey) → GoesTo r p → IsKeyOf k p → is_for a q ≡ true → first_under q ds ≡ None
-    → (b : Bool) → is_under_key r q ≡ b → (responds_under n k (answer a (known a ds) q stamp) || acked_as a n k (first_under r ds)) ≡ acked_as a n k (option_or (first_under r ds) (if b then Some (record { request = q; before = ds }) else None))
+pub acks_fresh : (a : Outfit) (r p q : Pdu) (ds : List Pdu) (n stamp : ℕ) (k : AcknowledgeKey) → GoesTo r p → IsKeyOf k p → is_for a q ≡ true
+    → first_under q ds ≡ None
+    → (b : Bool) → is_under_key r q ≡ b
+    → (responds_under n k (answer a (known a ds) q stamp) || acked_as a n k (first_under r ds)) ≡ acked_as a n k
+      (option_or (first_under r ds) (if b then Some (record { request = q; before = ds }) else None))
 acks_fresh a r p q ds n stamp k to key own none false u =
     let g = goes a (known a ds) q stamp own in
     ap (λ (b : Bool). b || acked_as a n k (first_under r ds)) (other_key r q p (answer a (known a ds) q stamp) n k to.target to.id g.target g.id key u)
@@ -116,7 +128,8 @@ acks_fresh a r p q ds n stamp k to key own none true u =
       or_none true = refl
       or_none false = refl
 
-pub acks_taken : (a : Outfit) (r p q : Pdu) (s stamp n : ℕ) (k : AcknowledgeKey) (b : List ℕ) (qs : List Pdu) (log : History) → GoesTo r p → IsKeyOf k p → IsReplyText (reply a qs q stamp) → Course a (distinct a qs) q stamp
+pub acks_taken : (a : Outfit) (r p q : Pdu) (s stamp n : ℕ) (k : AcknowledgeKey) (b : List ℕ) (qs : List Pdu) (log : History) → GoesTo r p
+    → IsKeyOf k p → IsReplyText (reply a qs q stamp) → Course a (distinct a qs) q stamp
     → was_acknowledged a.exercise n k log ≡ acked_as a n k (first_under r (distinct a qs))
     → was_acknowledged a.exercise n k (sent_after s (reply a qs q stamp) (Get s b ∷ log)) ≡ acked_as a n k (first_under r (distinct a (q ∷ qs)))
 acks_taken a r p q s stamp n k b qs log to key text (Foreign reply_is same out) rest =
@@ -128,7 +141,8 @@ acks_taken a r p q s stamp n k b qs log to key text (Other f own first reply_is 
 acks_taken a r p q s stamp n k b qs log to key text (Same f own first reply_is same) rest =
     let kept = for_at a qs q f first in
     ap (λ (o : Option Pdu). was_acknowledged a.exercise n k (sent_after s o (Get s b ∷ log))) reply_is
-    ∙ ack_send a.exercise n k s (pdu_text (answer_at a f stamp)) (answer_at a f stamp) (Get s b ∷ log) (answer_means a (known a f.before) f.request stamp kept (text_of (reply a qs q stamp) (answer_at a f stamp) reply_is text))
+    ∙ ack_send a.exercise n k s (pdu_text (answer_at a f stamp)) (answer_at a f stamp) (Get s b ∷ log)
+      (answer_means a (known a f.before) f.request stamp kept (text_of (reply a qs q stamp) (answer_at a f stamp) reply_is text))
     ∙ ap (λ (v : Bool). responds_under n k (answer_at a f stamp) || v) (ack_get a.exercise n k s b log ∙ rest)
     ∙ acks_same a r p q (distinct a qs) n stamp k f to key kept first (is_under_key r f.request) refl
     ∙ sym (ap (λ (ds : List Pdu). acked_as a n k (first_under r ds)) same)
@@ -146,8 +160,10 @@ pub acks_turns : (a : Outfit) (s : ℕ) (ts : List Turn) → AreMeant a true ts 
 acks_turns a s [] are r p to n k key = ack_start a.exercise n k ∙ sym (ap (acked_as a n k) (none_under r))
 acks_turns a s (Tells e y ∷ ts) are r p to n k key = ack_tell a.exercise n k s e y (log_in a s ts) ∙ acks_turns a s ts are r p to n k key
 acks_turns a s (Orders o ∷ ts) are r p to n k key =
-    ack_send a.exercise n k s (pdu_text o) o (log_in a s ts) are.0.means ∙ ap (λ (v : Bool). v || was_acknowledged a.exercise n k (log_in a s ts)) (silent o n k are.0.request) ∙ acks_turns a s ts are.1 r p to n k key
+    ack_send a.exercise n k s (pdu_text o) o (log_in a s ts) are.0.means ∙ ap (λ (v : Bool). v || was_acknowledged a.exercise n k (log_in a s ts))
+      (silent o n k are.0.request) ∙ acks_turns a s ts are.1 r p to n k key
 acks_turns a s (Passes b ∷ ts) are r p to n k key = ack_get a.exercise n k s b (log_in a s ts) ∙ acks_turns a s ts are r p to n k key
 acks_turns a s (Takes b q stamp ∷ ts) are r p to n k key =
-    acks_taken a r p q s stamp n k b (taken_in ts) (log_in a s ts) to key are.1 (course a (distinct a (taken_in ts)) q stamp) (acks_turns a s ts are.2 r p to n k key)
+    acks_taken a r p q s stamp n k b (taken_in ts) (log_in a s ts) to key are.1 (course a (distinct a (taken_in ts)) q stamp)
+      (acks_turns a s ts are.2 r p to n k key)
 acks_turns a s (Loses b q stamp ∷ ts) are r p to n k key = let clash : true ≡ false = are.1 in absurd cc

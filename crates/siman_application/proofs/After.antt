@@ -45,7 +45,8 @@ pub record AreWhole (a : Outfit) (ds : List Pdu) : Type 0 where
   pub own : AreFor a ds
   pub spelled : AreSpelled a ds
 
-pub whole_taken : (a : Outfit) (q : Pdu) (stamp : ℕ) (ds : List Pdu) → IsOutfitInRange a → IsInRange q → Course a ds q stamp → AreWhole a ds → AreWhole a (with_request a ds q)
+pub whole_taken : (a : Outfit) (q : Pdu) (stamp : ℕ) (ds : List Pdu) → IsOutfitInRange a → IsInRange q → Course a ds q stamp → AreWhole a ds
+    → AreWhole a (with_request a ds q)
 whole_taken a q stamp ds station range (Foreign reply_is same out) whole = subst (AreWhole a) (sym same) whole
 whole_taken a q stamp ds station range (Same f own first reply_is same) whole = subst (AreWhole a) (sym same) whole
 whole_taken a q stamp ds station range (Other f own first reply_is same) whole = subst (AreWhole a) (sym same) whole
@@ -57,12 +58,16 @@ whole_turns a station later [] are = record { own = tt; spelled = tt }
 whole_turns a station later (Tells e y ∷ ts) are = whole_turns a station later ts are
 whole_turns a station later (Orders o ∷ ts) are = whole_turns a station later ts are.1
 whole_turns a station later (Passes b ∷ ts) are = whole_turns a station later ts are
-whole_turns a station later (Takes b q stamp ∷ ts) are = whole_taken a q stamp (distinct a (taken_in ts)) station are.0.ranges (course a (distinct a (taken_in ts)) q stamp) (whole_turns a station (later || is_due a ts q stamp) ts are.2)
-whole_turns a station later (Loses b q stamp ∷ ts) are = whole_taken a q stamp (distinct a (taken_in ts)) station are.0.ranges (course a (distinct a (taken_in ts)) q stamp) (whole_turns a station true ts are.2)
+whole_turns a station later (Takes b q stamp ∷ ts) are =
+    whole_taken a q stamp (distinct a (taken_in ts)) station are.0.ranges (course a (distinct a (taken_in ts)) q stamp)
+      (whole_turns a station (later || is_due a ts q stamp) ts are.2)
+whole_turns a station later (Loses b q stamp ∷ ts) are =
+    whole_taken a q stamp (distinct a (taken_in ts)) station are.0.ranges (course a (distinct a (taken_in ts)) q stamp) (whole_turns a station true ts are.2)
 
 -- Changes.
 
-pub not_change : (x : ℕ) (p : Pdu) (log : History) → (responds able p ≡ true → (k : AcknowledgeKey) → key_of p ≡ Some k → was_acknowledged x able k log ≡ true) → is_change x p log ≡ false
+pub not_change : (x : ℕ) (p : Pdu) (log : History)
+    → (responds able p ≡ true → (k : AcknowledgeKey) → key_of p ≡ Some k → was_acknowledged x able k log ≡ true) → is_change x p log ≡ false
 unfolding is_change
 not_change x p log acked = by (responds able p) (key_of p) refl refl where
   by : (b : Bool) (o : Option AcknowledgeKey) → responds able p ≡ b → key_of p ≡ o → (b && option_map_or (λ k. not (was_acknowledged x able k log)) o false) ≡ false
@@ -72,31 +77,39 @@ not_change x p log acked = by (responds able p) (key_of p) refl refl where
 
 pub same_key_self : (k : AcknowledgeKey) → same_key k k ≡ true
 same_key_self k =
-    and_from (k.flag == k.flag) ((k.request == k.request) && ((k.site == k.site) && ((k.application == k.application) && (k.entity == k.entity)))) (equal_self k.flag)
+    and_from (k.flag == k.flag) ((k.request == k.request) && ((k.site == k.site) && ((k.application == k.application) && (k.entity == k.entity))))
+      (equal_self k.flag)
     (and_from (k.request == k.request) ((k.site == k.site) && ((k.application == k.application) && (k.entity == k.entity))) (equal_self k.request)
     (and_from (k.site == k.site) ((k.application == k.application) && (k.entity == k.entity)) (equal_self k.site)
     (and_from (k.application == k.application) (k.entity == k.entity) (equal_self k.application) (equal_self k.entity))))
 
 pub responds_itself : (n : ℕ) (k : AcknowledgeKey) (p : Pdu) → responds n p ≡ true → key_of p ≡ Some k → responds_under n k p ≡ true
-responds_itself n k p r e = ap (λ (b : Bool). b && option_map_or (same_key k) (key_of p) false) r ∙ ap (λ (o : Option AcknowledgeKey). option_map_or (same_key k) o false) e ∙ same_key_self k
+responds_itself n k p r e =
+    ap (λ (b : Bool). b && option_map_or (same_key k) (key_of p) false) r ∙ ap (λ (o : Option AcknowledgeKey). option_map_or (same_key k) o false) e
+      ∙ same_key_self k
 
 -- an answer that comes again is no change
-pub again_no_change : (a : Outfit) (s stamp : ℕ) (b : List ℕ) (q : Pdu) (f : Placed) (ts : List Turn) → AreMeant a true ts → is_for a f.request ≡ true → first_under q (distinct a (taken_in ts)) ≡ Some f
+pub again_no_change : (a : Outfit) (s stamp : ℕ) (b : List ℕ) (q : Pdu) (f : Placed) (ts : List Turn) → AreMeant a true ts → is_for a f.request ≡ true
+    → first_under q (distinct a (taken_in ts)) ≡ Some f
     → is_change a.exercise (answer_at a f stamp) (Get s b ∷ log_in a s ts) ≡ false
 again_no_change a s stamp b q f ts are own first =
     not_change a.exercise (answer_at a f stamp) (Get s b ∷ log_in a s ts)
     (λ r k e. ack_get a.exercise able k s b (log_in a s ts)
     ∙ acks_turns a s ts are f.request (answer_at a f stamp) (goes a (known a f.before) f.request stamp own) able k (key_is (answer_at a f stamp) k e)
-    ∙ ap (acked_as a able k) (sym (first_same q f.request (same_key_of q f.request (first_has q (distinct a (taken_in ts)) f first)) (distinct a (taken_in ts))) ∙ first)
+    ∙ ap (acked_as a able k) (sym (first_same q f.request (same_key_of q f.request (first_has q (distinct a (taken_in ts)) f first)) (distinct a (taken_in ts)))
+      ∙ first)
     ∙ sym (responds_stamped a f stamp able k own) ∙ responds_itself able k (answer_at a f stamp) r e)
 
 -- nothing was acknowledged under the key of an answer to a request that is the first under its key
-pub fresh_acks : (a : Outfit) (s stamp n : ℕ) (b : List ℕ) (q : Pdu) (ts : List Turn) → AreMeant a true ts → is_for a q ≡ true → first_under q (distinct a (taken_in ts)) ≡ None
-    → (k : AcknowledgeKey) → key_of (answer a (known a (distinct a (taken_in ts))) q stamp) ≡ Some k → was_acknowledged a.exercise n k (Get s b ∷ log_in a s ts) ≡ false
+pub fresh_acks : (a : Outfit) (s stamp n : ℕ) (b : List ℕ) (q : Pdu) (ts : List Turn) → AreMeant a true ts → is_for a q ≡ true
+    → first_under q (distinct a (taken_in ts)) ≡ None
+    → (k : AcknowledgeKey) → key_of (answer a (known a (distinct a (taken_in ts))) q stamp) ≡ Some k
+    → was_acknowledged a.exercise n k (Get s b ∷ log_in a s ts) ≡ false
 fresh_acks a s stamp n b q ts are own none k e =
     let ds = distinct a (taken_in ts) in
     ack_get a.exercise n k s b (log_in a s ts)
-    ∙ acks_turns a s ts are q (answer a (known a ds) q stamp) (goes a (known a ds) q stamp own) n k (key_is (answer a (known a ds) q stamp) k e) ∙ ap (acked_as a n k) none
+    ∙ acks_turns a s ts are q (answer a (known a ds) q stamp) (goes a (known a ds) q stamp own) n k (key_is (answer a (known a ds) q stamp) k e) ∙ ap
+      (acked_as a n k) none
 
 -- What an answer takes up.
 
@@ -106,16 +119,21 @@ pub record TakenAs (a : Outfit) (p q : Pdu) (log : History) : Type 0 where
   pub taken : request_taken_up a.exercise a.station.address p log ≡ Some request
   pub same : IsSameOrder request q
 
-pub taken_first : (a : Outfit) (r p : Pdu) (ts : List Turn) (f : Placed) (log : History) (o : Option Placed) (u : Option Pdu) → o ≡ Some f → request_taken_up a.exercise a.station.address p log ≡ u → TakesUp a r ts o u → TakenAs a p f.request log
+pub taken_first : (a : Outfit) (r p : Pdu) (ts : List Turn) (f : Placed) (log : History) (o : Option Placed) (u : Option Pdu) → o ≡ Some f
+    → request_taken_up a.exercise a.station.address p log ≡ u → TakesUp a r ts o u → TakenAs a p f.request log
 taken_first a r p ts f log None u e t up = absurd cc
 taken_first a r p ts f log (Some g) None e t up = absurd up
-taken_first a r p ts f log (Some g) (Some h) e t up = let same : g ≡ f = cc in record { request = h; taken = t; same = subst (λ (i : Placed). IsSameOrder h i.request) same up }
+taken_first a r p ts f log (Some g) (Some h) e t up =
+    let same : g ≡ f = cc in record { request = h; taken = t; same = subst (λ (i : Placed). IsSameOrder h i.request) same up }
 
-pub takes_up : (a : Outfit) (s stamp : ℕ) (b : List ℕ) (q r p : Pdu) (f : Placed) (ts : List Turn) → IsTaken b q → IsReplyText (reply a (taken_in ts) q stamp) → AreMeant a true ts → (is_for a q ≡ true → PassedAlike a q ts) → AreSettled a ts → GoesTo r p
+pub takes_up : (a : Outfit) (s stamp : ℕ) (b : List ℕ) (q r p : Pdu) (f : Placed) (ts : List Turn) → IsTaken b q
+    → IsReplyText (reply a (taken_in ts) q stamp) → AreMeant a true ts → (is_for a q ≡ true → PassedAlike a q ts) → AreSettled a ts → GoesTo r p
     → first_under r (distinct a (q ∷ taken_in ts)) ≡ Some f → TakenAs a p f.request (Get s b ∷ log_in a s ts)
 takes_up a s stamp b q r p f ts read text are alike settled to first =
-    taken_first a r p (Takes b q stamp ∷ ts) f (Get s b ∷ log_in a s ts) (first_under r (distinct a (q ∷ taken_in ts))) (request_taken_up a.exercise a.station.address p (Get s b ∷ log_in a s ts)) first refl
-    (subst (TakesUp a r (Takes b q stamp ∷ ts) (first_under r (distinct a (q ∷ taken_in ts)))) (up_sent a p s (reply a (taken_in ts) q stamp) (Get s b ∷ log_in a s ts))
+    taken_first a r p (Takes b q stamp ∷ ts) f (Get s b ∷ log_in a s ts) (first_under r (distinct a (q ∷ taken_in ts)))
+      (request_taken_up a.exercise a.station.address p (Get s b ∷ log_in a s ts)) first refl
+    (subst (TakesUp a r (Takes b q stamp ∷ ts) (first_under r (distinct a (q ∷ taken_in ts))))
+      (up_sent a p s (reply a (taken_in ts) q stamp) (Get s b ∷ log_in a s ts))
     (up_turns a s true (Takes b q stamp ∷ ts) (read, text, are) (alike, settled) r p to))
 
 pub under_itself : (q : Pdu) → is_request_body q.body ≡ true → is_under_key q q ≡ true
@@ -126,7 +144,8 @@ under_itself q e =
     (ap (λ (o : Option ℕ). same_id o (request_id_of q.body)) id.1 ∙ ap (same_id (Some id.0)) id.1 ∙ equal_self id.0)
 
 -- what is taken first is the first under its key from then on
-pub first_then : (a : Outfit) (q : Pdu) (ds : List Pdu) → is_for a q ≡ true → first_under q ds ≡ None → with_request a ds q ≡ q ∷ ds → first_under q (with_request a ds q) ≡ Some (record { request = q; before = ds })
+pub first_then : (a : Outfit) (q : Pdu) (ds : List Pdu) → is_for a q ≡ true → first_under q ds ≡ None → with_request a ds q ≡ q ∷ ds
+    → first_under q (with_request a ds q) ≡ Some (record { request = q; before = ds })
 first_then a q ds own none same =
     ap (first_under q) same ∙ first_more q q ds
     ∙ ap (λ (o : Option Placed). option_or o (if is_under_key q q then Some (record { request = q; before = ds }) else None)) none
@@ -141,9 +160,11 @@ change_same p q f same = ap (change_of p) same
 
 -- States.
 
-pub fresh_able : (a : Outfit) (s stamp : ℕ) (b : List ℕ) (q f : Pdu) (ts : List Turn) → AreMeant a true ts → is_for a q ≡ true → first_under q (distinct a (taken_in ts)) ≡ None
+pub fresh_able : (a : Outfit) (s stamp : ℕ) (b : List ℕ) (q f : Pdu) (ts : List Turn) → AreMeant a true ts → is_for a q ≡ true
+    → first_under q (distinct a (taken_in ts)) ≡ None
     → (p : Pdu) → p ≡ answer a (known a (distinct a (taken_in ts))) q stamp → meaning a.exercise (pdu_text p) ≡ Some p → responds able p ≡ true
-    → request_taken_up a.exercise a.station.address p (Get s b ∷ log_in a s ts) ≡ Some f → IsSameOrder f q → IsFirstAble a.exercise a.station (Get s b ∷ log_in a s ts) (pdu_text p) f p
+    → request_taken_up a.exercise a.station.address p (Get s b ∷ log_in a s ts) ≡ Some f → IsSameOrder f q
+    → IsFirstAble a.exercise a.station (Get s b ∷ log_in a s ts) (pdu_text p) f p
 fresh_able a s stamp b q f ts are own none p is m r taken same =
     let ds = distinct a (taken_in ts) in
     record {
@@ -154,10 +175,13 @@ fresh_able a s stamp b q f ts are own none p is m r taken same =
       fresh = λ k e. fresh_acks a s stamp able b q ts are own none k (ap key_of (sym is) ∙ e);
     }
 
-pub fresh_state_able : (a : Outfit) (s : ℕ) (c : List ℕ) (q f p : Pdu) (log : History) (ds : List Pdu) → IsFirstAble a.exercise a.station log c f p → IsSameOrder f q → IsPossible (change_of p q) (λ e. state_over a ds e)
-    → ((e : ℕ) → state_after a.exercise a.station log e ≡ state_over a ds e) → (e : ℕ) (b : Bool) → is_entity e ≡ b → state_after a.exercise a.station (Send s c ∷ log) e ≡ changed e (state_over a ds e) (change_of p q)
+pub fresh_state_able : (a : Outfit) (s : ℕ) (c : List ℕ) (q f p : Pdu) (log : History) (ds : List Pdu) → IsFirstAble a.exercise a.station log c f p
+    → IsSameOrder f q → IsPossible (change_of p q) (λ e. state_over a ds e)
+    → ((e : ℕ) → state_after a.exercise a.station log e ≡ state_over a ds e) → (e : ℕ) (b : Bool) → is_entity e ≡ b
+    → state_after a.exercise a.station (Send s c ∷ log) e ≡ changed e (state_over a ds e) (change_of p q)
 fresh_state_able a s c q f p log ds first same can rest e true v =
-    first_able_changes a.exercise a.station log s c f p first e v ∙ ap (λ (c : Change). changed e (state_after a.exercise a.station log e) c) (change_same p q f same)
+    first_able_changes a.exercise a.station log s c f p first e v ∙ ap (λ (c : Change). changed e (state_after a.exercise a.station log e) c)
+      (change_same p q f same)
     ∙ ap (λ (y : EntityState). changed e y (change_of p q)) (rest e)
 fresh_state_able a s c q f p log ds first same can rest e false v =
     outside_range a.exercise a (Send s c ∷ log) e v
@@ -165,11 +189,13 @@ fresh_state_able a s c q f p log ds first same can rest e false v =
     ∙ stays_by (body_kind q.body) (scope_of (body_kind q.body) q.target.entity p.origin.entity) e (λ e. state_over a ds e) can.possible v)
 
 -- the state that the answer to a first request leaves
-pub fresh_state : (a : Outfit) (s stamp : ℕ) (b : List ℕ) (q f p : Pdu) (ts : List Turn) → AreMeant a true ts → is_for a q ≡ true → first_under q (distinct a (taken_in ts)) ≡ None
+pub fresh_state : (a : Outfit) (s stamp : ℕ) (b : List ℕ) (q f p : Pdu) (ts : List Turn) → AreMeant a true ts → is_for a q ≡ true
+    → first_under q (distinct a (taken_in ts)) ≡ None
     → p ≡ answer a (known a (distinct a (taken_in ts))) q stamp → meaning a.exercise (pdu_text p) ≡ Some p
     → request_taken_up a.exercise a.station.address p (Get s b ∷ log_in a s ts) ≡ Some f → IsSameOrder f q
     → ((e : ℕ) → state_after a.exercise a.station (log_in a s ts) e ≡ state_over a (distinct a (taken_in ts)) e)
-    → (e : ℕ) → state_after a.exercise a.station (Send s (pdu_text p) ∷ Get s b ∷ log_in a s ts) e ≡ after p q (state_over a (distinct a (taken_in ts))) e
+    → (e : ℕ)
+    → state_after a.exercise a.station (Send s (pdu_text p) ∷ Get s b ∷ log_in a s ts) e ≡ after p q (state_over a (distinct a (taken_in ts))) e
 fresh_state a s stamp b q f p ts are own none is m taken same rest e = by (responds able p) refl where
   got : (e : ℕ) → state_after a.exercise a.station (Get s b ∷ log_in a s ts) e ≡ state_over a (distinct a (taken_in ts)) e
   got e = received_keeps a.exercise a.station (log_in a s ts) s b e ∙ rest e
@@ -177,23 +203,32 @@ fresh_state a s stamp b q f p ts are own none is m taken same rest e = by (respo
   by : (v : Bool) → responds able p ≡ v → state_after a.exercise a.station (Send s (pdu_text p) ∷ Get s b ∷ log_in a s ts) e
       ≡ (if v then changed e (state_over a (distinct a (taken_in ts)) e) (change_of p q) else state_over a (distinct a (taken_in ts)) e)
   by true r =
-      fresh_state_able a s (pdu_text p) q f p (Get s b ∷ log_in a s ts) (distinct a (taken_in ts)) (fresh_able a s stamp b q f ts are own none p is m r taken same) same
-      (subst (λ (w : Pdu). IsPossible (change_of w q) (λ e. state_over a (distinct a (taken_in ts)) e)) (sym is) ((is_answer a (known a (distinct a (taken_in ts))) q stamp own).able_can (ap (responds able) (sym is) ∙ r)))
+      fresh_state_able a s (pdu_text p) q f p (Get s b ∷ log_in a s ts) (distinct a (taken_in ts))
+        (fresh_able a s stamp b q f ts are own none p is m r taken same) same
+      (subst (λ (w : Pdu). IsPossible (change_of w q) (λ e. state_over a (distinct a (taken_in ts)) e)) (sym is)
+        ((is_answer a (known a (distinct a (taken_in ts))) q stamp own).able_can (ap (responds able) (sym is) ∙ r)))
       got e (is_entity e) refl
   by false r = others_keep a.exercise a.station (Get s b ∷ log_in a s ts) s (pdu_text p) p m r e ∙ got e
 
-pub known_text : (a : Outfit) (qs : List Pdu) (q : Pdu) (stamp : ℕ) (k : Knowledge) (d : Pdu) → is_for a d ≡ true → reply a qs q stamp ≡ Some (answer a k d stamp) → IsReplyText (reply a qs q stamp)
+pub known_text : (a : Outfit) (qs : List Pdu) (q : Pdu) (stamp : ℕ) (k : Knowledge) (d : Pdu) → is_for a d ≡ true
+    → reply a qs q stamp ≡ Some (answer a k d stamp) → IsReplyText (reply a qs q stamp)
     → meaning a.exercise (pdu_text (answer a k d stamp)) ≡ Some (answer a k d stamp)
 known_text a qs q stamp k d own is text = answer_means a k d stamp own (text_of (reply a qs q stamp) (answer a k d stamp) is text)
 
-pub states_taken : (a : Outfit) → IsOutfitInRange a → (s stamp : ℕ) (b : List ℕ) (q : Pdu) (ts : List Turn) → IsTaken b q → IsReplyText (reply a (taken_in ts) q stamp) → AreMeant a true ts → (is_for a q ≡ true → PassedAlike a q ts) → AreSettled a ts
-    → Course a (distinct a (taken_in ts)) q stamp → ((e : ℕ) → state_after a.exercise a.station (log_in a s ts) e ≡ state_over a (distinct a (taken_in ts)) e)
-    → (e : ℕ) → state_after a.exercise a.station (sent_after s (reply a (taken_in ts) q stamp) (Get s b ∷ log_in a s ts)) e ≡ state_over a (distinct a (q ∷ taken_in ts)) e
+pub states_taken : (a : Outfit) → IsOutfitInRange a → (s stamp : ℕ) (b : List ℕ) (q : Pdu) (ts : List Turn) → IsTaken b q
+    → IsReplyText (reply a (taken_in ts) q stamp) → AreMeant a true ts → (is_for a q ≡ true → PassedAlike a q ts) → AreSettled a ts
+    → Course a (distinct a (taken_in ts)) q stamp
+    → ((e : ℕ) → state_after a.exercise a.station (log_in a s ts) e ≡ state_over a (distinct a (taken_in ts)) e)
+    → (e : ℕ)
+    → state_after a.exercise a.station (sent_after s (reply a (taken_in ts) q stamp) (Get s b ∷ log_in a s ts)) e ≡ state_over a
+      (distinct a (q ∷ taken_in ts)) e
 states_taken a station s stamp b q ts read text are alike settled (Foreign reply_is same out) rest e =
-    ap (λ (o : Option Pdu). state_after a.exercise a.station (sent_after s o (Get s b ∷ log_in a s ts)) e) reply_is ∙ received_keeps a.exercise a.station (log_in a s ts) s b e ∙ rest e
+    ap (λ (o : Option Pdu). state_after a.exercise a.station (sent_after s o (Get s b ∷ log_in a s ts)) e) reply_is ∙ received_keeps a.exercise a.station
+      (log_in a s ts) s b e ∙ rest e
     ∙ sym (ap (λ (ds : List Pdu). state_over a ds e) same)
 states_taken a station s stamp b q ts read text are alike settled (Other f own first reply_is same) rest e =
-    ap (λ (o : Option Pdu). state_after a.exercise a.station (sent_after s o (Get s b ∷ log_in a s ts)) e) reply_is ∙ received_keeps a.exercise a.station (log_in a s ts) s b e ∙ rest e
+    ap (λ (o : Option Pdu). state_after a.exercise a.station (sent_after s o (Get s b ∷ log_in a s ts)) e) reply_is ∙ received_keeps a.exercise a.station
+      (log_in a s ts) s b e ∙ rest e
     ∙ sym (ap (λ (ds : List Pdu). state_over a ds e) same)
 states_taken a station s stamp b q ts read text are alike settled (Same f own first reply_is same) rest e =
     let kept = for_at a (taken_in ts) q f first in
@@ -205,7 +240,8 @@ states_taken a station s stamp b q ts read text are alike settled (Fresh own non
     let ds = distinct a (taken_in ts) in
     let p = answer a (known a ds) q stamp in
     let whole = whole_turns a station true ts are in
-    let up = takes_up a s stamp b q q p (record { request = q; before = ds }) ts read text are alike settled (goes a (known a ds) q stamp own) (first_then a q ds own none same) in
+    let up = takes_up a s stamp b q q p (record { request = q; before = ds }) ts read text are alike settled (goes a (known a ds) q stamp own)
+      (first_then a q ds own none same) in
     ap (λ (o : Option Pdu). state_after a.exercise a.station (sent_after s o (Get s b ∷ log_in a s ts)) e) reply_is
     ∙ fresh_state a s stamp b q up.request p ts are own none refl (known_text a (taken_in ts) q stamp (known a ds) q own reply_is text) up.taken up.same rest e
     ∙ ap (λ (w : Pdu). after w q (state_over a ds) e) (answer_stamped a (known a ds) q stamp 0 (for_parts a q own).request)
@@ -217,12 +253,17 @@ unfolding play
 state_start a s e = refl
 
 -- THE STATES after a log of turns
-pub states_turns : (a : Outfit) → IsOutfitInRange a → (s : ℕ) (ts : List Turn) → AreMeant a true ts → AreSettled a ts → (e : ℕ) → state_after a.exercise a.station (log_in a s ts) e ≡ state_over a (distinct a (taken_in ts)) e
+pub states_turns : (a : Outfit) → IsOutfitInRange a → (s : ℕ) (ts : List Turn) → AreMeant a true ts → AreSettled a ts → (e : ℕ)
+    → state_after a.exercise a.station (log_in a s ts) e ≡ state_over a (distinct a (taken_in ts)) e
 states_turns a station s [] are settled e = state_start a s e
-states_turns a station s (Tells n y ∷ ts) are settled e = told_keeps a.exercise a.station (log_in a s ts) s n y e ∙ states_turns a station s ts are settled e
+states_turns a station s (Tells n y ∷ ts) are settled e =
+    told_keeps a.exercise a.station (log_in a s ts) s n y e ∙ states_turns a station s ts are settled e
 states_turns a station s (Orders o ∷ ts) are settled e =
-    others_keep a.exercise a.station (log_in a s ts) s (pdu_text o) o are.0.means (silent_by o.body able are.0.request) e ∙ states_turns a station s ts are.1 settled e
-states_turns a station s (Passes b ∷ ts) are settled e = received_keeps a.exercise a.station (log_in a s ts) s b e ∙ states_turns a station s ts are settled e
+    others_keep a.exercise a.station (log_in a s ts) s (pdu_text o) o are.0.means (silent_by o.body able are.0.request) e
+      ∙ states_turns a station s ts are.1 settled e
+states_turns a station s (Passes b ∷ ts) are settled e =
+    received_keeps a.exercise a.station (log_in a s ts) s b e ∙ states_turns a station s ts are settled e
 states_turns a station s (Takes b q stamp ∷ ts) are settled e =
-    states_taken a station s stamp b q ts are.0 are.1 are.2 settled.0 settled.1 (course a (distinct a (taken_in ts)) q stamp) (states_turns a station s ts are.2 settled.1) e
+    states_taken a station s stamp b q ts are.0 are.1 are.2 settled.0 settled.1 (course a (distinct a (taken_in ts)) q stamp)
+      (states_turns a station s ts are.2 settled.1) e
 states_turns a station s (Loses b q stamp ∷ ts) are settled e = let clash : true ≡ false = are.1 in absurd cc

@@ -101,7 +101,8 @@ entity_closed n e = let p = and_parts (nat_le 1 n) (nat_le n LARGEST_ENTITY) e i
 some_one : (x : ℕ) (m : ℕ) → ◌≡◌ {A = Option ℕ} (Some x) (Some m) → x ≡ m
 some_one x m e = cc
 
-chosen_any : (y : ℕ → EntityState) (n m : ℕ) → has_place y ≡ true → (n == ANY_NUMBER) ≡ true → first_below (is_free y) (LARGEST_ENTITY + 1) ≡ Some m → IsChosen y n m
+chosen_any : (y : ℕ → EntityState) (n m : ℕ) → has_place y ≡ true → (n == ANY_NUMBER) ≡ true → first_below (is_free y) (LARGEST_ENTITY + 1) ≡ Some m
+    → IsChosen y n m
 chosen_any y n m place any e =
     let free : is_free y m ≡ true = below_passes (is_free y) (LARGEST_ENTITY + 1) m e in
     let is : n ≡ ANY_NUMBER = grind (arith, nat_tests) in
@@ -114,18 +115,21 @@ chosen_any y n m place any e =
           ∙ ap (λ (b : Bool). if not b then One m else All) (entity_closed m (and_parts (is_entity m) (is_absent (y m)) free).0);
     }
 
-chosen_named : (y : ℕ → EntityState) (n m : ℕ) → has_place y ≡ true → (b : Bool) → is_free y n ≡ b → (if b then Some n else None) ≡ Some m → IsChosen y n m
+chosen_named : (y : ℕ → EntityState) (n m : ℕ) → has_place y ≡ true → (b : Bool) → is_free y n ≡ b → (if b then Some n else None) ≡ Some m
+    → IsChosen y n m
 chosen_named y n m place false free e = absurd cc
 chosen_named y n m place true free e =
     subst (IsChosen y n) (some_one n m e) (record {
       place = place;
       free = free;
       fits = same_fits kinds.CreateEntity n;
-      scope = ap (λ (b : Bool). if not b then One n else (if not (is_open kinds.CreateEntity n) then One n else All)) (entity_closed n (and_parts (is_entity n) (is_absent (y n)) free).0);
+      scope = ap (λ (b : Bool). if not b then One n else (if not (is_open kinds.CreateEntity n) then One n else All))
+        (entity_closed n (and_parts (is_entity n) (is_absent (y n)) free).0);
     })
 
 chosen_by : (y : ℕ → EntityState) (n m : ℕ) (b : Bool) → has_place y ≡ b → (c : Bool) → (n == ANY_NUMBER) ≡ c
-    → (if b then (if c then first_below (is_free y) (LARGEST_ENTITY + 1) else (if is_free y n then Some n else None)) else None) ≡ Some m → IsChosen y n m
+    → (if b then (if c then first_below (is_free y) (LARGEST_ENTITY + 1) else (if is_free y n then Some n else None)) else None) ≡ Some m
+    → IsChosen y n m
 chosen_by y n m false place c any e = absurd cc
 chosen_by y n m true place true any e = chosen_any y n m place any e
 chosen_by y n m true place false any e = chosen_named y n m place (is_free y n) refl e
@@ -135,11 +139,14 @@ is_chosen y n m e = chosen_by y n m (has_place y) refl (n == ANY_NUMBER) refl e
 
 -- It answers the request.
 
-pub answers_it : (a : Outfit) (q : Pdu) (stamp m : ℕ) (body : Body) → IsFor a q → matches_kind body (body_kind q.body) ≡ true → same_id (request_id_of body) (request_id_of q.body) ≡ true
+pub answers_it : (a : Outfit) (q : Pdu) (stamp m : ℕ) (body : Body) → IsFor a q → matches_kind body (body_kind q.body) ≡ true
+    → same_id (request_id_of body) (request_id_of q.body) ≡ true
     → are_fitting (body_kind q.body) q.target.entity m ≡ true → is_answer_to (answer_pdu a q stamp m body) q ≡ true
 answers_it a q stamp m body own kind id fits =
-    and_from (matches_kind body (body_kind q.body)) (same_id (request_id_of body) (request_id_of q.body) && (same_pair q.origin q.origin && (is_addressed q.target a.station.address && are_fitting (body_kind q.body) q.target.entity m))) kind
-    (and_from (same_id (request_id_of body) (request_id_of q.body)) (same_pair q.origin q.origin && (is_addressed q.target a.station.address && are_fitting (body_kind q.body) q.target.entity m)) id
+    and_from (matches_kind body (body_kind q.body)) (same_id (request_id_of body) (request_id_of q.body) &&
+      (same_pair q.origin q.origin && (is_addressed q.target a.station.address && are_fitting (body_kind q.body) q.target.entity m))) kind
+    (and_from (same_id (request_id_of body) (request_id_of q.body))
+      (same_pair q.origin q.origin && (is_addressed q.target a.station.address && are_fitting (body_kind q.body) q.target.entity m)) id
     (and_from (same_pair q.origin q.origin) (is_addressed q.target a.station.address && are_fitting (body_kind q.body) q.target.entity m)
     (and_from (q.origin.site == q.origin.site) (q.origin.application == q.origin.application) (equal_self q.origin.site) (equal_self q.origin.application))
     (and_from (is_addressed q.target a.station.address) (are_fitting (body_kind q.body) q.target.entity m) own.addressed fits)))
@@ -158,12 +165,15 @@ not_absent : (b : Bool) → not b ≡ true → b ≡ false
 not_absent true e = absurd cc
 not_absent false e = refl
 
-meant_by : (kind : Kind) (y : ℕ → EntityState) (n : ℕ) → is_create kind ≡ false → (b : Bool) → is_open kind n ≡ b → (b || not (is_absent (y n))) ≡ true
+meant_by : (kind : Kind) (y : ℕ → EntityState) (n : ℕ) → is_create kind ≡ false → (b : Bool) → is_open kind n ≡ b
+    → (b || not (is_absent (y n))) ≡ true
     → is_hopeless kind (if not b then One n else (if not (is_open kind (if b then 0 else n)) then One (if b then 0 else n) else All)) y ≡ false
 meant_by kind y n create true o e = create
-meant_by kind y n create false o e = ap (λ (c : Bool). if c then not (is_entity n && is_absent (y n)) else is_absent (y n)) create ∙ not_absent (is_absent (y n)) e
+meant_by kind y n create false o e =
+    ap (λ (c : Bool). if c then not (is_entity n && is_absent (y n)) else is_absent (y n)) create ∙ not_absent (is_absent (y n)) e
 
-meant_possible : (kind : Kind) (y : ℕ → EntityState) (n : ℕ) → is_create kind ≡ false → is_meant kind y n ≡ true → is_hopeless kind (scope_of kind n (own_number kind n)) y ≡ false
+meant_possible : (kind : Kind) (y : ℕ → EntityState) (n : ℕ) → is_create kind ≡ false → is_meant kind y n ≡ true
+    → is_hopeless kind (scope_of kind n (own_number kind n)) y ≡ false
 meant_possible kind y n create e = meant_by kind y n create (is_open kind n) refl e
 
 -- The answer.
@@ -185,7 +195,8 @@ record Asks (q : Pdu) (kind : Kind) (request : ℕ) : Type 0 where
 
 answer_is : (a : Outfit) (y : ℕ → EntityState) (q : Pdu) (stamp m : ℕ) (body : Body) (kind : Kind) (request : ℕ) → IsFor a q → Asks q kind request
     → matches_kind body kind ≡ true → request_id_of body ≡ Some request → are_fitting kind q.target.entity m ≡ true
-    → (responds able (answer_pdu a q stamp m body) ≡ true → IsPossible (change_of (answer_pdu a q stamp m body) q) y) → IsAnswer a y q (answer_pdu a q stamp m body)
+    → (responds able (answer_pdu a q stamp m body) ≡ true → IsPossible (change_of (answer_pdu a q stamp m body) q) y)
+    → IsAnswer a y q (answer_pdu a q stamp m body)
 answer_is a y q stamp m body kind request own asks matches id fits can = record {
   answers = answers_it a q stamp m body own (ap (matches_kind body) asks.kind_is ∙ matches) same (ap (λ (k : Kind). are_fitting k q.target.entity m) asks.kind_is ∙ fits);
   able_can = can;
@@ -201,25 +212,31 @@ answer_is a y q stamp m body kind request own asks matches id fits can = record 
 -- the answer from the number of the request
 plain_is : (a : Outfit) (y : ℕ → EntityState) (q : Pdu) (stamp : ℕ) (body : Body) (kind : Kind) (request : ℕ) → IsFor a q → Asks q kind request
     → matches_kind body kind ≡ true → request_id_of body ≡ Some request
-    → (responds able (plain_answer a q stamp body) ≡ true → IsPossible (change_of (plain_answer a q stamp body) q) y) → IsAnswer a y q (plain_answer a q stamp body)
+    → (responds able (plain_answer a q stamp body) ≡ true → IsPossible (change_of (plain_answer a q stamp body) q) y)
+    → IsAnswer a y q (plain_answer a q stamp body)
 plain_is a y q stamp body kind request own asks matches id can =
     answer_is a y q stamp (own_number (body_kind q.body) q.target.entity) body kind request own asks matches id
     (ap (λ (k : Kind). are_fitting kind q.target.entity (own_number k q.target.entity)) asks.kind_is ∙ own_fits kind q.target.entity) can
 
 created_is : (a : Outfit) (y : ℕ → EntityState) (q : Pdu) (stamp request : ℕ) → IsFor a q → Asks q kinds.CreateEntity request
     → (o : Option ℕ) → chosen y q.target.entity ≡ o → IsAnswer a y q (created a q stamp request o)
-created_is a y q stamp request own asks None e = plain_is a y q stamp (Acknowledge 1 unable request) kinds.CreateEntity request own asks refl refl (λ r. absurd cc)
+created_is a y q stamp request own asks None e =
+    plain_is a y q stamp (Acknowledge 1 unable request) kinds.CreateEntity request own asks refl refl (λ r. absurd cc)
 created_is a y q stamp request own asks (Some m) e =
     let is = is_chosen y q.target.entity m e in
     answer_is a y q stamp m (Acknowledge 1 able request) kinds.CreateEntity request own asks refl refl is.fits
     (λ r. record {
-      possible = ap (λ (k : Kind). is_hopeless k (scope_of k q.target.entity m) y) asks.kind_is ∙ ap (λ (s : Scope). is_hopeless kinds.CreateEntity s y) is.scope ∙ ap not is.free;
+      possible = ap (λ (k : Kind). is_hopeless k (scope_of k q.target.entity m) y) asks.kind_is ∙ ap
+        (λ (s : Scope). is_hopeless kinds.CreateEntity s y) is.scope ∙ ap not is.free;
       place = λ c. is.place;
     })
 
-obeyed_by : (a : Outfit) (y : ℕ → EntityState) (q : Pdu) (stamp flag request : ℕ) (kind : Kind) → IsFor a q → Asks q kind request → is_create kind ≡ false → matches_kind (Acknowledge flag unable request) kind ≡ true
-    → (b : Bool) → is_meant (body_kind q.body) y q.target.entity ≡ b → IsAnswer a y q (plain_answer a q stamp (Acknowledge flag (if b then able else unable) request))
-obeyed_by a y q stamp flag request kind own asks create matches false e = plain_is a y q stamp (Acknowledge flag unable request) kind request own asks matches refl (λ r. absurd cc)
+obeyed_by : (a : Outfit) (y : ℕ → EntityState) (q : Pdu) (stamp flag request : ℕ) (kind : Kind) → IsFor a q → Asks q kind request
+    → is_create kind ≡ false → matches_kind (Acknowledge flag unable request) kind ≡ true
+    → (b : Bool) → is_meant (body_kind q.body) y q.target.entity ≡ b
+    → IsAnswer a y q (plain_answer a q stamp (Acknowledge flag (if b then able else unable) request))
+obeyed_by a y q stamp flag request kind own asks create matches false e =
+    plain_is a y q stamp (Acknowledge flag unable request) kind request own asks matches refl (λ r. absurd cc)
 obeyed_by a y q stamp flag request kind own asks create matches true e =
     plain_is a y q stamp (Acknowledge flag able request) kind request own asks matches refl
     (λ r. record {
@@ -227,7 +244,8 @@ obeyed_by a y q stamp flag request kind own asks create matches true e =
       place = λ c. let clash : is_create (body_kind q.body) ≡ false = ap is_create asks.kind_is ∙ create in absurd cc;
     })
 
-obeyed_is : (a : Outfit) (y : ℕ → EntityState) (q : Pdu) (stamp flag request : ℕ) (kind : Kind) → IsFor a q → Asks q kind request → is_create kind ≡ false → matches_kind (Acknowledge flag unable request) kind ≡ true
+obeyed_is : (a : Outfit) (y : ℕ → EntityState) (q : Pdu) (stamp flag request : ℕ) (kind : Kind) → IsFor a q → Asks q kind request
+    → is_create kind ≡ false → matches_kind (Acknowledge flag unable request) kind ≡ true
     → IsAnswer a y q (obeyed a y q stamp flag request)
 obeyed_is a y q stamp flag request kind own asks create matches =
     obeyed_by a y q stamp flag request kind own asks create matches (is_meant (body_kind q.body) y q.target.entity) refl
@@ -235,17 +253,24 @@ obeyed_is a y q stamp flag request kind own asks create matches =
 asks : (q : Pdu) (body : Body) (request : ℕ) → q.body ≡ body → request_id_of body ≡ Some request → Asks q (body_kind body) request
 asks q body request e id = record { kind_is = ap body_kind e; id_is = ap request_id_of e ∙ id }
 
-answer_by_is : (a : Outfit) (k : Knowledge) (q : Pdu) (stamp : ℕ) (body : Body) → q.body ≡ body → is_request_body body ≡ true → IsFor a q → IsAnswer a k.states q (answer_by a k q stamp body)
-answer_by_is a k q stamp (CreateEntity request) e r own = created_is a k.states q stamp request own (asks q (CreateEntity request) request e refl) (chosen k.states q.target.entity) refl
-answer_by_is a k q stamp (RemoveEntity request) e r own = obeyed_is a k.states q stamp 2 request kinds.RemoveEntity own (asks q (RemoveEntity request) request e refl) refl refl
-answer_by_is a k q stamp (StartResume real sim request) e r own = obeyed_is a k.states q stamp 3 request kinds.StartResume own (asks q (StartResume real sim request) request e refl) refl refl
-answer_by_is a k q stamp (StopFreeze real reason behaviour request) e r own = obeyed_is a k.states q stamp 4 request kinds.StopFreeze own (asks q (StopFreeze real reason behaviour request) request e refl) refl refl
+answer_by_is : (a : Outfit) (k : Knowledge) (q : Pdu) (stamp : ℕ) (body : Body) → q.body ≡ body → is_request_body body ≡ true → IsFor a q
+    → IsAnswer a k.states q (answer_by a k q stamp body)
+answer_by_is a k q stamp (CreateEntity request) e r own =
+    created_is a k.states q stamp request own (asks q (CreateEntity request) request e refl) (chosen k.states q.target.entity) refl
+answer_by_is a k q stamp (RemoveEntity request) e r own =
+    obeyed_is a k.states q stamp 2 request kinds.RemoveEntity own (asks q (RemoveEntity request) request e refl) refl refl
+answer_by_is a k q stamp (StartResume real sim request) e r own =
+    obeyed_is a k.states q stamp 3 request kinds.StartResume own (asks q (StartResume real sim request) request e refl) refl refl
+answer_by_is a k q stamp (StopFreeze real reason behaviour request) e r own =
+    obeyed_is a k.states q stamp 4 request kinds.StopFreeze own (asks q (StopFreeze real reason behaviour request) request e refl) refl refl
 answer_by_is a k q stamp (Acknowledge flag response request) e r own = absurd (outside flag response request r)
 answer_by_is a k q stamp (ActionRequest request action datums) e r own =
-    plain_is a k.states q stamp (ActionResponse request _ _) kinds.ActionRequest request own (asks q (ActionRequest request action datums) request e refl) refl refl (λ r. absurd cc)
+    plain_is a k.states q stamp (ActionResponse request _ _) kinds.ActionRequest request own
+      (asks q (ActionRequest request action datums) request e refl) refl refl (λ r. absurd cc)
 answer_by_is a k q stamp (ActionResponse request status datums) e r own = absurd cc
 answer_by_is a k q stamp (DataQuery request interval ids) e r own =
-    plain_is a k.states q stamp (DataPdu request _) kinds.DataQuery request own (asks q (DataQuery request interval ids) request e refl) refl refl (λ r. absurd cc)
+    plain_is a k.states q stamp (DataPdu request _) kinds.DataQuery request own (asks q (DataQuery request interval ids) request e refl) refl refl
+      (λ r. absurd cc)
 answer_by_is a k q stamp (SetData request datums) e r own =
     plain_is a k.states q stamp (DataPdu request _) kinds.SetData request own (asks q (SetData request datums) request e refl) refl refl (λ r. absurd cc)
 answer_by_is a k q stamp (DataPdu request datums) e r own = absurd cc
@@ -264,7 +289,8 @@ created_stamped a q s t request (Some m) = refl
 data_stamped : (a : Outfit) (q : Pdu) (s t request : ℕ) (d : DatumLists) → with_stamp t (data_answer a q s request d) ≡ data_answer a q t request d
 data_stamped a q s t request d = ap (with_stamp t) (cut_is a q s request d) ∙ sym (cut_is a q t request d)
 
-stamped_by : (a : Outfit) (k : Knowledge) (q : Pdu) (s t : ℕ) (body : Body) → is_request_body body ≡ true → with_stamp t (answer_by a k q s body) ≡ answer_by a k q t body
+stamped_by : (a : Outfit) (k : Knowledge) (q : Pdu) (s t : ℕ) (body : Body) → is_request_body body ≡ true
+    → with_stamp t (answer_by a k q s body) ≡ answer_by a k q t body
 stamped_by a k q s t (CreateEntity request) r = created_stamped a q s t request (chosen k.states q.target.entity)
 stamped_by a k q s t (RemoveEntity request) r = refl
 stamped_by a k q s t (StartResume real sim request) r = refl

@@ -30,7 +30,8 @@ pub largest_is : (test : ℕ → Bool) (k n : ℕ) → k ≤ n → (0 < k → te
 unfolding largest
 largest_is test k zero le passes fails = omega arith
 largest_is test k (suc n) le passes fails =
-    largest_next test k n le passes (λ lt. fails (suc n) lt (omega arith)) (λ low. largest_is test k n low passes (λ j lt high. fails j lt (omega arith))) (nat_le k n) refl
+    largest_next test k n le passes (λ lt. fails (suc n) lt (omega arith)) (λ low. largest_is test k n low passes (λ j lt high. fails j lt (omega arith)))
+      (nat_le k n) refl
 
 -- Sizes.
 
@@ -46,12 +47,14 @@ size_variable : (ds : List Datum) → size (variable_layouts ds) ≡ records_siz
 size_variable [] = refl
 size_variable (d ∷ ds) = let room : 8 + bytes_for d.bits ≤ padded d.bits = omega arith in omega (arith, size_variable ds, room)
 
-pub data_size : (a : Outfit) (q : Pdu) (stamp request : ℕ) (d : DatumLists) → pdu_size (data_pdu a q stamp request d) ≡ 40 + 8 * length d.fixed + records_size d.variable
+pub data_size : (a : Outfit) (q : Pdu) (stamp request : ℕ) (d : DatumLists)
+    → pdu_size (data_pdu a q stamp request d) ≡ 40 + 8 * length d.fixed + records_size d.variable
 data_size a q stamp request d = omega (arith, size_fixed_then d.fixed (variable_layouts d.variable), size_variable d.variable)
 
 -- Filling.
 
-fitting_prefix_by : (room : ℕ) (d : Datum) (ds : List Datum) → take (length (fitting (room - padded d.bits) ds)) ds ≡ fitting (room - padded d.bits) ds → (b : Bool)
+fitting_prefix_by : (room : ℕ) (d : Datum) (ds : List Datum)
+    → take (length (fitting (room - padded d.bits) ds)) ds ≡ fitting (room - padded d.bits) ds → (b : Bool)
     → take (length (if b then d ∷ fitting (room - padded d.bits) ds else [])) (d ∷ ds) ≡ (if b then d ∷ fitting (room - padded d.bits) ds else [])
 fitting_prefix_by room d ds rest true = ap (λ (es : List Datum). d ∷ es) rest
 fitting_prefix_by room d ds rest false = refl
@@ -60,7 +63,8 @@ fitting_prefix : (room : ℕ) (ds : List Datum) → take (length (fitting room d
 fitting_prefix room [] = refl
 fitting_prefix room (d ∷ ds) = fitting_prefix_by room d ds (fitting_prefix (room - padded d.bits) ds) (nat_le (padded d.bits) room)
 
-fitting_fits_by : (room : ℕ) (d : Datum) (ds : List Datum) → records_size (fitting (room - padded d.bits) ds) ≤ room - padded d.bits → (b : Bool) → nat_le (padded d.bits) room ≡ b
+fitting_fits_by : (room : ℕ) (d : Datum) (ds : List Datum) → records_size (fitting (room - padded d.bits) ds) ≤ room - padded d.bits → (b : Bool)
+    → nat_le (padded d.bits) room ≡ b
     → records_size (if b then d ∷ fitting (room - padded d.bits) ds else []) ≤ room
 fitting_fits_by room d ds rest true t = let h : padded d.bits ≤ room = grind (arith, nat_tests) in omega (arith, rest, h)
 fitting_fits_by room d ds rest false t = omega arith
@@ -69,7 +73,9 @@ fitting_fits : (room : ℕ) (ds : List Datum) → records_size (fitting room ds)
 fitting_fits room [] = omega arith
 fitting_fits room (d ∷ ds) = fitting_fits_by room d ds (fitting_fits (room - padded d.bits) ds) (nat_le (padded d.bits) room) refl
 
-fitting_most_by : (room : ℕ) (d : Datum) (ds : List Datum) (i : ℕ) → (length (fitting (room - padded d.bits) ds) < i → room - padded d.bits < records_size (take i ds)) → (b : Bool) → nat_le (padded d.bits) room ≡ b
+fitting_most_by : (room : ℕ) (d : Datum) (ds : List Datum) (i : ℕ)
+    → (length (fitting (room - padded d.bits) ds) < i → room - padded d.bits < records_size (take i ds)) → (b : Bool)
+    → nat_le (padded d.bits) room ≡ b
     → length (if b then d ∷ fitting (room - padded d.bits) ds else []) < suc i → room < padded d.bits + records_size (take i ds)
 fitting_most_by room d ds i rest true t h = let fits : padded d.bits ≤ room = grind (arith, nat_tests) in omega (arith, rest (omega arith), fits)
 fitting_most_by room d ds i rest false t h = let past : room < padded d.bits = grind (arith, nat_tests) in omega (arith, past)
@@ -77,7 +83,8 @@ fitting_most_by room d ds i rest false t h = let past : room < padded d.bits = g
 fitting_most : (room : ℕ) (ds : List Datum) (i : ℕ) → i ≤ length ds → length (fitting room ds) < i → room < records_size (take i ds)
 fitting_most room [] i within h = absurd (omega arith)
 fitting_most room (d ∷ ds) zero within h = absurd (omega arith)
-fitting_most room (d ∷ ds) (suc i) within h = fitting_most_by room d ds i (fitting_most (room - padded d.bits) ds i (omega arith)) (nat_le (padded d.bits) room) refl h
+fitting_most room (d ∷ ds) (suc i) within h =
+    fitting_most_by room d ds i (fitting_most (room - padded d.bits) ds i (omega arith)) (nat_le (padded d.bits) room) refl h
 
 fitting_none : (ds : List Datum) → fitting 0 ds ≡ []
 fitting_none [] = refl
@@ -104,7 +111,8 @@ record Filled (d : DatumLists) (k : ℕ) : Type 0 where
   fits : 8 * length (first_records k d).fixed + records_size (first_records k d).variable ≤ 8152
   most : (j : ℕ) → k < j → j ≤ record_count d → 8152 < 8 * length (first_records j d).fixed + records_size (first_records j d).variable
 
-pub same_records : (f g : List FixedDatum) (v w : List Datum) → f ≡ g → v ≡ w → ◌≡◌ {A = DatumLists} (record { fixed = f; variable = v }) (record { fixed = g; variable = w })
+pub same_records : (f g : List FixedDatum) (v w : List Datum) → f ≡ g → v ≡ w
+    → ◌≡◌ {A = DatumLists} (record { fixed = f; variable = v }) (record { fixed = g; variable = w })
 same_records f g v w p q = λ i. record { fixed = p i; variable = q i }
 
 filled_some : (d : DatumLists) → length d.fixed ≤ 1019 → Filled d (length d.fixed + length (fitting (8152 - 8 * length d.fixed) d.variable))
@@ -135,23 +143,29 @@ filled_full d many =
     let front : take (1019 - length d.fixed) d.variable ≡ [] = ap (λ (m : ℕ). take m d.variable) none in
     record {
       within = omega arith;
-      same = same_records (take 1019 d.fixed) (take 1019 d.fixed) (take (1019 - length d.fixed) d.variable) (fitting (8152 - 8 * length (take 1019 d.fixed)) d.variable) refl (front ∙ sym left);
+      same = same_records (take 1019 d.fixed) (take 1019 d.fixed) (take (1019 - length d.fixed) d.variable)
+        (fitting (8152 - 8 * length (take 1019 d.fixed)) d.variable) refl (front ∙ sym left);
       fits = omega (arith, cut, ap records_size front);
       most = λ j lt high. past j lt (nat_le j (length d.fixed)) refl;
     } where
-      past : (j : ℕ) → 1019 < j → (b : Bool) → nat_le j (length d.fixed) ≡ b → 8152 < 8 * length (take j d.fixed) + records_size (take (j - length d.fixed) d.variable)
+      past : (j : ℕ) → 1019 < j → (b : Bool) → nat_le j (length d.fixed) ≡ b → 8152 < 8 * length (take j d.fixed) + records_size
+        (take (j - length d.fixed) d.variable)
       past j lt true t = let low : j ≤ length d.fixed = grind (arith, nat_tests) in omega (arith, length-take j d.fixed low)
       past j lt false t = let high : length d.fixed < j = grind (arith, nat_tests) in omega (arith, ap length (take_all j d.fixed (omega arith)))
 
-cut_by : (a : Outfit) (q : Pdu) (stamp request : ℕ) (d : DatumLists) (k : ℕ) → Filled d k → data_answer a q stamp request d ≡ data_pdu a q stamp request (cut_records d)
+cut_by : (a : Outfit) (q : Pdu) (stamp request : ℕ) (d : DatumLists) (k : ℕ) → Filled d k
+    → data_answer a q stamp request d ≡ data_pdu a q stamp request (cut_records d)
 cut_by a q stamp request d k f =
     ap (λ (n : ℕ). data_pdu a q stamp request (first_records n d))
     (largest_is (λ n. nat_le (pdu_size (data_pdu a q stamp request (first_records n d))) LARGEST_DATAGRAM) k (record_count d) f.within
-    (λ some. le-leb (pdu_size (data_pdu a q stamp request (first_records k d))) LARGEST_DATAGRAM (omega (arith, data_size a q stamp request (first_records k d), f.fits)))
-    (λ j lt high. lt-leb (pdu_size (data_pdu a q stamp request (first_records j d))) LARGEST_DATAGRAM (omega (arith, data_size a q stamp request (first_records j d), f.most j lt high))))
+    (λ some. le-leb (pdu_size (data_pdu a q stamp request (first_records k d))) LARGEST_DATAGRAM
+      (omega (arith, data_size a q stamp request (first_records k d), f.fits)))
+    (λ j lt high. lt-leb (pdu_size (data_pdu a q stamp request (first_records j d))) LARGEST_DATAGRAM
+      (omega (arith, data_size a q stamp request (first_records j d), f.most j lt high))))
     ∙ ap (data_pdu a q stamp request) f.same
 
-pub cut_is : (a : Outfit) (q : Pdu) (stamp request : ℕ) (d : DatumLists) → data_answer a q stamp request d ≡ data_pdu a q stamp request (cut_records d)
+pub cut_is : (a : Outfit) (q : Pdu) (stamp request : ℕ) (d : DatumLists)
+    → data_answer a q stamp request d ≡ data_pdu a q stamp request (cut_records d)
 cut_is a q stamp request d = by (nat_le (length d.fixed) 1019) refl where
   by : (b : Bool) → nat_le (length d.fixed) 1019 ≡ b → data_answer a q stamp request d ≡ data_pdu a q stamp request (cut_records d)
   by true t = let few : length d.fixed ≤ 1019 = grind (arith, nat_tests) in cut_by a q stamp request d (length d.fixed + length (fitting (8152 - 8 * length d.fixed) d.variable)) (filled_some d few)

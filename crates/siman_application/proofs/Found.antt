@@ -29,7 +29,8 @@ own_id : {X : Type 0} (id_of : X → ℕ) (x : X) (came : List X) (o : Option X)
 own_id id_of x came None e = refl
 own_id id_of x came (Some y) e = last_has id_of (id_of x) came y e
 
-stored_more : {X : Type 0} (new rest : Option X) (x : X) (b : Bool) → option_or (stored new rest) (if b then Some (unwrap_or new x) else None) ≡ stored new (option_or rest (if b then Some x else None))
+stored_more : {X : Type 0} (new rest : Option X) (x : X) (b : Bool)
+    → option_or (stored new rest) (if b then Some (unwrap_or new x) else None) ≡ stored new (option_or rest (if b then Some x else None))
 stored_more None None x true = refl
 stored_more None None x false = refl
 stored_more None (Some y) x b = refl
@@ -38,18 +39,24 @@ stored_more (Some n) None x false = refl
 stored_more (Some n) (Some y) x b = refl
 
 same_under : {X : Type 0} (id_of : X → ℕ) (id : ℕ) (came : List X) (x : X) (b : Bool) → (id_of x == id) ≡ b
-    → ◌≡◌ {A = Option X} (if b then Some (unwrap_or (last_under id_of (id_of x) came) x) else None) (if b then Some (unwrap_or (last_under id_of id came) x) else None)
+    
+    → ◌≡◌ {A = Option X} (if b then Some (unwrap_or (last_under id_of (id_of x) came) x) else None)
+      (if b then Some (unwrap_or (last_under id_of id came) x) else None)
 same_under id_of id came x true t = let same : id_of x ≡ id = grind (arith, nat_tests) in ap (λ n. Some (unwrap_or (last_under id_of n came) x)) same
 same_under id_of id came x false t = refl
 
-pub last_stored : {X : Type 0} (id_of : X → ℕ) (came : List X) (id : ℕ) (held : List X) → last_under id_of id (all_stored id_of came held) ≡ stored (last_under id_of id came) (last_under id_of id held)
+pub last_stored : {X : Type 0} (id_of : X → ℕ) (came : List X) (id : ℕ) (held : List X)
+    → last_under id_of id (all_stored id_of came held) ≡ stored (last_under id_of id came) (last_under id_of id held)
 last_stored {X} id_of came id [] = none (last_under id_of id came) where
   none : (o : Option X) → None ≡ stored o None
   none None = refl
   none (Some y) = refl
 last_stored {X} id_of came id (x ∷ held) =
-    ap (λ (o : Option X). option_or o (if id_of (unwrap_or (last_under id_of (id_of x) came) x) == id then Some (unwrap_or (last_under id_of (id_of x) came) x) else None)) (last_stored id_of came id held)
-    ∙ ap (λ n. option_or (stored (last_under id_of id came) (last_under id_of id held)) (if n == id then Some (unwrap_or (last_under id_of (id_of x) came) x) else None)) (own_id id_of x came (last_under id_of (id_of x) came) refl)
+    ap (λ (o : Option X). option_or o
+      (if id_of (unwrap_or (last_under id_of (id_of x) came) x) == id then Some
+      (unwrap_or (last_under id_of (id_of x) came) x) else None)) (last_stored id_of came id held)
+    ∙ ap (λ n. option_or (stored (last_under id_of id came) (last_under id_of id held))
+      (if n == id then Some (unwrap_or (last_under id_of (id_of x) came) x) else None)) (own_id id_of x came (last_under id_of (id_of x) came) refl)
     ∙ ap (λ (o : Option X). option_or (stored (last_under id_of id came) (last_under id_of id held)) o) (same_under id_of id came x (id_of x == id) refl)
     ∙ stored_more (last_under id_of id came) (last_under id_of id held) x (id_of x == id)
 

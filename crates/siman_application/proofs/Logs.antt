@@ -28,7 +28,8 @@ all_alike : (a : Outfit) (q : Pdu) (ts : List Turn) → TakesAll ts → PassedAl
 all_alike a q [] all = tt
 all_alike a q (Tells e y ∷ ts) all = all_alike a q ts all
 all_alike a q (Orders o ∷ ts) all = all_alike a q ts all
-all_alike a q (Passes b ∷ ts) all = (λ p m own under. let none : meaning a.exercise b ≡ None = unread a.exercise b all.0 in absurd cc, all_alike a q ts all.1)
+all_alike a q (Passes b ∷ ts) all =
+    (λ p m own under. let none : meaning a.exercise b ≡ None = unread a.exercise b all.0 in absurd cc, all_alike a q ts all.1)
 all_alike a q (takes b p stamp ∷ ts) all = all_alike a q ts all
 all_alike a q (Loses b p stamp ∷ ts) all = all_alike a q ts all
 
@@ -44,18 +45,21 @@ get_sent : (s : ℕ) (o : Option Pdu) (log : History) (c : List ℕ) → HasGet 
 get_sent s None log c h = h
 get_sent s (Some p) log c h = h
 
-one_alike : (a : Outfit) (s : ℕ) (h : History) → AreOneOrder a h → (b : List ℕ) (q : Pdu) → HasGet h b → meaning a.exercise b ≡ Some q → is_for a q ≡ true
+one_alike : (a : Outfit) (s : ℕ) (h : History) → AreOneOrder a h → (b : List ℕ) (q : Pdu) → HasGet h b → meaning a.exercise b ≡ Some q
+    → is_for a q ≡ true
     → (ts : List Turn) → ((c : List ℕ) → HasGet (log_in a s ts) c → HasGet h c) → PassedAlike a q ts
 one_alike a s h one b q got m own [] within = tt
 one_alike a s h one b q got m own (Tells e y ∷ ts) within = one_alike a s h one b q got m own ts within
 one_alike a s h one b q got m own (Orders c ∷ ts) within = one_alike a s h one b q got m own ts within
 one_alike a s h one b q got m own (Passes c ∷ ts) within =
-    (λ p n mine under. one c b p q (within c (inl refl)) got n m (for_parts a p mine).request (for_parts a q own).request under, one_alike a s h one b q got m own ts (λ d g. within d (inr g)))
+    (λ p n mine under. one c b p q (within c (inl refl)) got n m (for_parts a p mine).request
+      (for_parts a q own).request under, one_alike a s h one b q got m own ts (λ d g. within d (inr g)))
 one_alike a s h one b q got m own (takes c p stamp ∷ ts) within =
     one_alike a s h one b q got m own ts (λ d g. within d (get_sent s (reply a (taken_in ts) p stamp) (Get s c ∷ log_in a s ts) d (inr g)))
 one_alike a s h one b q got m own (Loses c p stamp ∷ ts) within = one_alike a s h one b q got m own ts (λ d g. within d (inr g))
 
-one_settled : (a : Outfit) (s : ℕ) (h : History) → AreOneOrder a h → (later : Bool) (ts : List Turn) → AreMeant a later ts → ((c : List ℕ) → HasGet (log_in a s ts) c → HasGet h c) → AreSettled a ts
+one_settled : (a : Outfit) (s : ℕ) (h : History) → AreOneOrder a h → (later : Bool) (ts : List Turn) → AreMeant a later ts
+    → ((c : List ℕ) → HasGet (log_in a s ts) c → HasGet h c) → AreSettled a ts
 one_settled a s h one later [] are within = tt
 one_settled a s h one later (Tells e y ∷ ts) are within = one_settled a s h one later ts are within
 one_settled a s h one later (Orders o ∷ ts) are within = one_settled a s h one later ts are.1 within
@@ -89,7 +93,8 @@ miss_none a later (Passes b ∷ ts) none are = miss_none a later ts none are
 miss_none a later (takes b q stamp ∷ ts) none are = (are.0, are.1, miss_none a (later || is_due a ts q stamp) ts none are.2)
 miss_none a later (Loses b q stamp ∷ ts) none are = absurd none
 
-pub states_stand : (a : Outfit) (s : ℕ) (ts : List Turn) (h : History) (qs : List Pdu) → IsOwnLog a s ts h qs → IsClear a ts h → MissNone ts → (e : ℕ) → state_after a.exercise a.station h e ≡ state_over a (distinct a qs) e
+pub states_stand : (a : Outfit) (s : ℕ) (ts : List Turn) (h : History) (qs : List Pdu) → IsOwnLog a s ts h qs → IsClear a ts h → MissNone ts → (e : ℕ)
+    → state_after a.exercise a.station h e ≡ state_over a (distinct a qs) e
 states_stand a s ts h qs own clear none e =
     let are = meant_turns a own.outfit false ts own.turns in
     ap (λ (log : History). state_after a.exercise a.station log e) (sym own.log_is)
@@ -98,7 +103,8 @@ states_stand a s ts h qs own clear none e =
 
 -- Requests that come again.
 
-pub again_same : (a : Outfit) (q : Pdu) (newer older : List Pdu) → (is_for a q && is_none (first_under q (distinct a older))) ≡ false → distinct a (newer ++ q ∷ older) ≡ distinct a (newer ++ older)
+pub again_same : (a : Outfit) (q : Pdu) (newer older : List Pdu) → (is_for a q && is_none (first_under q (distinct a older))) ≡ false
+    → distinct a (newer ++ q ∷ older) ≡ distinct a (newer ++ older)
 again_same a q [] older e = ap (λ (b : Bool). if b then q ∷ distinct a older else distinct a older) e
 again_same a q (r ∷ newer) older e = ap (λ (ds : List Pdu). with_request a ds r) (again_same a q newer older e)
 
@@ -114,8 +120,11 @@ once_same a (q ∷ qs) = once_by a q (distinct a qs) (once_same a qs) (course a 
 
 -- Steps.
 
-pub steps_on : (old new : Standing) (qs : List Pdu) (q : Pdu) → Takes old q new → came old ≡ distinct old.outfit qs → came new ≡ distinct new.outfit (q ∷ qs)
-steps_on old new qs q step e = step.came_is ∙ ap (λ (ds : List Pdu). with_request old.outfit ds q) e ∙ ap (λ (a : Outfit). with_request a (distinct a qs) q) (sym step.outfit)
+pub steps_on : (old new : Standing) (qs : List Pdu) (q : Pdu) → Takes old q new → came old ≡ distinct old.outfit qs
+    → came new ≡ distinct new.outfit (q ∷ qs)
+steps_on old new qs q step e =
+    step.came_is ∙ ap (λ (ds : List Pdu). with_request old.outfit ds q) e ∙ ap (λ (a : Outfit). with_request a (distinct a qs) q) (sym step.outfit)
 
-pub replies_on : (s : Standing) (qs : List Pdu) (q : Pdu) (stamp : ℕ) → came s ≡ distinct s.outfit qs → reply_after s.outfit (came s) q stamp ≡ reply s.outfit qs q stamp
+pub replies_on : (s : Standing) (qs : List Pdu) (q : Pdu) (stamp : ℕ) → came s ≡ distinct s.outfit qs
+    → reply_after s.outfit (came s) q stamp ≡ reply s.outfit qs q stamp
 replies_on s qs q stamp e = ap (λ (ds : List Pdu). reply_after s.outfit ds q stamp) e

@@ -15,7 +15,8 @@ use Rattle.siman_application.specs.Distinct.{is_for}
 use Rattle.siman_application.specs.Answer.{Knowledge, chosen, created, answer_by, answer}
 use Rattle.siman_application.proofs.Answered.{for_parts, is_answer, equal_self, outside}
 
-pub read_means : (x : ℕ) (b : List ℕ) (p : Pdu) → reading b ≡ Some p → (p.exercise == x) ≡ true → is_outside (role_of p.body) ≡ false → meaning x b ≡ Some p
+pub read_means : (x : ℕ) (b : List ℕ) (p : Pdu) → reading b ≡ Some p → (p.exercise == x) ≡ true → is_outside (role_of p.body) ≡ false
+    → meaning x b ≡ Some p
 unfolding meaning
 read_means x b p e exercise inside =
     ap (option_and_then (meant x)) e
@@ -29,7 +30,8 @@ request_role roles.Notice e = absurd cc
 request_role roles.Outside e = absurd cc
 
 -- what is read as a request of the exercise means it
-pub request_means : (x : ℕ) (b : List ℕ) (q : Pdu) → reading b ≡ Some q → (q.exercise == x) ≡ true → is_request_body q.body ≡ true → meaning x b ≡ Some q
+pub request_means : (x : ℕ) (b : List ℕ) (q : Pdu) → reading b ≡ Some q → (q.exercise == x) ≡ true → is_request_body q.body ≡ true
+    → meaning x b ≡ Some q
 request_means x b q e exercise request = read_means x b q e exercise (request_role (role_of q.body) request)
 
 -- what is read as a PDU for the station means it
@@ -40,7 +42,8 @@ created_inside : (a : Outfit) (q : Pdu) (stamp request : ℕ) (o : Option ℕ) �
 created_inside a q stamp request None = refl
 created_inside a q stamp request (Some m) = refl
 
-answer_inside : (a : Outfit) (k : Knowledge) (q : Pdu) (stamp : ℕ) (body : Body) → is_request_body body ≡ true → is_outside (role_of (answer_by a k q stamp body).body) ≡ false
+answer_inside : (a : Outfit) (k : Knowledge) (q : Pdu) (stamp : ℕ) (body : Body) → is_request_body body ≡ true
+    → is_outside (role_of (answer_by a k q stamp body).body) ≡ false
 answer_inside a k q stamp (CreateEntity request) e = created_inside a q stamp request (chosen k.states q.target.entity)
 answer_inside a k q stamp (RemoveEntity request) e = refl
 answer_inside a k q stamp (StartResume real sim request) e = refl
@@ -55,8 +58,10 @@ answer_inside a k q stamp (EventReport event datums) e = absurd cc
 answer_inside a k q stamp (Comment datums) e = absurd cc
 
 -- the text of an answer means it
-pub answer_means : (a : Outfit) (k : Knowledge) (q : Pdu) (stamp : ℕ) → is_for a q ≡ true → reading (pdu_text (answer a k q stamp)) ≡ Some (answer a k q stamp)
+pub answer_means : (a : Outfit) (k : Knowledge) (q : Pdu) (stamp : ℕ) → is_for a q ≡ true
+    → reading (pdu_text (answer a k q stamp)) ≡ Some (answer a k q stamp)
     → meaning a.exercise (pdu_text (answer a k q stamp)) ≡ Some (answer a k q stamp)
 answer_means a k q stamp own e =
     read_means a.exercise (pdu_text (answer a k q stamp)) (answer a k q stamp) e
-    (ap (λ (n : ℕ). n == a.exercise) (is_answer a k q stamp own).exercise ∙ equal_self a.exercise) (answer_inside a k q stamp q.body (for_parts a q own).request)
+    (ap (λ (n : ℕ). n == a.exercise) (is_answer a k q stamp own).exercise ∙ equal_self a.exercise)
+      (answer_inside a k q stamp q.body (for_parts a q own).request)

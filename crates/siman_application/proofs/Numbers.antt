@@ -91,7 +91,8 @@ first_found test k (suc n) none t h = found_next test k n none t h (first_found 
 pub first_not : (test : ℕ → Bool) (k : ℕ) → first_below test k ≡ None → test k ≡ false → first_below test (k + 1) ≡ None
 unfolding first_below
 first_not test k none t =
-    ap (first_below test) (add-one k) ∙ ap (λ (o : Option ℕ). option_or o (if test k then Some k else None)) none ∙ ap (λ (b : Bool). if b then Some k else None) t
+    ap (first_below test) (add-one k) ∙ ap (λ (o : Option ℕ). option_or o (if test k then Some k else None)) none ∙ ap
+      (λ (b : Bool). if b then Some k else None) t
 
 pub none_below_one : (y : ℕ → EntityState) → first_below (is_free y) 1 ≡ None
 unfolding first_below
@@ -110,37 +111,45 @@ least_start xs o = record { least_is = omega arith; rises = o; above = λ e h. r
 pub is_entity-true : (e : ℕ) → 1 ≤ e → e ≤ LARGEST_ENTITY → is_entity e ≡ true
 is_entity-true e low high = and_from (nat_le 1 e) (nat_le e LARGEST_ENTITY) (le-leb 1 e low) (le-leb e LARGEST_ENTITY high)
 
-pub least_more : (xs : Entities) (i least : ℕ) (x : ℕ × EntityState) → drop i xs ≡ x ∷ drop (i + 1) xs → LeastAt xs i least → x.0 ≡ least → LeastAt xs (i + 1) (least + 1)
+pub least_more : (xs : Entities) (i least : ℕ) (x : ℕ × EntityState) → drop i xs ≡ x ∷ drop (i + 1) xs → LeastAt xs i least → x.0 ≡ least
+    → LeastAt xs (i + 1) (least + 1)
 least_more xs i least x at l same =
     let r : Rises i x.0 x.1 (drop (i + 1) xs) = rises_from i x (drop (i + 1) xs) (ap (is_opening_above i) (sym at) ∙ l.rises) in
     let is : least ≡ i + 1 = l.least_is in
-    let here : listed_state xs least ≡ x.1 = sym (l.above least (omega arith)) ∙ ap (λ (ys : Entities). listed_state ys least) at ∙ state_head x.0 least x.1 (drop (i + 1) xs) same in
+    let here : listed_state xs least ≡ x.1 = sym (l.above least (omega arith)) ∙ ap (λ (ys : Entities). listed_state ys least) at ∙ state_head x.0 least x.1
+      (drop (i + 1) xs) same in
     record {
       least_is = omega arith;
       rises = subst (λ (n : ℕ). is_opening_above n (drop (i + 1) xs) ≡ true) (same ∙ is) r.rest;
-      above = λ e h. sym (state_past x.0 e x.1 (drop (i + 1) xs) (λ clash. omega arith)) ∙ ap (λ (ys : Entities). listed_state ys e) (sym at) ∙ l.above e (omega arith);
-      none = first_not (is_free (states_in xs)) least l.none (ap (λ (b : Bool). is_entity least && b) (ap is_absent here ∙ r.there) ∙ and_false (is_entity least));
+      above = λ e h. sym (state_past x.0 e x.1 (drop (i + 1) xs) (λ clash. omega arith)) ∙ ap (λ (ys : Entities). listed_state ys e) (sym at) ∙ l.above e
+        (omega arith);
+      none = first_not (is_free (states_in xs)) least l.none (ap (λ (b : Bool). is_entity least && b) (ap is_absent here ∙ r.there) ∙ and_false
+        (is_entity least));
     } where
       and_false : (b : Bool) → (b && false) ≡ false
       and_false true = refl
       and_false false = refl
 
-pub least_found : (xs : Entities) (i least : ℕ) → LeastAt xs i least → least ≤ LARGEST_ENTITY → listed_state (drop i xs) least ≡ Absent → first_below (is_free (states_in xs)) (LARGEST_ENTITY + 1) ≡ Some least
+pub least_found : (xs : Entities) (i least : ℕ) → LeastAt xs i least → least ≤ LARGEST_ENTITY → listed_state (drop i xs) least ≡ Absent
+    → first_below (is_free (states_in xs)) (LARGEST_ENTITY + 1) ≡ Some least
 least_found xs i least l within absent =
     let is : least ≡ i + 1 = l.least_is in
     first_found (is_free (states_in xs)) least (LARGEST_ENTITY + 1) l.none
-    (and_from (is_entity least) (is_absent (listed_state xs least)) (is_entity-true least (omega arith) within) (ap is_absent (sym (l.above least (omega arith)) ∙ absent)))
+    (and_from (is_entity least) (is_absent (listed_state xs least)) (is_entity-true least (omega arith) within)
+      (ap is_absent (sym (l.above least (omega arith)) ∙ absent)))
     (omega arith)
 
 -- a gap before the entity at the head
-pub least_gap : (xs : Entities) (i least : ℕ) (x : ℕ × EntityState) → drop i xs ≡ x ∷ drop (i + 1) xs → LeastAt xs i least → ((x.0 ≡ least) → ⊥) → first_below (is_free (states_in xs)) (LARGEST_ENTITY + 1) ≡ Some least
+pub least_gap : (xs : Entities) (i least : ℕ) (x : ℕ × EntityState) → drop i xs ≡ x ∷ drop (i + 1) xs → LeastAt xs i least → ((x.0 ≡ least) → ⊥)
+    → first_below (is_free (states_in xs)) (LARGEST_ENTITY + 1) ≡ Some least
 least_gap xs i least x at l other =
     let r : Rises i x.0 x.1 (drop (i + 1) xs) = rises_from i x (drop (i + 1) xs) (ap (is_opening_above i) (sym at) ∙ l.rises) in
     let is : least ≡ i + 1 = l.least_is in
     let above : i < x.0 = r.above in
     let within : x.0 ≤ LARGEST_ENTITY = r.within in
     least_found xs i least l (omega arith)
-    (ap (λ (ys : Entities). listed_state ys least) at ∙ state_past x.0 least x.1 (drop (i + 1) xs) other ∙ absent_up_to x.0 least (drop (i + 1) xs) r.rest (omega arith))
+    (ap (λ (ys : Entities). listed_state ys least) at ∙ state_past x.0 least x.1 (drop (i + 1) xs) other ∙ absent_up_to x.0 least (drop (i + 1) xs) r.rest
+      (omega arith))
 
 pub head_at : {X : Type 0} (xs : List X) (i : ℕ) (d : X) → i < length xs → drop i xs ≡ get_or xs i d ∷ drop (i + 1) xs
 head_at xs i d h = rw (add-one, drop-cons xs i d) refl

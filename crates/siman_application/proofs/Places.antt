@@ -21,7 +21,8 @@ search_from : Pdu → List Pdu → List KeptRequest → Option Placed
 search_from q ds [] = None
 search_from q ds (k ∷ ks) = if is_under_key q k.request then Some (record { request = k.request; before = ds }) else search_from q (k.request ∷ ds) ks
 
-or_if : {X : Type 0} (o rest : Option X) (x : X) (b : Bool) → option_or (option_or o (if b then Some x else None)) rest ≡ option_or o (if b then Some x else rest)
+or_if : {X : Type 0} (o rest : Option X) (x : X) (b : Bool)
+    → option_or (option_or o (if b then Some x else None)) rest ≡ option_or o (if b then Some x else rest)
 or_if None rest x true = refl
 or_if None rest x false = refl
 or_if (Some y) rest x b = refl
@@ -55,7 +56,8 @@ tests_key key k = (key.site == k.site) && ((key.application == k.application) &&
 tests_under : (key k : RequestKey) (q d : Pdu) → IsKey key q → IsKey k d → tests_key key k ≡ is_under_key q d
 tests_under key k q d i j =
     rw (i.site, i.application, j.site, j.application)
-    (equal_keys (q.origin.site == d.origin.site) (q.origin.application == d.origin.application) (key.request == k.request) (same_id (request_id_of q.body) (request_id_of d.body))
+    (equal_keys (q.origin.site == d.origin.site) (q.origin.application == d.origin.application) (key.request == k.request)
+      (same_id (request_id_of q.body) (request_id_of d.body))
     (same_ids (request_id_of q.body) (request_id_of d.body) key.request k.request i.request j.request))
 
 -- The place.
@@ -64,13 +66,16 @@ tests_under key k q d i j =
 abbrev FoundFrom : Pdu → List Pdu → List KeptRequest → ℕ → Option ℕ → Type 0
 FoundFrom q ds ks i None = search_from q ds ks ≡ None
 FoundFrom q ds ks i (Some p) =
-    (j : ℕ) × (p ≡ i + j) × (k : KeptRequest) × (slice_get ks j ≡ Some k) × (j < length ks) × (search_from q ds ks ≡ Some (record { request = k.request; before = kept_after ds (take j ks) }))
+    (j : ℕ) × (p ≡ i + j) × (k : KeptRequest) × (slice_get ks j ≡ Some k) × (j < length ks) ×
+      (search_from q ds ks ≡ Some (record { request = k.request; before = kept_after ds (take j ks) }))
 
-search_here : (q : Pdu) (ds : List Pdu) (k : KeptRequest) (ks : List KeptRequest) → is_under_key q k.request ≡ true → search_from q ds (k ∷ ks) ≡ Some (record { request = k.request; before = ds })
+search_here : (q : Pdu) (ds : List Pdu) (k : KeptRequest) (ks : List KeptRequest) → is_under_key q k.request ≡ true
+    → search_from q ds (k ∷ ks) ≡ Some (record { request = k.request; before = ds })
 unfolding search_from
 search_here q ds k ks e = ap (λ (b : Bool). if b then Some (record { request = k.request; before = ds }) else search_from q (k.request ∷ ds) ks) e
 
-search_past : (q : Pdu) (ds : List Pdu) (k : KeptRequest) (ks : List KeptRequest) → is_under_key q k.request ≡ false → search_from q ds (k ∷ ks) ≡ search_from q (k.request ∷ ds) ks
+search_past : (q : Pdu) (ds : List Pdu) (k : KeptRequest) (ks : List KeptRequest) → is_under_key q k.request ≡ false
+    → search_from q ds (k ∷ ks) ≡ search_from q (k.request ∷ ds) ks
 unfolding search_from
 search_past q ds k ks e = ap (λ (b : Bool). if b then Some (record { request = k.request; before = ds }) else search_from q (k.request ∷ ds) ks) e
 
@@ -97,7 +102,8 @@ found_from q key test tests own ds [] i keyed = search_none q ds
 found_from q key test tests own ds (e ∷ es) i keyed =
     let is : test e.0 ≡ is_under_key q e.1.request = tests e.0 ∙ tests_under key e.0 q e.1.request own keyed.0 in
     subst (λ (b : Bool). FoundFrom q ds (values_of (e ∷ es)) i (cond b (Some i) (position_from test (i + 1) (keys_of es)))) (sym is)
-    (found_by q ds e.1 (values_of es) i (position_from test (i + 1) (keys_of es)) (found_from q key test tests own (e.1.request ∷ ds) es (i + 1) keyed.1) (is_under_key q e.1.request) refl)
+    (found_by q ds e.1 (values_of es) i (position_from test (i + 1) (keys_of es)) (found_from q key test tests own (e.1.request ∷ ds) es (i + 1) keyed.1)
+      (is_under_key q e.1.request) refl)
 
 none_first : (q : Pdu) → first_under q [] ≡ None
 unfolding first_under
@@ -110,7 +116,8 @@ is_place : (q : Pdu) (ks : List KeptRequest) (o : Option ℕ) → FoundFrom q []
 is_place q ks None f = first_is q ks ∙ f
 is_place q ks (Some p) f =
     let same : p ≡ f.0 = omega (arith, f.1) in
-    subst (λ (n : ℕ). (k : KeptRequest) × (slice_get ks n ≡ Some k) × (n < length ks) × (first_under q (requests ks) ≡ Some (record { request = k.request; before = requests_before n ks }))) (sym same)
+    subst (λ (n : ℕ). (k : KeptRequest) × (slice_get ks n ≡ Some k) × (n < length ks) ×
+      (first_under q (requests ks) ≡ Some (record { request = k.request; before = requests_before n ks }))) (sym same)
     (f.2, f.3, f.4, first_is q ks ∙ f.5)
 
 pub place_is : (q : Pdu) (key : RequestKey) (test : RequestKey → Bool) → ((k : RequestKey) → test k ≡ tests_key key k) → IsKey key q
@@ -121,23 +128,28 @@ place_is q key test tests own es keyed =
 
 -- A new request goes last.
 
-search_head : (q : Pdu) (ds : List Pdu) (k : KeptRequest) (ks : List KeptRequest) → search_from q ds (k ∷ ks) ≡ None → (is_under_key q k.request ≡ false) × (search_from q (k.request ∷ ds) ks ≡ None)
+search_head : (q : Pdu) (ds : List Pdu) (k : KeptRequest) (ks : List KeptRequest) → search_from q ds (k ∷ ks) ≡ None
+    → (is_under_key q k.request ≡ false) × (search_from q (k.request ∷ ds) ks ≡ None)
 unfolding search_from
 search_head q ds k ks e = by (is_under_key q k.request) e where
   by : (b : Bool) → (if b then Some (record { request = k.request; before = ds }) else search_from q (k.request ∷ ds) ks) ≡ None → (b ≡ false) × (search_from q (k.request ∷ ds) ks ≡ None)
   by true e = absurd cc
   by false e = (refl, e)
 
-inserted_from : (q : Pdu) (key : RequestKey) (same : RequestKey → RequestKey → Bool) → ((j k : RequestKey) → same j k ≡ tests_key j k) → IsKey key q → (one : KeptRequest)
-    → (ds : List Pdu) (es : List (RequestKey × KeptRequest)) → AreKeyed es → search_from q ds (values_of es) ≡ None → insert_entry same es key one ≡ es ++ (key, one) ∷ []
+inserted_from : (q : Pdu) (key : RequestKey) (same : RequestKey → RequestKey → Bool) → ((j k : RequestKey) → same j k ≡ tests_key j k) → IsKey key q
+    → (one : KeptRequest)
+    → (ds : List Pdu) (es : List (RequestKey × KeptRequest)) → AreKeyed es → search_from q ds (values_of es) ≡ None
+    → insert_entry same es key one ≡ es ++ (key, one) ∷ []
 inserted_from q key same tests own one ds [] keyed none = refl
 inserted_from q key same tests own one ds (e ∷ es) keyed none =
     let head = search_head q ds e.1 (values_of es) none in
     ap (λ (b : Bool). if b then (e.0, one) ∷ es else e ∷ insert_entry same es key one) (tests key e.0 ∙ tests_under key e.0 q e.1.request own keyed.0 ∙ head.0)
     ∙ ap (λ (rest : List (RequestKey × KeptRequest)). e ∷ rest) (inserted_from q key same tests own one (e.1.request ∷ ds) es keyed.1 head.1)
 
-pub inserted_last : (q : Pdu) (key : RequestKey) (same : RequestKey → RequestKey → Bool) → ((j k : RequestKey) → same j k ≡ tests_key j k) → IsKey key q → (one : KeptRequest)
-    → (es : List (RequestKey × KeptRequest)) → AreKeyed es → first_under q (requests (values_of es)) ≡ None → insert_entry same es key one ≡ es ++ (key, one) ∷ []
+pub inserted_last : (q : Pdu) (key : RequestKey) (same : RequestKey → RequestKey → Bool) → ((j k : RequestKey) → same j k ≡ tests_key j k)
+    → IsKey key q → (one : KeptRequest)
+    → (es : List (RequestKey × KeptRequest)) → AreKeyed es → first_under q (requests (values_of es)) ≡ None
+    → insert_entry same es key one ≡ es ++ (key, one) ∷ []
 inserted_last q key same tests own one es keyed none = inserted_from q key same tests own one [] es keyed (sym (first_is q (values_of es)) ∙ none)
 
 pub on_ok : {X E P : Type 0} (r : Result X E) → IsOk r → OnOk r P → P
@@ -146,7 +158,8 @@ on_ok (Err e) is p = absurd cc
 
 -- A kept answer with another timestamp.
 
-pub values_stamped : (place stamp : ℕ) (es : List (RequestKey × KeptRequest)) (k : KeptRequest) → slice_get (values_of es) place ≡ Some k → set_value_at es place (stamped stamp k) ≡ stamped_at place stamp es
+pub values_stamped : (place stamp : ℕ) (es : List (RequestKey × KeptRequest)) (k : KeptRequest) → slice_get (values_of es) place ≡ Some k
+    → set_value_at es place (stamped stamp k) ≡ stamped_at place stamp es
 values_stamped place stamp [] k at = absurd cc
 values_stamped zero stamp (e ∷ es) k at = let same : e.1 ≡ k = cc in ap (λ (j : KeptRequest). (e.0, stamped stamp j) ∷ es) (sym same)
 values_stamped (suc place) stamp (e ∷ es) k at = ap (λ (rest : List (RequestKey × KeptRequest)). e ∷ rest) (values_stamped place stamp es k at)

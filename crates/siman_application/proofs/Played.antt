@@ -46,7 +46,9 @@ equal_swaps m n = by (n == m) refl where
   by false e = grind (arith, nat_tests)
 
 pub pair_swaps : (i j : EntityId) → same_pair i j ≡ same_pair j i
-pair_swaps i j = ap (λ (b : Bool). b && (i.application == j.application)) (equal_swaps i.site j.site) ∙ ap (λ (b : Bool). (j.site == i.site) && b) (equal_swaps i.application j.application)
+pair_swaps i j =
+    ap (λ (b : Bool). b && (i.application == j.application)) (equal_swaps i.site j.site) ∙ ap (λ (b : Bool). (j.site == i.site) && b)
+      (equal_swaps i.application j.application)
 
 not_asked : (r s i j : Bool) → (j && i) ≡ false → (r && (s && (i && j))) ≡ false
 not_asked false s i j e = refl
@@ -56,11 +58,15 @@ not_asked true true true true e = e
 not_asked true true true false e = refl
 
 -- an answer p to the request q does not take up a request under another key
-pub other_not_asked : (a : Outfit) (q d p : Pdu) → p.target ≡ q.origin → request_id_of p.body ≡ request_id_of q.body → is_under_key q d ≡ false → is_asked a.station.address p d ≡ false
+pub other_not_asked : (a : Outfit) (q d p : Pdu) → p.target ≡ q.origin → request_id_of p.body ≡ request_id_of q.body → is_under_key q d ≡ false
+    → is_asked a.station.address p d ≡ false
 other_not_asked a q d p target id other =
-    ap (λ (i : EntityId). is_request_body d.body && (is_addressed d.target a.station.address && (same_id (request_id_of p.body) (request_id_of d.body) && same_pair d.origin i))) target
-    ∙ ap (λ (o : Option ℕ). is_request_body d.body && (is_addressed d.target a.station.address && (same_id o (request_id_of d.body) && same_pair d.origin q.origin))) id
-    ∙ not_asked (is_request_body d.body) (is_addressed d.target a.station.address) (same_id (request_id_of q.body) (request_id_of d.body)) (same_pair d.origin q.origin)
+    ap (λ (i : EntityId). is_request_body d.body &&
+      (is_addressed d.target a.station.address && (same_id (request_id_of p.body) (request_id_of d.body) && same_pair d.origin i))) target
+    ∙ ap (λ (o : Option ℕ). is_request_body d.body &&
+      (is_addressed d.target a.station.address && (same_id o (request_id_of d.body) && same_pair d.origin q.origin))) id
+    ∙ not_asked (is_request_body d.body) (is_addressed d.target a.station.address) (same_id (request_id_of q.body) (request_id_of d.body))
+      (same_pair d.origin q.origin)
     (ap (λ (b : Bool). b && same_id (request_id_of q.body) (request_id_of d.body)) (pair_swaps d.origin q.origin) ∙ other)
 
 -- the key of an Acknowledge tells where it goes and under which identifier
@@ -69,7 +75,8 @@ pub record IsKeyOf (k : AcknowledgeKey) (p : Pdu) : Type 0 where
   pub application : k.application ≡ p.target.application
   pub request : request_id_of p.body ≡ Some k.request
 
-key_by : (p : Pdu) (body : Body) (k : AcknowledgeKey) → key_in p body ≡ Some k → (k.site ≡ p.target.site) × (k.application ≡ p.target.application) × (request_id_of body ≡ Some k.request)
+key_by : (p : Pdu) (body : Body) (k : AcknowledgeKey) → key_in p body ≡ Some k
+    → (k.site ≡ p.target.site) × (k.application ≡ p.target.application) × (request_id_of body ≡ Some k.request)
 key_by p (Acknowledge flag response request) k e =
     let same : record { flag = flag; request = request; site = p.target.site; application = p.target.application; entity = p.origin.entity } ≡ k = cc in
     (ap (λ (j : AcknowledgeKey). j.site) (sym same), ap (λ (j : AcknowledgeKey). j.application) (sym same), ap (λ (j : AcknowledgeKey). Some j.request) same)
@@ -95,22 +102,28 @@ equal_to : (m n : ℕ) → m ≡ n → (m == n) ≡ true
 equal_to m n e = grind (arith, nat_tests)
 
 -- Acknowledges under one key answer requests under one key.
-pub keys_agree : (q d p r : Pdu) (k j : AcknowledgeKey) → p.target ≡ q.origin → request_id_of p.body ≡ request_id_of q.body → r.target ≡ d.origin → request_id_of r.body ≡ request_id_of d.body
+pub keys_agree : (q d p r : Pdu) (k j : AcknowledgeKey) → p.target ≡ q.origin → request_id_of p.body ≡ request_id_of q.body → r.target ≡ d.origin
+    → request_id_of r.body ≡ request_id_of d.body
     → IsKeyOf k p → IsKeyOf j r → same_key k j ≡ true → is_under_key q d ≡ true
 keys_agree q d p r k j pt pi rt ri kp jr e =
-    let e1 = and_parts (k.flag == j.flag) ((k.request == j.request) && ((k.site == j.site) && ((k.application == j.application) && (k.entity == j.entity)))) e in
+    let e1 = and_parts (k.flag == j.flag) ((k.request == j.request) &&
+      ((k.site == j.site) && ((k.application == j.application) && (k.entity == j.entity)))) e in
     let e2 = and_parts (k.request == j.request) ((k.site == j.site) && ((k.application == j.application) && (k.entity == j.entity))) e1.1 in
     let e3 = and_parts (k.site == j.site) ((k.application == j.application) && (k.entity == j.entity)) e2.1 in
     let e4 = and_parts (k.application == j.application) (k.entity == j.entity) e3.1 in
-    let site : q.origin.site ≡ d.origin.site = sym (kp.site ∙ ap (λ (i : EntityId). i.site) pt) ∙ equal_of k.site j.site e3.0 ∙ jr.site ∙ ap (λ (i : EntityId). i.site) rt in
-    let application : q.origin.application ≡ d.origin.application = sym (kp.application ∙ ap (λ (i : EntityId). i.application) pt) ∙ equal_of k.application j.application e4.0 ∙ jr.application ∙ ap (λ (i : EntityId). i.application) rt in
+    let site : q.origin.site ≡ d.origin.site = sym (kp.site ∙ ap (λ (i : EntityId). i.site) pt) ∙ equal_of k.site j.site e3.0 ∙ jr.site ∙ ap
+      (λ (i : EntityId). i.site) rt in
+    let application : q.origin.application ≡ d.origin.application = sym (kp.application ∙ ap (λ (i : EntityId). i.application) pt)
+      ∙ equal_of k.application j.application e4.0 ∙ jr.application ∙ ap (λ (i : EntityId). i.application) rt in
     let id : same_id (request_id_of q.body) (request_id_of d.body) ≡ true =
     ap (λ (o : Option ℕ). same_id o (request_id_of d.body)) (sym pi ∙ kp.request) ∙ ap (same_id (Some k.request)) (sym ri ∙ jr.request) ∙ e2.0 in
     and_from (same_pair q.origin d.origin) (same_id (request_id_of q.body) (request_id_of d.body))
-    (and_from (q.origin.site == d.origin.site) (q.origin.application == d.origin.application) (equal_to q.origin.site d.origin.site site) (equal_to q.origin.application d.origin.application application)) id
+    (and_from (q.origin.site == d.origin.site) (q.origin.application == d.origin.application) (equal_to q.origin.site d.origin.site site)
+      (equal_to q.origin.application d.origin.application application)) id
 
 -- an Acknowledge of another request is not under the key
-pub other_key : (q d p r : Pdu) (n : ℕ) (k : AcknowledgeKey) → p.target ≡ q.origin → request_id_of p.body ≡ request_id_of q.body → r.target ≡ d.origin → request_id_of r.body ≡ request_id_of d.body
+pub other_key : (q d p r : Pdu) (n : ℕ) (k : AcknowledgeKey) → p.target ≡ q.origin → request_id_of p.body ≡ request_id_of q.body → r.target ≡ d.origin
+    → request_id_of r.body ≡ request_id_of d.body
     → IsKeyOf k p → is_under_key q d ≡ false → responds_under n k r ≡ false
 other_key q d p r n k pt pi rt ri kp other = under (responds n r) (key_of r) refl where
   at : (j : AcknowledgeKey) → key_of r ≡ Some j → (b : Bool) → same_key k j ≡ b → b ≡ false
@@ -162,21 +175,26 @@ unfolding play was_acknowledged
 acked_start x n a k = refl
 
 -- nothing in the play is taken up by the answer to a request under no key before
-none_taken : (a : Outfit) (ds : List Pdu) → AreSpelled a ds → (q p : Pdu) → p.target ≡ q.origin → request_id_of p.body ≡ request_id_of q.body → first_under q ds ≡ None
+none_taken : (a : Outfit) (ds : List Pdu) → AreSpelled a ds → (q p : Pdu) → p.target ≡ q.origin → request_id_of p.body ≡ request_id_of q.body
+    → first_under q ds ≡ None
     → request_taken_up a.exercise a.station.address p (play a ds) ≡ None
 none_taken a [] spelled q p target id none = none_start a.exercise a p
-none_taken a (d ∷ ds) spelled q p target id none = by (is_for_entities (body_kind d.body)) refl (none_taken a ds spelled.1 q p target id (first_none q d ds none).0) where
+none_taken a (d ∷ ds) spelled q p target id none =
+    by (is_for_entities (body_kind d.body)) refl (none_taken a ds spelled.1 q p target id (first_none q d ds none).0) where
   by : (b : Bool) → is_for_entities (body_kind d.body) ≡ b → request_taken_up a.exercise a.station.address p (play a ds) ≡ None → request_taken_up a.exercise a.station.address p (play a (d ∷ ds)) ≡ None
   by true e rest =
       ap (request_taken_up a.exercise a.station.address p) (play_more a d ds true e)
-      ∙ taken_get a.exercise a p d 0 0 (pdu_text d) (pdu_text (answer a (known a ds) d 0)) (play a ds) (spelled.0 e).0 (other_not_asked a q d p target id (first_none q d ds none).1) rest
+      ∙ taken_get a.exercise a p d 0 0 (pdu_text d) (pdu_text (answer a (known a ds) d 0)) (play a ds) (spelled.0 e).0
+        (other_not_asked a q d p target id (first_none q d ds none).1) rest
   by false e rest = ap (request_taken_up a.exercise a.station.address p) (play_more a d ds false e) ∙ rest
 
 -- nor is there an Acknowledge under its key
-none_acked : (a : Outfit) (ds : List Pdu) → AreSpelled a ds → AreFor a ds → (q p : Pdu) (n : ℕ) (k : AcknowledgeKey) → p.target ≡ q.origin → request_id_of p.body ≡ request_id_of q.body → IsKeyOf k p → first_under q ds ≡ None
+none_acked : (a : Outfit) (ds : List Pdu) → AreSpelled a ds → AreFor a ds → (q p : Pdu) (n : ℕ) (k : AcknowledgeKey) → p.target ≡ q.origin
+    → request_id_of p.body ≡ request_id_of q.body → IsKeyOf k p → first_under q ds ≡ None
     → was_acknowledged a.exercise n k (play a ds) ≡ false
 none_acked a [] spelled are q p n k target id key none = acked_start a.exercise n a k
-none_acked a (d ∷ ds) spelled are q p n k target id key none = by (is_for_entities (body_kind d.body)) refl (none_acked a ds spelled.1 are.1 q p n k target id key (first_none q d ds none).0) where
+none_acked a (d ∷ ds) spelled are q p n k target id key none =
+    by (is_for_entities (body_kind d.body)) refl (none_acked a ds spelled.1 are.1 q p n k target id key (first_none q d ds none).0) where
   by : (b : Bool) → is_for_entities (body_kind d.body) ≡ b → was_acknowledged a.exercise n k (play a ds) ≡ false → was_acknowledged a.exercise n k (play a (d ∷ ds)) ≡ false
   by true e rest =
       let r = answer a (known a ds) d 0 in
@@ -188,13 +206,16 @@ none_acked a (d ∷ ds) spelled are q p n k target id key none = by (is_for_enti
 
 -- The states after one more request.
 
-pub is_asked_by : (a : Outfit) (y : ℕ → EntityState) (q p : Pdu) (request : ℕ) → IsFor a q → IsAnswer a y q p → request_id_of q.body ≡ Some request → is_asked a.station.address p q ≡ true
+pub is_asked_by : (a : Outfit) (y : ℕ → EntityState) (q p : Pdu) (request : ℕ) → IsFor a q → IsAnswer a y q p → request_id_of q.body ≡ Some request
+    → is_asked a.station.address p q ≡ true
 is_asked_by a y q p request own is id =
-    and_from (is_request_body q.body) (is_addressed q.target a.station.address && (same_id (request_id_of p.body) (request_id_of q.body) && same_pair q.origin p.target)) own.request
+    and_from (is_request_body q.body) (is_addressed q.target a.station.address &&
+      (same_id (request_id_of p.body) (request_id_of q.body) && same_pair q.origin p.target)) own.request
     (and_from (is_addressed q.target a.station.address) (same_id (request_id_of p.body) (request_id_of q.body) && same_pair q.origin p.target) own.addressed
     (and_from (same_id (request_id_of p.body) (request_id_of q.body)) (same_pair q.origin p.target)
     (ap (λ (o : Option ℕ). same_id o (request_id_of q.body)) (is.id ∙ id) ∙ ap (same_id (Some request)) id ∙ equal_self request)
-    (ap (same_pair q.origin) is.target ∙ and_from (q.origin.site == q.origin.site) (q.origin.application == q.origin.application) (equal_self q.origin.site) (equal_self q.origin.application))))
+    (ap (same_pair q.origin) is.target ∙ and_from (q.origin.site == q.origin.site) (q.origin.application == q.origin.application) (equal_self q.origin.site)
+      (equal_self q.origin.application))))
 
 -- each request has an identifier
 request_id_by : (body : Body) → is_request_body body ≡ true → (n : ℕ) × (request_id_of body ≡ Some n)
@@ -215,7 +236,8 @@ pub request_id : (q : Pdu) → is_request_body q.body ≡ true → (n : ℕ) × 
 request_id q e = request_id_by q.body e
 
 -- only what speaks of entities is answered by an Able
-unable_by : (a : Outfit) (k : Knowledge) (q : Pdu) (stamp : ℕ) (body : Body) → is_request_body body ≡ true → is_for_entities (body_kind body) ≡ false → responds able (answer_by a k q stamp body) ≡ false
+unable_by : (a : Outfit) (k : Knowledge) (q : Pdu) (stamp : ℕ) (body : Body) → is_request_body body ≡ true → is_for_entities (body_kind body) ≡ false
+    → responds able (answer_by a k q stamp body) ≡ false
 unable_by a k q stamp (CreateEntity request) r e = absurd cc
 unable_by a k q stamp (RemoveEntity request) r e = absurd cc
 unable_by a k q stamp (StartResume real sim request) r e = absurd cc
@@ -237,7 +259,8 @@ negated : (b : Bool) → not b ≡ false → b ≡ true
 negated true e = refl
 negated false e = absurd cc
 
-stays_create : (s : Scope) (e : ℕ) (y : ℕ → EntityState) → is_hopeless kinds.CreateEntity s y ≡ false → is_entity e ≡ false → changed e Absent (record { kind = kinds.CreateEntity; scope = s }) ≡ Absent
+stays_create : (s : Scope) (e : ℕ) (y : ℕ → EntityState) → is_hopeless kinds.CreateEntity s y ≡ false → is_entity e ≡ false
+    → changed e Absent (record { kind = kinds.CreateEntity; scope = s }) ≡ Absent
 stays_create All e y h out = absurd cc
 stays_create (One n) e y h out = by (n == e) refl where
   by : (b : Bool) → (n == e) ≡ b → (if b then Stopped else Absent) ≡ Absent
@@ -247,7 +270,8 @@ stays_create (One n) e y h out = by (n == e) refl where
       let free = and_parts (is_entity n) (is_absent (y n)) (negated (is_entity n && is_absent (y n)) h) in
       let clash : is_entity e ≡ true = subst (λ (m : ℕ). is_entity m ≡ true) same free.0 in absurd cc
 
-pub stays_by : (kind : Kind) (s : Scope) (e : ℕ) (y : ℕ → EntityState) → is_hopeless kind s y ≡ false → is_entity e ≡ false → changed e Absent (record { kind = kind; scope = s }) ≡ Absent
+pub stays_by : (kind : Kind) (s : Scope) (e : ℕ) (y : ℕ → EntityState) → is_hopeless kind s y ≡ false → is_entity e ≡ false
+    → changed e Absent (record { kind = kind; scope = s }) ≡ Absent
 stays_by kinds.CreateEntity s e y h out = stays_create s e y h out
 stays_by kinds.RemoveEntity s e y h out = scoped (record { kind = kinds.RemoveEntity; scope = s }) e refl
 stays_by kinds.StartResume s e y h out = scoped (record { kind = kinds.StartResume; scope = s }) e refl

@@ -49,14 +49,16 @@ last_in {X = X} P id_of id (y ∷ ys) all x e = by (last_under id_of id ys) (las
   by (Some z) rest b f = rest x f
   by None rest b f = here b f
 
-stored_in : {X : Type 0} (P : X → Type 0) (came held : Option X) → ((x : X) → came ≡ Some x → P x) → ((x : X) → held ≡ Some x → P x) → (x : X) → stored came held ≡ Some x → P x
+stored_in : {X : Type 0} (P : X → Type 0) (came held : Option X) → ((x : X) → came ≡ Some x → P x) → ((x : X) → held ≡ Some x → P x) → (x : X)
+    → stored came held ≡ Some x → P x
 stored_in P came None c h x e = absurd cc
 stored_in P None (Some y) c h x e = h x e
 stored_in P (Some z) (Some y) c h x e = c x e
 
 found_in : {X : Type 0} (P : X → Type 0) (held : ℕ → Option X) → ((id : ℕ) (x : X) → held id ≡ Some x → P x) → (ids : List ℕ) → All P (found held ids)
 found_in P held all [] = All-nil P
-found_in {X = X} P held all (id ∷ ids) = All-append P (option_to_list (held id)) (found held ids) (one (held id) (all id)) (found_in P held all ids) where
+found_in {X = X} P held all (id ∷ ids) =
+    All-append P (option_to_list (held id)) (found held ids) (one (held id) (all id)) (found_in P held all ids) where
   one : (o : Option X) → ((x : X) → o ≡ Some x → P x) → All P (option_to_list o)
   one None h = All-nil P
   one (Some x) h = All-cons P x [] (h x refl) (All-nil P)
@@ -92,13 +94,15 @@ abbrev pub Each : (Pdu → Type 0) → List Pdu → Type 0
 Each P [] = Unit {0}
 Each P (d ∷ ds) = P d × Each P ds
 
-fixed_in : (a : Outfit) (ds : List Pdu) → IsOutfitInRange a → Each IsInRange ds → (id : ℕ) (d : FixedDatum) → fixed_after a ds id ≡ Some d → IsFixedInRange d
+fixed_in : (a : Outfit) (ds : List Pdu) → IsOutfitInRange a → Each IsInRange ds → (id : ℕ) (d : FixedDatum) → fixed_after a ds id ≡ Some d
+    → IsFixedInRange d
 fixed_in a [] own each id d e = last_in IsFixedInRange fixed_id id a.datums.fixed own.datums.0 d e
 fixed_in a (q ∷ ds) own each id d e =
     stored_in IsFixedInRange (last_under fixed_id id (brought q.body).fixed) (fixed_after a ds id)
     (last_in IsFixedInRange fixed_id id (brought q.body).fixed (brought_in q.body each.0.body).0) (fixed_in a ds own each.1 id) d e
 
-variable_in : (a : Outfit) (ds : List Pdu) → IsOutfitInRange a → Each IsInRange ds → (id : ℕ) (d : Datum) → variable_after a ds id ≡ Some d → IsVariableInRange d
+variable_in : (a : Outfit) (ds : List Pdu) → IsOutfitInRange a → Each IsInRange ds → (id : ℕ) (d : Datum) → variable_after a ds id ≡ Some d
+    → IsVariableInRange d
 variable_in a [] own each id d e = last_in IsVariableInRange variable_id id a.datums.variable own.datums.1 d e
 variable_in a (q ∷ ds) own each id d e =
     stored_in IsVariableInRange (last_under variable_id id (brought q.body).variable) (variable_after a ds id)
@@ -132,11 +136,15 @@ own_in kind n h = by (is_open kind n) where
   by true = omega arith
   by false = h
 
-from_in : (a : Outfit) (q : Pdu) (stamp m : ℕ) (body : Body) → IsOutfitInRange a → IsInRange q → stamp < 2 ^ 32 → m < 2 ^ 16 → IsBodyInRange body → IsInRange (answer_pdu a q stamp m body)
-from_in a q stamp m body own r s number b = record { exercise = own.exercise; stamp = s; status = omega arith; origin = (own.site, own.application, number); target = r.origin; body = b }
+from_in : (a : Outfit) (q : Pdu) (stamp m : ℕ) (body : Body) → IsOutfitInRange a → IsInRange q → stamp < 2 ^ 32 → m < 2 ^ 16 → IsBodyInRange body
+    → IsInRange (answer_pdu a q stamp m body)
+from_in a q stamp m body own r s number b =
+    record { exercise = own.exercise; stamp = s; status = omega arith; origin = (own.site, own.application, number); target = r.origin; body = b }
 
-plain_in : (a : Outfit) (q : Pdu) (stamp : ℕ) (body : Body) → IsOutfitInRange a → IsInRange q → stamp < 2 ^ 32 → IsBodyInRange body → IsInRange (plain_answer a q stamp body)
-plain_in a q stamp body own r s b = from_in a q stamp (own_number (body_kind q.body) q.target.entity) body own r s (own_in (body_kind q.body) q.target.entity r.target.2) b
+plain_in : (a : Outfit) (q : Pdu) (stamp : ℕ) (body : Body) → IsOutfitInRange a → IsInRange q → stamp < 2 ^ 32 → IsBodyInRange body
+    → IsInRange (plain_answer a q stamp body)
+plain_in a q stamp body own r s b =
+    from_in a q stamp (own_number (body_kind q.body) q.target.entity) body own r s (own_in (body_kind q.body) q.target.entity r.target.2) b
 
 created_in : (a : Outfit) (y : ℕ → EntityState) (q : Pdu) (stamp request : ℕ) → IsOutfitInRange a → IsInRange q → stamp < 2 ^ 32 → request < 2 ^ 32
     → (o : Option ℕ) → chosen y q.target.entity ≡ o → IsInRange (created a q stamp request o)
@@ -148,24 +156,28 @@ created_in a y q stamp request own r s h (Some m) e =
     let high : m ≤ LARGEST_ENTITY = grind (arith, nat_tests) in
     from_in a q stamp m (Acknowledge 1 able request) own r s (omega arith) (omega arith, omega arith, h)
 
-obeyed_in : (a : Outfit) (y : ℕ → EntityState) (q : Pdu) (stamp flag request : ℕ) → IsOutfitInRange a → IsInRange q → stamp < 2 ^ 32 → flag < 2 ^ 16 → request < 2 ^ 32 → IsInRange (obeyed a y q stamp flag request)
+obeyed_in : (a : Outfit) (y : ℕ → EntityState) (q : Pdu) (stamp flag request : ℕ) → IsOutfitInRange a → IsInRange q → stamp < 2 ^ 32 → flag < 2 ^ 16
+    → request < 2 ^ 32 → IsInRange (obeyed a y q stamp flag request)
 obeyed_in a y q stamp flag request own r s f h = by (is_meant (body_kind q.body) y q.target.entity) where
   by : (b : Bool) → IsInRange (plain_answer a q stamp (Acknowledge flag (if b then able else unable) request))
   by true = plain_in a q stamp (Acknowledge flag able request) own r s (f, omega arith, h)
   by false = plain_in a q stamp (Acknowledge flag unable request) own r s (f, omega arith, h)
 
-acted_in : (a : Outfit) (q : Pdu) (stamp request : ℕ) → IsOutfitInRange a → IsInRange q → stamp < 2 ^ 32 → request < 2 ^ 32 → (b : Bool) → IsInRange (plain_answer a q stamp (ActionResponse request (if b then 4 else 5) no_datums))
+acted_in : (a : Outfit) (q : Pdu) (stamp request : ℕ) → IsOutfitInRange a → IsInRange q → stamp < 2 ^ 32 → request < 2 ^ 32 → (b : Bool)
+    → IsInRange (plain_answer a q stamp (ActionResponse request (if b then 4 else 5) no_datums))
 acted_in a q stamp request own r s h true = plain_in a q stamp (ActionResponse request 4 no_datums) own r s (h, omega arith, no_datums_in)
 acted_in a q stamp request own r s h false = plain_in a q stamp (ActionResponse request 5 no_datums) own r s (h, omega arith, no_datums_in)
 
-data_in : (a : Outfit) (q : Pdu) (stamp request : ℕ) (d : DatumLists) → IsOutfitInRange a → IsInRange q → stamp < 2 ^ 32 → request < 2 ^ 32 → AreDatumsInRange d → IsInRange (data_answer a q stamp request d)
+data_in : (a : Outfit) (q : Pdu) (stamp request : ℕ) (d : DatumLists) → IsOutfitInRange a → IsInRange q → stamp < 2 ^ 32 → request < 2 ^ 32
+    → AreDatumsInRange d → IsInRange (data_answer a q stamp request d)
 data_in a q stamp request d own r s h datums =
     subst IsInRange (sym (cut_is a q stamp request d)) (plain_in a q stamp (DataPdu request (cut_records d)) own r s (h, cut_in d datums))
 
 -- what is known is asked for where the request is not for entities
 answer_in_by : (a : Outfit) (k : Knowledge) (q : Pdu) (stamp : ℕ) → IsOutfitInRange a → IsInRange q → stamp < 2 ^ 32
     → (body : Body) → IsBodyInRange body → (is_for_entities (body_kind body) ≡ false → KnowsInRange k) → IsInRange (answer_by a k q stamp body)
-answer_in_by a k q stamp own r s (CreateEntity request) h knows = created_in a k.states q stamp request own r s h (chosen k.states q.target.entity) refl
+answer_in_by a k q stamp own r s (CreateEntity request) h knows =
+    created_in a k.states q stamp request own r s h (chosen k.states q.target.entity) refl
 answer_in_by a k q stamp own r s (RemoveEntity request) h knows = obeyed_in a k.states q stamp 2 request own r s (omega arith) h
 answer_in_by a k q stamp own r s (StartResume real sim request) h knows = obeyed_in a k.states q stamp 3 request own r s (omega arith) h.2
 answer_in_by a k q stamp own r s (StopFreeze real reason behaviour request) h knows = obeyed_in a k.states q stamp 4 request own r s (omega arith) h.3
@@ -173,14 +185,17 @@ answer_in_by a k q stamp own r s (Acknowledge flag response request) h knows = r
 answer_in_by a k q stamp own r s (ActionRequest request action datums) h knows =
     acted_in a q stamp request own r s h.0 (list_any (λ known. known == action) a.actions && is_meant (body_kind q.body) k.states q.target.entity)
 answer_in_by a k q stamp own r s (ActionResponse request status datums) h knows = r
-answer_in_by a k q stamp own r s (DataQuery request interval ids) h knows = data_in a q stamp request (held_records k ids) own r s h.0 (held_in k ids (knows refl))
+answer_in_by a k q stamp own r s (DataQuery request interval ids) h knows =
+    data_in a q stamp request (held_records k ids) own r s h.0 (held_in k ids (knows refl))
 answer_in_by a k q stamp own r s (SetData request datums) h knows =
-    data_in a q stamp request (held_records (told_of datums k) (ids_of datums)) own r s h.0 (held_in (told_of datums k) (ids_of datums) (told_in datums k h.1 (knows refl)))
+    data_in a q stamp request (held_records (told_of datums k) (ids_of datums)) own r s h.0
+      (held_in (told_of datums k) (ids_of datums) (told_in datums k h.1 (knows refl)))
 answer_in_by a k q stamp own r s (DataPdu request datums) h knows = r
 answer_in_by a k q stamp own r s (EventReport event datums) h knows = r
 answer_in_by a k q stamp own r s (Comment datums) h knows = r
 
-answer_in_range : (a : Outfit) (ds : List Pdu) (q : Pdu) (stamp : ℕ) → IsOutfitInRange a → Each IsInRange ds → IsInRange q → stamp < 2 ^ 32 → IsInRange (answer a (known a ds) q stamp)
+answer_in_range : (a : Outfit) (ds : List Pdu) (q : Pdu) (stamp : ℕ) → IsOutfitInRange a → Each IsInRange ds → IsInRange q → stamp < 2 ^ 32
+    → IsInRange (answer a (known a ds) q stamp)
 answer_in_range a ds q stamp own each r s = answer_in_by a (known a ds) q stamp own r s q.body r.body (λ e. known_in a ds own each)
 
 -- Sizes.
@@ -191,9 +206,11 @@ created_size a q stamp request (Some m) = omega arith
 
 data_fits : (a : Outfit) (q : Pdu) (stamp request : ℕ) (d : DatumLists) → pdu_size (data_answer a q stamp request d) ≤ LARGEST_DATAGRAM
 data_fits a q stamp request d =
-    subst (λ (p : Pdu). pdu_size p ≤ LARGEST_DATAGRAM) (sym (cut_is a q stamp request d)) (omega (arith, data_size a q stamp request (cut_records d), cut_fits d))
+    subst (λ (p : Pdu). pdu_size p ≤ LARGEST_DATAGRAM) (sym (cut_is a q stamp request d))
+      (omega (arith, data_size a q stamp request (cut_records d), cut_fits d))
 
-answer_size_by : (a : Outfit) (k : Knowledge) (q : Pdu) (stamp : ℕ) (body : Body) → is_request_body body ≡ true → pdu_size (answer_by a k q stamp body) ≤ LARGEST_DATAGRAM
+answer_size_by : (a : Outfit) (k : Knowledge) (q : Pdu) (stamp : ℕ) (body : Body) → is_request_body body ≡ true
+    → pdu_size (answer_by a k q stamp body) ≤ LARGEST_DATAGRAM
 answer_size_by a k q stamp (CreateEntity request) e = created_size a q stamp request (chosen k.states q.target.entity)
 answer_size_by a k q stamp (RemoveEntity request) e = omega arith
 answer_size_by a k q stamp (StartResume real sim request) e = omega arith
@@ -229,10 +246,12 @@ small_body (Comment datums) e = absurd cc
 pub request_read : (q : Pdu) → IsInRange q → is_for_entities (body_kind q.body) ≡ true → reading (pdu_text q) ≡ Some q
 request_read q r e = let small = small_body q.body e in text_is_read q r (omega (arith, small))
 
-pub answer_read : (a : Outfit) (k : Knowledge) (q : Pdu) (stamp : ℕ) → IsOutfitInRange a → IsInRange q → stamp < 2 ^ 32 → is_for a q ≡ true → is_for_entities (body_kind q.body) ≡ true
+pub answer_read : (a : Outfit) (k : Knowledge) (q : Pdu) (stamp : ℕ) → IsOutfitInRange a → IsInRange q → stamp < 2 ^ 32 → is_for a q ≡ true
+    → is_for_entities (body_kind q.body) ≡ true
     → reading (pdu_text (answer a k q stamp)) ≡ Some (answer a k q stamp)
 answer_read a k q stamp own r s mine e =
-    text_is_read (answer a k q stamp) (answer_in_by a k q stamp own r s q.body r.body (λ no. let clash : true ≡ false = sym e ∙ no in absurd cc)) (answer_size a k q stamp mine)
+    text_is_read (answer a k q stamp) (answer_in_by a k q stamp own r s q.body r.body (λ no. let clash : true ≡ false = sym e ∙ no in absurd cc))
+      (answer_size a k q stamp mine)
 
 -- Replies.
 
@@ -267,7 +286,8 @@ each_for : (a : Outfit) (ds : List Pdu) → AreFor a ds → Each (λ d. is_for a
 each_for a [] are = tt
 each_for a (d ∷ ds) are = (are.0, each_for a ds are.1)
 
-pub reply_size : (a : Outfit) (ds : List Pdu) (q : Pdu) (stamp : ℕ) → AreFor a ds → IfSome (reply_after a ds q stamp) (λ p. pdu_size p ≤ LARGEST_DATAGRAM)
+pub reply_size : (a : Outfit) (ds : List Pdu) (q : Pdu) (stamp : ℕ) → AreFor a ds
+    → IfSome (reply_after a ds q stamp) (λ p. pdu_size p ≤ LARGEST_DATAGRAM)
 reply_size a ds q stamp are =
     reply_as (λ p. pdu_size p ≤ LARGEST_DATAGRAM) a ds q stamp (answer_size a (known a ds) q stamp)
     (λ f e. answer_size a (known a f.before) f.request stamp (first_in (λ d. is_for a d ≡ true) q ds (each_for a ds are) f e).0)
@@ -293,11 +313,13 @@ each_distinct P a (q ∷ qs) each = by (is_for a q && is_none (first_under q (di
   by false rest = rest
 
 -- THE TEXT OF A REPLY is read as it.
-pub reply_read : (a : Outfit) (qs : List Pdu) (q : Pdu) (stamp : ℕ) → IsOutfitInRange a → Each IsInRange qs → IsInRange q → stamp < 2 ^ 32 → IfSome (reply a qs q stamp) (λ p. reading (pdu_text p) ≡ Some p)
+pub reply_read : (a : Outfit) (qs : List Pdu) (q : Pdu) (stamp : ℕ) → IsOutfitInRange a → Each IsInRange qs → IsInRange q → stamp < 2 ^ 32
+    → IfSome (reply a qs q stamp) (λ p. reading (pdu_text p) ≡ Some p)
 reply_read a qs q stamp own each r s =
     let ds = distinct a qs in
     let all = each_distinct IsInRange a qs each in
     reply_as (λ p. reading (pdu_text p) ≡ Some p) a ds q stamp
     (λ mine. text_is_read (answer a (known a ds) q stamp) (answer_in_range a ds q stamp own all r s) (answer_size a (known a ds) q stamp mine))
     (λ f e. let found = first_in IsInRange q ds all f e in
-    text_is_read (answer a (known a f.before) f.request stamp) (answer_in_range a f.before f.request stamp own found.1 found.0 s) (answer_size a (known a f.before) f.request stamp (for_at a qs q f e)))
+    text_is_read (answer a (known a f.before) f.request stamp) (answer_in_range a f.before f.request stamp own found.1 found.0 s)
+      (answer_size a (known a f.before) f.request stamp (for_at a qs q f e)))

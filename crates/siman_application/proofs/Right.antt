@@ -34,11 +34,13 @@ use Rattle.siman_application.proofs.Played.{states_go_on}
 
 -- One more request goes last.
 
-keyed_last : (es : List (RequestKey × KeptRequest)) (key : RequestKey) (one : KeptRequest) → AreKeyed es → IsKey key one.request → AreKeyed (es ++ (key, one) ∷ [])
+keyed_last : (es : List (RequestKey × KeptRequest)) (key : RequestKey) (one : KeptRequest) → AreKeyed es → IsKey key one.request
+    → AreKeyed (es ++ (key, one) ∷ [])
 keyed_last [] key one keyed own = (own, tt)
 keyed_last (e ∷ es) key one keyed own = (keyed.0, keyed_last es key one keyed.1 own)
 
-pub values_last : (es : List (RequestKey × KeptRequest)) (key : RequestKey) (one : KeptRequest) → values_of (es ++ (key, one) ∷ []) ≡ values_of es ++ one ∷ []
+pub values_last : (es : List (RequestKey × KeptRequest)) (key : RequestKey) (one : KeptRequest)
+    → values_of (es ++ (key, one) ∷ []) ≡ values_of es ++ one ∷ []
 values_last [] key one = refl
 values_last (e ∷ es) key one = ap (λ (ks : List KeptRequest). e.1 ∷ ks) (values_last es key one)
 
@@ -46,7 +48,8 @@ pub kept_last : (ds : List Pdu) (ks : List KeptRequest) (one : KeptRequest) → 
 kept_last ds [] one = refl
 kept_last ds (k ∷ ks) one = kept_last (k.request ∷ ds) ks one
 
-answered_last : (a : Outfit) (ds : List Pdu) (ks : List KeptRequest) (one : KeptRequest) → AreAnswered a ds ks → IsAnswered a (kept_after ds ks) one → AreAnswered a ds (ks ++ one ∷ [])
+answered_last : (a : Outfit) (ds : List Pdu) (ks : List KeptRequest) (one : KeptRequest) → AreAnswered a ds ks → IsAnswered a (kept_after ds ks) one
+    → AreAnswered a ds (ks ++ one ∷ [])
 answered_last a ds [] one are is = (is, tt)
 answered_last a ds (k ∷ ks) one are is = (are.0, answered_last a (k.request ∷ ds) ks one are.1 is)
 
@@ -55,10 +58,13 @@ answered_last a ds (k ∷ ks) one are is = (are.0, answered_last a (k.request �
 states_after : (a : Outfit) (q : Pdu) (ds : List Pdu) (stamp : ℕ) → is_for a q ≡ true → AreFor a ds → AreSpelled a (q ∷ ds) → first_under q ds ≡ None
     → (e : ℕ) → after (answer a (known a ds) q stamp) q (state_over a ds) e ≡ state_over a (q ∷ ds) e
 states_after a q ds stamp own are spelled none e =
-    ap (λ (p : Pdu). after p q (state_over a ds) e) (answer_stamped a (known a ds) q stamp 0 (for_parts a q own).request) ∙ sym (states_go_on a q ds own are spelled none e)
+    ap (λ (p : Pdu). after p q (state_over a ds) e) (answer_stamped a (known a ds) q stamp 0 (for_parts a q own).request) ∙ sym
+      (states_go_on a q ds own are spelled none e)
 
-known_more : (a : Outfit) (q : Pdu) (ds : List Pdu) (stamp : ℕ) (es es' : Entities) (d d' : DatumLists) → is_for a q ≡ true → AreFor a ds → AreSpelled a (q ∷ ds) → first_under q ds ≡ None
-    → knows es d ≡ known a ds → states_in es' ≡ after (answer a (knows es d) q stamp) q (states_in es) → knows es' d' ≡ told_of (brought q.body) (knows es' d) → knows es' d' ≡ known a (q ∷ ds)
+known_more : (a : Outfit) (q : Pdu) (ds : List Pdu) (stamp : ℕ) (es es' : Entities) (d d' : DatumLists) → is_for a q ≡ true → AreFor a ds
+    → AreSpelled a (q ∷ ds) → first_under q ds ≡ None
+    → knows es d ≡ known a ds → states_in es' ≡ after (answer a (knows es d) q stamp) q (states_in es)
+    → knows es' d' ≡ told_of (brought q.body) (knows es' d) → knows es' d' ≡ known a (q ∷ ds)
 known_more a q ds stamp es es' d d' own are spelled none k states told =
     told ∙ λ i. record {
       states = (changed states) i;
@@ -68,14 +74,17 @@ known_more a q ds stamp es es' d d' own are spelled none k states told =
       changed : states_in es' ≡ after (answer a (knows es d) q stamp) q (states_in es) → states_in es' ≡ (λ e. state_over a (q ∷ ds) e)
       changed s = s ∙ ap (λ (k : Knowledge). after (answer a k q stamp) q k.states) k ∙ λ i e. (states_after a q ds stamp own are spelled none e) i
 
-pub spelled_more : (a : Outfit) (q : Pdu) (ds : List Pdu) → is_for a q ≡ true → IsInRange q → IsOutfitInRange a → AreSpelled a ds → AreSpelled a (q ∷ ds)
+pub spelled_more : (a : Outfit) (q : Pdu) (ds : List Pdu) → is_for a q ≡ true → IsInRange q → IsOutfitInRange a → AreSpelled a ds
+    → AreSpelled a (q ∷ ds)
 spelled_more a q ds own range outfit spelled = (
   λ e. (taken_means a (pdu_text q) q (request_read q range e) own, answer_means a (known a ds) q 0 own (answer_read a (known a ds) q 0 outfit range (omega arith) own e)),
   spelled,
 )
 
-pub right_more : (a : Outfit) (table new : Table) (es es' : Entities) (d d' : DatumLists) (key : RequestKey) (q p : Pdu) (stamp : ℕ) → AreRight a table es d → is_for a q ≡ true → IsKey key q
-    → first_under q (requests (values table)) ≡ None → IsInRange q → p ≡ answer a (knows es d) q stamp → new.entries ≡ table.entries ++ (key, record { request = q; answer = p }) ∷ []
+pub right_more : (a : Outfit) (table new : Table) (es es' : Entities) (d d' : DatumLists) (key : RequestKey) (q p : Pdu) (stamp : ℕ)
+    → AreRight a table es d → is_for a q ≡ true → IsKey key q
+    → first_under q (requests (values table)) ≡ None → IsInRange q → p ≡ answer a (knows es d) q stamp
+    → new.entries ≡ table.entries ++ (key, record { request = q; answer = p }) ∷ []
     → states_in es' ≡ after p q (states_in es) → ((xs : Entities) → knows xs d' ≡ told_of (brought q.body) (knows xs d)) → AreRight a new es' d'
 right_more a table new es es' d d' key q p stamp right own is_key none range is kept states told =
     let ds = requests (values table) in
@@ -88,10 +97,12 @@ right_more a table new es es' d d' key q p stamp right own is_key none range is 
     record {
       ranges = right.ranges;
       keyed = subst AreKeyed (sym kept) (keyed_last table.entries key one right.keyed is_key);
-      answered = subst (AreAnswered a []) (sym vs) (answered_last a [] (values table) one right.answered (record { own = own; answer_is = answer_is ∙ ap (answer a (known a ds) q) (sym stamp_is) }));
+      answered = subst (AreAnswered a []) (sym vs) (answered_last a [] (values table) one right.answered
+        (record { own = own; answer_is = answer_is ∙ ap (answer a (known a ds) q) (sym stamp_is) }));
       own = subst (AreFor a) (sym rs) (own, right.own);
       spelled = subst (AreSpelled a) (sym rs) spelled;
-      known_is = known_more a q ds stamp es es' d d' own right.own spelled none right.known_is (states ∙ ap (λ (r : Pdu). after r q (states_in es)) is) (told es') ∙ ap (known a) (sym rs);
+      known_is = known_more a q ds stamp es es' d d' own right.own spelled none right.known_is (states ∙ ap (λ (r : Pdu). after r q (states_in es)) is)
+        (told es') ∙ ap (known a) (sym rs);
     }
 
 -- An answer is stamped again.
@@ -101,47 +112,60 @@ keyed_stamped place stamp [] keyed = tt
 keyed_stamped zero stamp (e ∷ es) keyed = (keyed.0, keyed.1)
 keyed_stamped (suc place) stamp (e ∷ es) keyed = (keyed.0, keyed_stamped place stamp es keyed.1)
 
-kept_stamped : (place stamp : ℕ) (ds : List Pdu) (es : List (RequestKey × KeptRequest)) → kept_after ds (values_of (stamped_at place stamp es)) ≡ kept_after ds (values_of es)
+kept_stamped : (place stamp : ℕ) (ds : List Pdu) (es : List (RequestKey × KeptRequest))
+    → kept_after ds (values_of (stamped_at place stamp es)) ≡ kept_after ds (values_of es)
 kept_stamped place stamp ds [] = refl
 kept_stamped zero stamp ds (e ∷ es) = refl
 kept_stamped (suc place) stamp ds (e ∷ es) = kept_stamped place stamp (e.1.request ∷ ds) es
 
-one_stamped : (a : Outfit) (ds : List Pdu) (stamp : ℕ) (k : KeptRequest) → IsAnswered a ds k → with_stamp stamp k.answer ≡ answer a (known a ds) k.request stamp
-one_stamped a ds stamp k is = ap (with_stamp stamp) is.answer_is ∙ answer_stamped a (known a ds) k.request k.answer.stamp stamp (for_parts a k.request is.own).request
+one_stamped : (a : Outfit) (ds : List Pdu) (stamp : ℕ) (k : KeptRequest) → IsAnswered a ds k
+    → with_stamp stamp k.answer ≡ answer a (known a ds) k.request stamp
+one_stamped a ds stamp k is =
+    ap (with_stamp stamp) is.answer_is ∙ answer_stamped a (known a ds) k.request k.answer.stamp stamp (for_parts a k.request is.own).request
 
-answered_stamped : (a : Outfit) (place stamp : ℕ) (ds : List Pdu) (es : List (RequestKey × KeptRequest)) → AreAnswered a ds (values_of es) → AreAnswered a ds (values_of (stamped_at place stamp es))
+answered_stamped : (a : Outfit) (place stamp : ℕ) (ds : List Pdu) (es : List (RequestKey × KeptRequest)) → AreAnswered a ds (values_of es)
+    → AreAnswered a ds (values_of (stamped_at place stamp es))
 answered_stamped a place stamp ds [] are = tt
 answered_stamped a zero stamp ds (e ∷ es) are = (record { own = are.0.own; answer_is = one_stamped a ds stamp e.1 are.0 }, are.1)
 answered_stamped a (suc place) stamp ds (e ∷ es) are = (are.0, answered_stamped a place stamp (e.1.request ∷ ds) es are.1)
 
-pub requests_stamped : (place stamp : ℕ) (table new : Table) → new.entries ≡ stamped_at place stamp table.entries → requests (values new) ≡ requests (values table)
-requests_stamped place stamp table new e = ap (λ (es : List (RequestKey × KeptRequest)). requests (values_of es)) e ∙ kept_stamped place stamp [] table.entries
+pub requests_stamped : (place stamp : ℕ) (table new : Table) → new.entries ≡ stamped_at place stamp table.entries
+    → requests (values new) ≡ requests (values table)
+requests_stamped place stamp table new e =
+    ap (λ (es : List (RequestKey × KeptRequest)). requests (values_of es)) e ∙ kept_stamped place stamp [] table.entries
 
-pub right_stamped : (a : Outfit) (place stamp : ℕ) (table new : Table) (es : Entities) (d : DatumLists) → AreRight a table es d → new.entries ≡ stamped_at place stamp table.entries → AreRight a new es d
+pub right_stamped : (a : Outfit) (place stamp : ℕ) (table new : Table) (es : Entities) (d : DatumLists) → AreRight a table es d
+    → new.entries ≡ stamped_at place stamp table.entries → AreRight a new es d
 right_stamped a place stamp table new es d right e =
     let same = requests_stamped place stamp table new e in
     record {
       ranges = right.ranges;
       keyed = subst AreKeyed (sym e) (keyed_stamped place stamp table.entries right.keyed);
-      answered = subst (λ (xs : List (RequestKey × KeptRequest)). AreAnswered a [] (values_of xs)) (sym e) (answered_stamped a place stamp [] table.entries right.answered);
+      answered = subst (λ (xs : List (RequestKey × KeptRequest)). AreAnswered a [] (values_of xs)) (sym e)
+        (answered_stamped a place stamp [] table.entries right.answered);
       own = subst (AreFor a) (sym same) right.own;
       spelled = subst (AreSpelled a) (sym same) right.spelled;
       known_is = right.known_is ∙ ap (known a) (sym same);
     }
 
-get_stamped : (place stamp : ℕ) (es : List (RequestKey × KeptRequest)) (k : KeptRequest) → slice_get (values_of es) place ≡ Some k → slice_get (values_of (stamped_at place stamp es)) place ≡ Some (stamped stamp k)
+get_stamped : (place stamp : ℕ) (es : List (RequestKey × KeptRequest)) (k : KeptRequest) → slice_get (values_of es) place ≡ Some k
+    → slice_get (values_of (stamped_at place stamp es)) place ≡ Some (stamped stamp k)
 get_stamped place stamp [] k at = absurd cc
 get_stamped zero stamp (e ∷ es) k at = let same : e.1 ≡ k = cc in ap (λ (j : KeptRequest). Some (stamped stamp j)) same
 get_stamped (suc place) stamp (e ∷ es) k at = get_stamped place stamp es k at
 
-answered_at : (a : Outfit) (ds : List Pdu) (ks : List KeptRequest) (place : ℕ) (k : KeptRequest) → AreAnswered a ds ks → slice_get ks place ≡ Some k → IsAnswered a (kept_after ds (take place ks)) k
+answered_at : (a : Outfit) (ds : List Pdu) (ks : List KeptRequest) (place : ℕ) (k : KeptRequest) → AreAnswered a ds ks → slice_get ks place ≡ Some k
+    → IsAnswered a (kept_after ds (take place ks)) k
 answered_at a ds [] place k are at = absurd cc
 answered_at a ds (j ∷ ks) zero k are at = let same : j ≡ k = cc in subst (IsAnswered a ds) same are.0
 answered_at a ds (j ∷ ks) (suc place) k are at = answered_at a (j.request ∷ ds) ks place k are.1 at
 
 -- the answer that is given again
-pub given_again : (a : Outfit) (place stamp : ℕ) (table new : Table) (k : KeptRequest) → AreAnswered a [] (values table) → slice_get (values table) place ≡ Some k → new.entries ≡ stamped_at place stamp table.entries
-    → option_map (λ (j : KeptRequest). j.answer) (slice_get (values new) place) ≡ Some (answer a (known a (requests_before place (values table))) k.request stamp)
+pub given_again : (a : Outfit) (place stamp : ℕ) (table new : Table) (k : KeptRequest) → AreAnswered a [] (values table)
+    → slice_get (values table) place ≡ Some k → new.entries ≡ stamped_at place stamp table.entries
+    
+    → option_map (λ (j : KeptRequest). j.answer) (slice_get (values new) place) ≡ Some
+      (answer a (known a (requests_before place (values table))) k.request stamp)
 given_again a place stamp table new k are at e =
     ap (λ (es : List (RequestKey × KeptRequest)). option_map (λ (j : KeptRequest). j.answer) (slice_get (values_of es) place)) e
     ∙ ap (option_map (λ (j : KeptRequest). j.answer)) (get_stamped place stamp table.entries k at)
@@ -152,16 +176,20 @@ get_last : (ks : List KeptRequest) (one : KeptRequest) → slice_get (ks ++ one 
 get_last [] one = refl
 get_last (k ∷ ks) one = get_last ks one
 
-pub given_first : (table new : Table) (key : RequestKey) (one : KeptRequest) → new.entries ≡ table.entries ++ (key, one) ∷ [] → option_map (λ (j : KeptRequest). j.answer) (slice_get (values new) (length (values table))) ≡ Some one.answer
+pub given_first : (table new : Table) (key : RequestKey) (one : KeptRequest) → new.entries ≡ table.entries ++ (key, one) ∷ []
+    → option_map (λ (j : KeptRequest). j.answer) (slice_get (values new) (length (values table))) ≡ Some one.answer
 given_first table new key one e =
-    ap (λ (ks : List KeptRequest). option_map (λ (j : KeptRequest). j.answer) (slice_get ks (length (values table)))) (ap values_of e ∙ values_last table.entries key one)
+    ap (λ (ks : List KeptRequest). option_map (λ (j : KeptRequest). j.answer) (slice_get ks (length (values table))))
+      (ap values_of e ∙ values_last table.entries key one)
     ∙ ap (option_map (λ (j : KeptRequest). j.answer)) (get_last (values table) one)
 
-pub requests_more : (table new : Table) (key : RequestKey) (one : KeptRequest) → new.entries ≡ table.entries ++ (key, one) ∷ [] → requests (values new) ≡ one.request ∷ requests (values table)
+pub requests_more : (table new : Table) (key : RequestKey) (one : KeptRequest) → new.entries ≡ table.entries ++ (key, one) ∷ []
+    → requests (values new) ≡ one.request ∷ requests (values table)
 requests_more table new key one e = ap requests (ap values_of e ∙ values_last table.entries key one) ∙ kept_last [] (values table) one
 
 -- a table with the same entries
-pub right_same : (a : Outfit) (table new : Table) (es es' : Entities) (d : DatumLists) → AreRight a table es d → new.entries ≡ table.entries → es' ≡ es → AreRight a new es' d
+pub right_same : (a : Outfit) (table new : Table) (es es' : Entities) (d : DatumLists) → AreRight a table es d → new.entries ≡ table.entries
+    → es' ≡ es → AreRight a new es' d
 right_same a table new es es' d right e f =
     let same : values new ≡ values table = ap values_of e in
     record {
@@ -174,11 +202,13 @@ right_same a table new es es' d right e f =
     }
 
 -- an answer, as it was made
-pub made_answer : (a : Outfit) (es : Entities) (d : DatumLists) (q p : Pdu) (stamp : ℕ) → is_for a q ≡ true → p ≡ answer a (knows es d) q stamp → IsAnswer a (states_in es) q p
+pub made_answer : (a : Outfit) (es : Entities) (d : DatumLists) (q p : Pdu) (stamp : ℕ) → is_for a q ≡ true → p ≡ answer a (knows es d) q stamp
+    → IsAnswer a (states_in es) q p
 made_answer a es d q p stamp own e = subst (IsAnswer a (states_in es) q) (sym e) (is_answer a (knows es d) q stamp own)
 
 -- what is kept last
-pub kept_one : (table reserved new : Table) (key : RequestKey) (q r p : Pdu) → new.entries ≡ reserved.entries ++ (key, record { request = r; answer = p }) ∷ [] → reserved.entries ≡ table.entries → r ≡ q
+pub kept_one : (table reserved new : Table) (key : RequestKey) (q r p : Pdu)
+    → new.entries ≡ reserved.entries ++ (key, record { request = r; answer = p }) ∷ [] → reserved.entries ≡ table.entries → r ≡ q
     → new.entries ≡ table.entries ++ (key, record { request = q; answer = p }) ∷ []
 kept_one table reserved new key q r p e f g =
     e ∙ ap (λ (es : List (RequestKey × KeptRequest)). es ++ (key, record { request = r; answer = p }) ∷ []) f
@@ -201,16 +231,20 @@ joins_not a ds q f e = sym (ap (λ (o : Option Placed). if is_for a q && is_none
 
 reply_again : (a : Outfit) (ds : List Pdu) (q : Pdu) (stamp : ℕ) (f : Placed) → is_for a q ≡ true → first_under q ds ≡ Some f
     → reply_after a ds q stamp ≡ (if is_same_order q f.request then Some (answer a (known a f.before) f.request stamp) else None)
-reply_again a ds q stamp f own e = ap (λ (b : Bool). if b then answer_under a ds q stamp (first_under q ds) else None) own ∙ ap (answer_under a ds q stamp) e
+reply_again a ds q stamp f own e =
+    ap (λ (b : Bool). if b then answer_under a ds q stamp (first_under q ds) else None) own ∙ ap (answer_under a ds q stamp) e
 
 length_stamped : (place stamp : ℕ) (es : List (RequestKey × KeptRequest)) → length (stamped_at place stamp es) ≡ length es
 length_stamped place stamp [] = refl
 length_stamped zero stamp (e ∷ es) = refl
 length_stamped (suc place) stamp (e ∷ es) = ap suc (length_stamped place stamp es)
 
-again_by : (a : Outfit) (table new : Table) (es : Entities) (d : DatumLists) (q : Pdu) (stamp place : ℕ) (k : KeptRequest) → AreRight a table es d → is_for a q ≡ true
-    → slice_get (values table) place ≡ Some k → place < length (values table) → first_under q (requests (values table)) ≡ Some (record { request = k.request; before = requests_before place (values table) })
-    → (b : Bool) → is_same_order q k.request ≡ b → MatchOption (if b then Some place else None) (new.entries ≡ table.entries) (λ i. new.entries ≡ stamped_at i stamp table.entries)
+again_by : (a : Outfit) (table new : Table) (es : Entities) (d : DatumLists) (q : Pdu) (stamp place : ℕ) (k : KeptRequest) → AreRight a table es d
+    → is_for a q ≡ true
+    → slice_get (values table) place ≡ Some k → place < length (values table)
+    → first_under q (requests (values table)) ≡ Some (record { request = k.request; before = requests_before place (values table) })
+    → (b : Bool) → is_same_order q k.request ≡ b
+    → MatchOption (if b then Some place else None) (new.entries ≡ table.entries) (λ i. new.entries ≡ stamped_at i stamp table.entries)
     → Again a table new es d q stamp (if b then Some place else None)
 again_by a table new es d q stamp place k right own at within first false same e =
     let ds = requests (values table) in
@@ -235,12 +269,14 @@ again_by a table new es d q stamp place k right own at within first true same e 
           omega (arith, n, m, within);
     }
 
-pub taken_again : (a : Outfit) (table new : Table) (es : Entities) (d : DatumLists) (q : Pdu) (stamp place : ℕ) (r : Option ℕ) → AreRight a table es d → is_for a q ≡ true → IsPlace q (values table) (Some place)
+pub taken_again : (a : Outfit) (table new : Table) (es : Entities) (d : DatumLists) (q : Pdu) (stamp place : ℕ) (r : Option ℕ) → AreRight a table es d
+    → is_for a q ≡ true → IsPlace q (values table) (Some place)
     → r ≡ option_and_then (λ k. if is_same_order q k.request then Some place else None) (slice_get (values table) place)
     → MatchOption r (new.entries ≡ table.entries) (λ i. new.entries ≡ stamped_at i stamp table.entries) → Again a table new es d q stamp r
 taken_again a table new es d q stamp place r right own at is e =
     let k = at.0 in
-    let given : r ≡ (if is_same_order q k.request then Some place else None) = is ∙ ap (option_and_then (λ (k : KeptRequest). if is_same_order q k.request then Some place else None)) at.1 in
+    let given : r ≡ (if is_same_order q k.request then Some place else None) = is ∙ ap
+      (option_and_then (λ (k : KeptRequest). if is_same_order q k.request then Some place else None)) at.1 in
     subst (Again a table new es d q stamp) (sym given)
     (again_by a table new es d q stamp place k right own at.1 at.2 at.3 (is_same_order q k.request) refl
     (subst (λ (o : Option ℕ). MatchOption o (new.entries ≡ table.entries) (λ i. new.entries ≡ stamped_at i stamp table.entries)) given e))
@@ -248,24 +284,30 @@ taken_again a table new es d q stamp place r right own at is e =
 -- A request that is the first under its key.
 
 pub joins : (a : Outfit) (ds : List Pdu) (q : Pdu) → is_for a q ≡ true → first_under q ds ≡ None → q ∷ ds ≡ with_request a ds q
-joins a ds q own none = sym (ap (λ (b : Bool). if b && is_none (first_under q ds) then q ∷ ds else ds) own ∙ ap (λ (o : Option Placed). if is_none o then q ∷ ds else ds) none)
+joins a ds q own none =
+    sym (ap (λ (b : Bool). if b && is_none (first_under q ds) then q ∷ ds else ds) own ∙ ap (λ (o : Option Placed). if is_none o then q ∷ ds else ds) none)
 
-pub reply_first : (a : Outfit) (ds : List Pdu) (q : Pdu) (stamp : ℕ) → is_for a q ≡ true → first_under q ds ≡ None → reply_after a ds q stamp ≡ Some (answer a (known a ds) q stamp)
-reply_first a ds q stamp own none = ap (λ (b : Bool). if b then answer_under a ds q stamp (first_under q ds) else None) own ∙ ap (answer_under a ds q stamp) none
+pub reply_first : (a : Outfit) (ds : List Pdu) (q : Pdu) (stamp : ℕ) → is_for a q ≡ true → first_under q ds ≡ None
+    → reply_after a ds q stamp ≡ Some (answer a (known a ds) q stamp)
+reply_first a ds q stamp own none =
+    ap (λ (b : Bool). if b then answer_under a ds q stamp (first_under q ds) else None) own ∙ ap (answer_under a ds q stamp) none
 
 -- Nothing was taken yet.
 
-pub begun_in_range : (x : ℕ) (s : StationData) (d : DatumLists) (actions : List ℕ) → x < 2 ^ 8 → is_station s ≡ true → AreDatumsInRange d → IsOutfitInRange (record { exercise = x; station = s; datums = d; actions = actions })
+pub begun_in_range : (x : ℕ) (s : StationData) (d : DatumLists) (actions : List ℕ) → x < 2 ^ 8 → is_station s ≡ true → AreDatumsInRange d
+    → IsOutfitInRange (record { exercise = x; station = s; datums = d; actions = actions })
 begun_in_range x s d actions exercise is datums =
     let address = and_parts (is_address s.address) (is_opening s.opening) is in
-    let site = and_parts (nat_le 1 s.address.site) (nat_le s.address.site 65534 && (nat_le 1 s.address.application && nat_le s.address.application 65534)) address.0 in
+    let site = and_parts (nat_le 1 s.address.site) (nat_le s.address.site 65534 &&
+      (nat_le 1 s.address.application && nat_le s.address.application 65534)) address.0 in
     let below = and_parts (nat_le s.address.site 65534) (nat_le 1 s.address.application && nat_le s.address.application 65534) site.1 in
     let application = and_parts (nat_le 1 s.address.application) (nat_le s.address.application 65534) below.1 in
     record { exercise = exercise; site = fits s.address.site below.0; application = fits s.address.application application.1; datums = datums } where
       fits : (n : ℕ) → nat_le n 65534 ≡ true → n < 2 ^ 16
       fits n e = let high : n ≤ 65534 = grind (arith, nat_tests) in omega (arith, high)
 
-start_by : (x : ℕ) (o : StationData) (e : ℕ) → is_opening o.opening ≡ true → (b : Bool) → is_entity e ≡ b → listed_state o.opening e ≡ (if b then entity_state x o [] e else Absent)
+start_by : (x : ℕ) (o : StationData) (e : ℕ) → is_opening o.opening ≡ true → (b : Bool) → is_entity e ≡ b
+    → listed_state o.opening e ≡ (if b then entity_state x o [] e else Absent)
 unfolding entity_state
 start_by x o e opens true t = refl
 start_by x o e opens false t = by (nat_le 1 e) (nat_le e LARGEST_ENTITY) refl refl t where
@@ -278,7 +320,8 @@ start_state : (a : Outfit) → is_opening a.station.opening ≡ true → (e : �
 unfolding play state_after
 start_state a opens e = start_by a.exercise a.station e opens (is_entity e) refl
 
-pub right_start : (a : Outfit) (table : Table) (es : Entities) (d : DatumLists) → IsOutfitInRange a → table.entries ≡ [] → es ≡ a.station.opening → is_opening es ≡ true → d ≡ a.datums → AreRight a table es d
+pub right_start : (a : Outfit) (table : Table) (es : Entities) (d : DatumLists) → IsOutfitInRange a → table.entries ≡ [] → es ≡ a.station.opening
+    → is_opening es ≡ true → d ≡ a.datums → AreRight a table es d
 right_start a table es d ranges empty opening opens held =
     let none : values table ≡ [] = ap values_of empty in
     record {

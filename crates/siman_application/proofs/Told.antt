@@ -7,7 +7,8 @@ use Rattle.siman_application.specs.Listed.{Entities}
 use Rattle.siman_application.specs.Records.{fixed_id, variable_id, all_stored}
 use Rattle.siman_application.proofs.Found.{last_stored, stored_none}
 
-pub knows_stored : (xs : Entities) (held came new : DatumLists) → new.fixed ≡ all_stored fixed_id came.fixed held.fixed → new.variable ≡ all_stored variable_id came.variable held.variable → knows xs new ≡ told_of came (knows xs held)
+pub knows_stored : (xs : Entities) (held came new : DatumLists) → new.fixed ≡ all_stored fixed_id came.fixed held.fixed
+    → new.variable ≡ all_stored variable_id came.variable held.variable → knows xs new ≡ told_of came (knows xs held)
 knows_stored xs held came new p q =
     ap (λ (d : DatumLists). knows xs d) (same p q) ∙ λ i. record {
       states = (knows xs held).states;

@@ -45,7 +45,8 @@ pub same_key_of : (q d : Pdu) → is_under_key q d ≡ true → SameKey q d
 same_key_of q d e =
     let p = and_parts (same_pair q.origin d.origin) (same_id (request_id_of q.body) (request_id_of d.body)) e in
     let r = and_parts (q.origin.site == d.origin.site) (q.origin.application == d.origin.application) p.0 in
-    record { site = equal_of q.origin.site d.origin.site r.0; application = equal_of q.origin.application d.origin.application r.1; id = same_ids_are (request_id_of q.body) (request_id_of d.body) p.1 }
+    record { site = equal_of q.origin.site d.origin.site r.0; application = equal_of q.origin.application d.origin.application r.1; id = same_ids_are
+      (request_id_of q.body) (request_id_of d.body) p.1 }
 
 under_same : (q d r : Pdu) → SameKey q d → is_under_key q r ≡ is_under_key d r
 under_same q d r k =
@@ -71,15 +72,18 @@ under_swaps q d =
     ap (λ (b : Bool). b && same_id (request_id_of q.body) (request_id_of d.body)) (pair_swaps q.origin d.origin)
     ∙ ap (λ (b : Bool). same_pair d.origin q.origin && b) (same_ids_swap (request_id_of q.body) (request_id_of d.body))
 
-pub first_more : (q d : Pdu) (ds : List Pdu) → first_under q (d ∷ ds) ≡ option_or (first_under q ds) (if is_under_key q d then Some (record { request = d; before = ds }) else None)
+pub first_more : (q d : Pdu) (ds : List Pdu)
+    → first_under q (d ∷ ds) ≡ option_or (first_under q ds) (if is_under_key q d then Some (record { request = d; before = ds }) else None)
 unfolding first_under
 first_more q d ds = refl
 
-found_has : (q d : Pdu) (ds : List Pdu) (f : Placed) (o : Option Placed) → (o ≡ Some f → is_under_key q f.request ≡ true) → (b : Bool) → is_under_key q d ≡ b
+found_has : (q d : Pdu) (ds : List Pdu) (f : Placed) (o : Option Placed) → (o ≡ Some f → is_under_key q f.request ≡ true) → (b : Bool)
+    → is_under_key q d ≡ b
     → option_or o (if b then Some (record { request = d; before = ds }) else None) ≡ Some f → is_under_key q f.request ≡ true
 found_has q d ds f (Some g) rest b u e = rest e
 found_has q d ds f None rest false u e = absurd cc
-found_has q d ds f None rest true u e = let same : record { request = d; before = ds } ≡ f = cc in subst (λ (g : Placed). is_under_key q g.request ≡ true) same u
+found_has q d ds f None rest true u e =
+    let same : record { request = d; before = ds } ≡ f = cc in subst (λ (g : Placed). is_under_key q g.request ≡ true) same u
 
 -- the first request under a key is under it
 pub first_has : (q : Pdu) (ds : List Pdu) (f : Placed) → first_under q ds ≡ Some f → is_under_key q f.request ≡ true
@@ -111,9 +115,12 @@ meant_for x b q e = by (reading b) e where
   by (Some p) f = here p (p.exercise == x) (not (is_outside (role_of p.body))) refl f
 
 -- what is asked of the station and meant is for it
-asked_parts : (a : Outfit) (p q : Pdu) → is_asked a.station.address p q ≡ true → (is_request_body q.body ≡ true) × (is_addressed q.target a.station.address ≡ true) × (same_id (request_id_of p.body) (request_id_of q.body) ≡ true) × (same_pair q.origin p.target ≡ true)
+asked_parts : (a : Outfit) (p q : Pdu) → is_asked a.station.address p q ≡ true
+    → (is_request_body q.body ≡ true) × (is_addressed q.target a.station.address ≡ true) × (same_id (request_id_of p.body) (request_id_of q.body) ≡ true) ×
+      (same_pair q.origin p.target ≡ true)
 asked_parts a p q e =
-    let e1 = and_parts (is_request_body q.body) (is_addressed q.target a.station.address && (same_id (request_id_of p.body) (request_id_of q.body) && same_pair q.origin p.target)) e in
+    let e1 = and_parts (is_request_body q.body) (is_addressed q.target a.station.address &&
+      (same_id (request_id_of p.body) (request_id_of q.body) && same_pair q.origin p.target)) e in
     let e2 = and_parts (is_addressed q.target a.station.address) (same_id (request_id_of p.body) (request_id_of q.body) && same_pair q.origin p.target) e1.1 in
     let e3 = and_parts (same_id (request_id_of p.body) (request_id_of q.body)) (same_pair q.origin p.target) e2.1 in
     (e1.0, e2.0, e3.0, e3.1)
@@ -136,7 +143,8 @@ pub under_asked : (a : Outfit) (r p q : Pdu) → GoesTo r p → is_for a q ≡ t
 under_asked a r p q goes own e =
     let parts = for_parts a q own in
     let u = and_parts (same_pair r.origin q.origin) (same_id (request_id_of r.body) (request_id_of q.body)) e in
-    and_from (is_request_body q.body) (is_addressed q.target a.station.address && (same_id (request_id_of p.body) (request_id_of q.body) && same_pair q.origin p.target)) parts.request
+    and_from (is_request_body q.body) (is_addressed q.target a.station.address &&
+      (same_id (request_id_of p.body) (request_id_of q.body) && same_pair q.origin p.target)) parts.request
     (and_from (is_addressed q.target a.station.address) (same_id (request_id_of p.body) (request_id_of q.body) && same_pair q.origin p.target) parts.addressed
     (and_from (same_id (request_id_of p.body) (request_id_of q.body)) (same_pair q.origin p.target)
     (ap (λ (o : Option ℕ). same_id o (request_id_of q.body)) goes.id ∙ u.1)
@@ -144,11 +152,14 @@ under_asked a r p q goes own e =
 
 -- What a reply can be.
 
-pub reply_own : (a : Outfit) (ds : List Pdu) (q : Pdu) (stamp : ℕ) (b : Bool) → is_for a q ≡ b → reply_after a ds q stamp ≡ (if b then answer_under a ds q stamp (first_under q ds) else None)
+pub reply_own : (a : Outfit) (ds : List Pdu) (q : Pdu) (stamp : ℕ) (b : Bool) → is_for a q ≡ b
+    → reply_after a ds q stamp ≡ (if b then answer_under a ds q stamp (first_under q ds) else None)
 reply_own a ds q stamp b e = ap (λ (v : Bool). if v then answer_under a ds q stamp (first_under q ds) else None) e
 
-pub joins_own : (a : Outfit) (ds : List Pdu) (q : Pdu) (b : Bool) → is_for a q ≡ b → (o : Option Placed) → first_under q ds ≡ o → with_request a ds q ≡ (if b && is_none o then q ∷ ds else ds)
-joins_own a ds q b e o f = ap (λ (v : Bool). if v && is_none (first_under q ds) then q ∷ ds else ds) e ∙ ap (λ (p : Option Placed). if b && is_none p then q ∷ ds else ds) f
+pub joins_own : (a : Outfit) (ds : List Pdu) (q : Pdu) (b : Bool) → is_for a q ≡ b → (o : Option Placed) → first_under q ds ≡ o
+    → with_request a ds q ≡ (if b && is_none o then q ∷ ds else ds)
+joins_own a ds q b e o f =
+    ap (λ (v : Bool). if v && is_none (first_under q ds) then q ∷ ds else ds) e ∙ ap (λ (p : Option Placed). if b && is_none p then q ∷ ds else ds) f
 
 -- How a turn in which a PDU is taken goes: it is not for the station, or it is and is the first under its key, or its key is known.
 pub data Course (a : Outfit) (ds : List Pdu) (q : Pdu) (stamp : ℕ) : Type 0 where
@@ -157,15 +168,20 @@ pub data Course (a : Outfit) (ds : List Pdu) (q : Pdu) (stamp : ℕ) : Type 0 wh
   Same : (f : Placed) → is_for a q ≡ true → first_under q ds ≡ Some f → reply_after a ds q stamp ≡ Some (answer_at a f stamp) → with_request a ds q ≡ ds → Course a ds q stamp
   Other : (f : Placed) → is_for a q ≡ true → first_under q ds ≡ Some f → reply_after a ds q stamp ≡ None → with_request a ds q ≡ ds → Course a ds q stamp
 
-course_known : (a : Outfit) (ds : List Pdu) (q : Pdu) (stamp : ℕ) (f : Placed) → is_for a q ≡ true → first_under q ds ≡ Some f → (b : Bool) → is_same_order q f.request ≡ b → Course a ds q stamp
+course_known : (a : Outfit) (ds : List Pdu) (q : Pdu) (stamp : ℕ) (f : Placed) → is_for a q ≡ true → first_under q ds ≡ Some f → (b : Bool)
+    → is_same_order q f.request ≡ b → Course a ds q stamp
 course_known a ds q stamp f own e true s =
-    Same f own e (reply_own a ds q stamp true own ∙ ap (answer_under a ds q stamp) e ∙ ap (λ (v : Bool). if v then Some (answer_at a f stamp) else None) s) (joins_own a ds q true own (Some f) e)
+    Same f own e (reply_own a ds q stamp true own ∙ ap (answer_under a ds q stamp) e ∙ ap (λ (v : Bool). if v then Some (answer_at a f stamp) else None) s)
+      (joins_own a ds q true own (Some f) e)
 course_known a ds q stamp f own e false s =
-    Other f own e (reply_own a ds q stamp true own ∙ ap (answer_under a ds q stamp) e ∙ ap (λ (v : Bool). if v then Some (answer_at a f stamp) else None) s) (joins_own a ds q true own (Some f) e)
+    Other f own e (reply_own a ds q stamp true own ∙ ap (answer_under a ds q stamp) e ∙ ap (λ (v : Bool). if v then Some (answer_at a f stamp) else None) s)
+      (joins_own a ds q true own (Some f) e)
 
-course_by : (a : Outfit) (ds : List Pdu) (q : Pdu) (stamp : ℕ) (b : Bool) → is_for a q ≡ b → (o : Option Placed) → first_under q ds ≡ o → Course a ds q stamp
+course_by : (a : Outfit) (ds : List Pdu) (q : Pdu) (stamp : ℕ) (b : Bool) → is_for a q ≡ b → (o : Option Placed) → first_under q ds ≡ o
+    → Course a ds q stamp
 course_by a ds q stamp false own o e = Foreign (reply_own a ds q stamp false own) (joins_own a ds q false own (first_under q ds) refl) own
-course_by a ds q stamp true own None e = Fresh own e (reply_own a ds q stamp true own ∙ ap (answer_under a ds q stamp) e) (joins_own a ds q true own None e)
+course_by a ds q stamp true own None e =
+    Fresh own e (reply_own a ds q stamp true own ∙ ap (answer_under a ds q stamp) e) (joins_own a ds q true own None e)
 course_by a ds q stamp true own (Some f) e = course_known a ds q stamp f own e (is_same_order q f.request) refl
 
 pub course : (a : Outfit) (ds : List Pdu) (q : Pdu) (stamp : ℕ) → Course a ds q stamp
@@ -178,7 +194,8 @@ abbrev pub PassedAlike : Outfit → Pdu → List Turn → Type 0
 PassedAlike a q [] = Unit {0}
 PassedAlike a q (Tells e y ∷ ts) = PassedAlike a q ts
 PassedAlike a q (Orders o ∷ ts) = PassedAlike a q ts
-PassedAlike a q (Passes b ∷ ts) = ((p : Pdu) → meaning a.exercise b ≡ Some p → is_for a p ≡ true → is_under_key q p ≡ true → IsSameOrder p q) × PassedAlike a q ts
+PassedAlike a q (Passes b ∷ ts) =
+    ((p : Pdu) → meaning a.exercise b ≡ Some p → is_for a p ≡ true → is_under_key q p ≡ true → IsSameOrder p q) × PassedAlike a q ts
 PassedAlike a q (Takes b p stamp ∷ ts) = PassedAlike a q ts
 PassedAlike a q (Loses b p stamp ∷ ts) = PassedAlike a q ts
 
@@ -199,7 +216,9 @@ TakesUp a r ts (Some g) None = ⊥
 TakesUp a r ts (Some g) (Some f) = IsSameOrder f g.request
 
 -- a get goes on with what was taken up before, or else with what it brings
-pub up_get : (a : Outfit) (p : Pdu) (s : ℕ) (b : List ℕ) (log : History) → request_taken_up a.exercise a.station.address p (Get s b ∷ log) ≡ option_or (request_taken_up a.exercise a.station.address p log) (request_brought a.exercise a.station.address p (Get s b))
+pub up_get : (a : Outfit) (p : Pdu) (s : ℕ) (b : List ℕ) (log : History)
+    → request_taken_up a.exercise a.station.address p (Get s b ∷ log) ≡ option_or (request_taken_up a.exercise a.station.address p log)
+      (request_brought a.exercise a.station.address p (Get s b))
 unfolding request_taken_up
 up_get a p s b log = refl
 
@@ -207,15 +226,18 @@ or_none : {X : Type 0} (o : Option X) → option_or o None ≡ o
 or_none None = refl
 or_none (Some x) = refl
 
-pub up_send : (a : Outfit) (p : Pdu) (s : ℕ) (b : List ℕ) (log : History) → request_taken_up a.exercise a.station.address p (Send s b ∷ log) ≡ request_taken_up a.exercise a.station.address p log
+pub up_send : (a : Outfit) (p : Pdu) (s : ℕ) (b : List ℕ) (log : History)
+    → request_taken_up a.exercise a.station.address p (Send s b ∷ log) ≡ request_taken_up a.exercise a.station.address p log
 unfolding request_taken_up
 up_send a p s b log = or_none (request_taken_up a.exercise a.station.address p log)
 
-up_tell : (a : Outfit) (p : Pdu) (s e : ℕ) (y : EntityState) (log : History) → request_taken_up a.exercise a.station.address p (Tell s e y ∷ log) ≡ request_taken_up a.exercise a.station.address p log
+up_tell : (a : Outfit) (p : Pdu) (s e : ℕ) (y : EntityState) (log : History)
+    → request_taken_up a.exercise a.station.address p (Tell s e y ∷ log) ≡ request_taken_up a.exercise a.station.address p log
 unfolding request_taken_up
 up_tell a p s e y log = or_none (request_taken_up a.exercise a.station.address p log)
 
-pub up_sent : (a : Outfit) (p : Pdu) (s : ℕ) (o : Option Pdu) (log : History) → request_taken_up a.exercise a.station.address p (sent_after s o log) ≡ request_taken_up a.exercise a.station.address p log
+pub up_sent : (a : Outfit) (p : Pdu) (s : ℕ) (o : Option Pdu) (log : History)
+    → request_taken_up a.exercise a.station.address p (sent_after s o log) ≡ request_taken_up a.exercise a.station.address p log
 up_sent a p s None log = refl
 up_sent a p s (Some r) log = up_send a p s (pdu_text r) log
 
@@ -239,9 +261,11 @@ pub same_itself : (q : Pdu) → IsSameOrder q q
 same_itself q = refl
 
 -- a passed datagram
-up_passed : (a : Outfit) (r p : Pdu) (b : List ℕ) (ts : List Turn) (o : Option Placed) (u c : Option Pdu) → Brought a r p b c → TakesUp a r ts o u → TakesUp a r (Passes b ∷ ts) o (option_or u c)
+up_passed : (a : Outfit) (r p : Pdu) (b : List ℕ) (ts : List Turn) (o : Option Placed) (u c : Option Pdu) → Brought a r p b c → TakesUp a r ts o u
+    → TakesUp a r (Passes b ∷ ts) o (option_or u c)
 up_passed a r p b ts None None c (Nothing e) up = subst (TakesUp a r (Passes b ∷ ts) None) (sym e) tt
-up_passed a r p b ts None None c (Request f e m own under) up = subst (TakesUp a r (Passes b ∷ ts) None) (sym e) (under, λ q alike u. alike.0 f m own u)
+up_passed a r p b ts None None c (Request f e m own under) up =
+    subst (TakesUp a r (Passes b ∷ ts) None) (sym e) (under, λ q alike u. alike.0 f m own u)
 up_passed a r p b ts None (Some f) c brought up = (up.0, λ q alike u. up.1 q alike.1 u)
 up_passed a r p b ts (Some g) None c brought up = absurd up
 up_passed a r p b ts (Some g) (Some f) c brought up = up
@@ -256,36 +280,43 @@ read_meant x b q f e m = here ((q.exercise == x) && not (is_outside (role_of q.b
   here false h = absurd cc
 
 -- a datagram that is read as q brings nothing, where q is not for the station or under another key
-brings_none : (a : Outfit) (r p q : Pdu) (b : List ℕ) (c : Option Pdu) → reading b ≡ Some q → Brought a r p b c → (is_for a q ≡ true → is_under_key r q ≡ true → ⊥) → c ≡ None
+brings_none : (a : Outfit) (r p q : Pdu) (b : List ℕ) (c : Option Pdu) → reading b ≡ Some q → Brought a r p b c
+    → (is_for a q ≡ true → is_under_key r q ≡ true → ⊥) → c ≡ None
 brings_none a r p q b c e (Nothing n) other = n
 brings_none a r p q b c e (Request f is m own under) other =
     let same = read_meant a.exercise b q f e m in absurd (other (ap (is_for a) same ∙ own) (ap (is_under_key r) same ∙ under))
 
-brings_it : (a : Outfit) (r p q : Pdu) (s : ℕ) (b : List ℕ) → GoesTo r p → reading b ≡ Some q → is_for a q ≡ true → is_under_key r q ≡ true → request_brought a.exercise a.station.address p (Get s b) ≡ Some q
+brings_it : (a : Outfit) (r p q : Pdu) (s : ℕ) (b : List ℕ) → GoesTo r p → reading b ≡ Some q → is_for a q ≡ true → is_under_key r q ≡ true
+    → request_brought a.exercise a.station.address p (Get s b) ≡ Some q
 brings_it a r p q s b goes e own under =
     ap (λ (o : Option Pdu). option_and_then (λ q. if is_asked a.station.address p q then Some q else None) o) (taken_means a b q e own)
     ∙ ap (λ (v : Bool). if v then Some q else None) (under_asked a r p q goes own under)
 
 -- the same, after more turns that pass nothing
-up_later : (a : Outfit) (r : Pdu) (ts us : List Turn) → ((q : Pdu) → PassedAlike a q us → PassedAlike a q ts) → (o : Option Placed) (u : Option Pdu) → TakesUp a r ts o u → TakesUp a r us o u
+up_later : (a : Outfit) (r : Pdu) (ts us : List Turn) → ((q : Pdu) → PassedAlike a q us → PassedAlike a q ts) → (o : Option Placed) (u : Option Pdu)
+    → TakesUp a r ts o u → TakesUp a r us o u
 up_later a r ts us less None None up = tt
 up_later a r ts us less None (Some f) up = (up.0, λ q alike u. up.1 q (less q alike) u)
 up_later a r ts us less (Some g) None up = absurd up
 up_later a r ts us less (Some g) (Some f) up = up
 
 -- nothing new is taken up
-up_kept : (a : Outfit) (r : Pdu) (ts : List Turn) (o : Option Placed) (u c : Option Pdu) → (o ≡ None → c ≡ None) → TakesUp a r ts o u → TakesUp a r ts o (option_or u c)
+up_kept : (a : Outfit) (r : Pdu) (ts : List Turn) (o : Option Placed) (u c : Option Pdu) → (o ≡ None → c ≡ None) → TakesUp a r ts o u
+    → TakesUp a r ts o (option_or u c)
 up_kept a r ts None None c none up = subst (TakesUp a r ts None) (sym (none refl)) tt
 up_kept a r ts None (Some f) c none up = up
 up_kept a r ts (Some g) None c none up = absurd up
 up_kept a r ts (Some g) (Some f) c none up = up
 
-up_joined : (a : Outfit) (r q : Pdu) (ds : List Pdu) (ts : List Turn) (u c : Option Pdu) → PassedAlike a q ts → c ≡ Some q → is_under_key r q ≡ true → TakesUp a r ts None u → TakesUp a r ts (Some (record { request = q; before = ds })) (option_or u c)
+up_joined : (a : Outfit) (r q : Pdu) (ds : List Pdu) (ts : List Turn) (u c : Option Pdu) → PassedAlike a q ts → c ≡ Some q → is_under_key r q ≡ true
+    → TakesUp a r ts None u → TakesUp a r ts (Some (record { request = q; before = ds })) (option_or u c)
 up_joined a r q ds ts None c alike is under up = subst (TakesUp a r ts (Some (record { request = q; before = ds }))) (sym is) (same_itself q)
 up_joined a r q ds ts (Some f) c alike is under up = up.1 q alike (sym (under_same r q f (same_key_of r q under)) ∙ up.0)
 
-up_fresh : (a : Outfit) (r q : Pdu) (ds : List Pdu) (ts : List Turn) (o : Option Placed) (u c : Option Pdu) → PassedAlike a q ts → TakesUp a r ts o u → (b : Bool) → is_under_key r q ≡ b
-    → (b ≡ true → c ≡ Some q) → (b ≡ false → c ≡ None) → TakesUp a r ts (option_or o (if b then Some (record { request = q; before = ds }) else None)) (option_or u c)
+up_fresh : (a : Outfit) (r q : Pdu) (ds : List Pdu) (ts : List Turn) (o : Option Placed) (u c : Option Pdu) → PassedAlike a q ts → TakesUp a r ts o u
+    → (b : Bool) → is_under_key r q ≡ b
+    → (b ≡ true → c ≡ Some q) → (b ≡ false → c ≡ None)
+    → TakesUp a r ts (option_or o (if b then Some (record { request = q; before = ds }) else None)) (option_or u c)
 up_fresh a r q ds ts None u c alike up true under is none = up_joined a r q ds ts u c alike (is refl) under up
 up_fresh a r q ds ts None u c alike up false under is none = up_kept a r ts None u c (λ e. none refl) up
 up_fresh a r q ds ts (Some g) None c alike up b under is none = absurd up
@@ -295,26 +326,32 @@ up_fresh a r q ds ts (Some g) (Some f) c alike up b under is none = up
 known_key : (a : Outfit) (r q : Pdu) (ds : List Pdu) (f : Placed) → first_under q ds ≡ Some f → first_under r ds ≡ None → is_under_key r q ≡ true → ⊥
 known_key a r q ds f first none under = let clash : None ≡ Some f = sym none ∙ first_same r q (same_key_of r q under) ds ∙ first in absurd cc
 
-up_taken : (a : Outfit) (r p q : Pdu) (s stamp : ℕ) (b : List ℕ) (ds : List Pdu) (ts : List Turn) (u : Option Pdu) → GoesTo r p → reading b ≡ Some q → (is_for a q ≡ true → PassedAlike a q ts) → Course a ds q stamp
-    → TakesUp a r ts (first_under r ds) u → TakesUp a r ts (first_under r (with_request a ds q)) (option_or u (request_brought a.exercise a.station.address p (Get s b)))
+up_taken : (a : Outfit) (r p q : Pdu) (s stamp : ℕ) (b : List ℕ) (ds : List Pdu) (ts : List Turn) (u : Option Pdu) → GoesTo r p → reading b ≡ Some q
+    → (is_for a q ≡ true → PassedAlike a q ts) → Course a ds q stamp
+    → TakesUp a r ts (first_under r ds) u
+    → TakesUp a r ts (first_under r (with_request a ds q)) (option_or u (request_brought a.exercise a.station.address p (Get s b)))
 up_taken a r p q s stamp b ds ts u goes e alike (Foreign reply same out) up =
     subst (λ (xs : List Pdu). TakesUp a r ts (first_under r xs) (option_or u (request_brought a.exercise a.station.address p (Get s b)))) (sym same)
     (up_kept a r ts (first_under r ds) u (request_brought a.exercise a.station.address p (Get s b))
-    (λ none. brings_none a r p q b (request_brought a.exercise a.station.address p (Get s b)) e (brought_by a r p s b goes) (λ own under. let clash : true ≡ false = sym own ∙ out in absurd cc)) up)
+    (λ none. brings_none a r p q b (request_brought a.exercise a.station.address p (Get s b)) e (brought_by a r p s b goes)
+      (λ own under. let clash : true ≡ false = sym own ∙ out in absurd cc)) up)
 up_taken a r p q s stamp b ds ts u goes e alike (Same f own first reply same) up =
     subst (λ (xs : List Pdu). TakesUp a r ts (first_under r xs) (option_or u (request_brought a.exercise a.station.address p (Get s b)))) (sym same)
     (up_kept a r ts (first_under r ds) u (request_brought a.exercise a.station.address p (Get s b))
-    (λ none. brings_none a r p q b (request_brought a.exercise a.station.address p (Get s b)) e (brought_by a r p s b goes) (λ own under. known_key a r q ds f first none under)) up)
+    (λ none. brings_none a r p q b (request_brought a.exercise a.station.address p (Get s b)) e (brought_by a r p s b goes)
+      (λ own under. known_key a r q ds f first none under)) up)
 up_taken a r p q s stamp b ds ts u goes e alike (Other f own first reply same) up =
     subst (λ (xs : List Pdu). TakesUp a r ts (first_under r xs) (option_or u (request_brought a.exercise a.station.address p (Get s b)))) (sym same)
     (up_kept a r ts (first_under r ds) u (request_brought a.exercise a.station.address p (Get s b))
-    (λ none. brings_none a r p q b (request_brought a.exercise a.station.address p (Get s b)) e (brought_by a r p s b goes) (λ own under. known_key a r q ds f first none under)) up)
+    (λ none. brings_none a r p q b (request_brought a.exercise a.station.address p (Get s b)) e (brought_by a r p s b goes)
+      (λ own under. known_key a r q ds f first none under)) up)
 up_taken a r p q s stamp b ds ts u goes e alike (Fresh own none reply same) up =
     subst (λ (xs : List Pdu). TakesUp a r ts (first_under r xs) (option_or u (request_brought a.exercise a.station.address p (Get s b)))) (sym same)
     (subst (λ (o : Option Placed). TakesUp a r ts o (option_or u (request_brought a.exercise a.station.address p (Get s b)))) (sym (first_more r q ds))
     (up_fresh a r q ds ts (first_under r ds) u (request_brought a.exercise a.station.address p (Get s b)) (alike own) up (is_under_key r q) refl
     (λ under. brings_it a r p q s b goes e own under)
-    (λ under. brings_none a r p q b (request_brought a.exercise a.station.address p (Get s b)) e (brought_by a r p s b goes) (λ own yes. let clash : true ≡ false = sym yes ∙ under in absurd cc))))
+    (λ under. brings_none a r p q b (request_brought a.exercise a.station.address p (Get s b)) e (brought_by a r p s b goes)
+      (λ own yes. let clash : true ≡ false = sym yes ∙ under in absurd cc))))
 
 up_start : (a : Outfit) (r p : Pdu) (s : ℕ) → TakesUp a r [] (first_under r []) (request_taken_up a.exercise a.station.address p (log_in a s []))
 unfolding first_under request_taken_up
@@ -326,21 +363,29 @@ pub up_turns : (a : Outfit) (s : ℕ) (later : Bool) (ts : List Turn) → AreMea
 up_turns a s later [] are settled r p goes = up_start a r p s
 up_turns a s later (Tells e y ∷ ts) are settled r p goes =
     subst (TakesUp a r (Tells e y ∷ ts) (first_under r (distinct a (taken_in ts)))) (sym (up_tell a p s e y (log_in a s ts)))
-    (up_later a r ts (Tells e y ∷ ts) (λ q alike. alike) (first_under r (distinct a (taken_in ts))) (request_taken_up a.exercise a.station.address p (log_in a s ts)) (up_turns a s later ts are settled r p goes))
+    (up_later a r ts (Tells e y ∷ ts) (λ q alike. alike) (first_under r (distinct a (taken_in ts)))
+      (request_taken_up a.exercise a.station.address p (log_in a s ts)) (up_turns a s later ts are settled r p goes))
 up_turns a s later (Orders o ∷ ts) are settled r p goes =
     subst (TakesUp a r (Orders o ∷ ts) (first_under r (distinct a (taken_in ts)))) (sym (up_send a p s (pdu_text o) (log_in a s ts)))
-    (up_later a r ts (Orders o ∷ ts) (λ q alike. alike) (first_under r (distinct a (taken_in ts))) (request_taken_up a.exercise a.station.address p (log_in a s ts)) (up_turns a s later ts are.1 settled r p goes))
+    (up_later a r ts (Orders o ∷ ts) (λ q alike. alike) (first_under r (distinct a (taken_in ts)))
+      (request_taken_up a.exercise a.station.address p (log_in a s ts)) (up_turns a s later ts are.1 settled r p goes))
 up_turns a s later (Passes b ∷ ts) are settled r p goes =
     subst (TakesUp a r (Passes b ∷ ts) (first_under r (distinct a (taken_in ts)))) (sym (up_get a p s b (log_in a s ts)))
-    (up_passed a r p b ts (first_under r (distinct a (taken_in ts))) (request_taken_up a.exercise a.station.address p (log_in a s ts)) (request_brought a.exercise a.station.address p (Get s b)) (brought_by a r p s b goes)
+    (up_passed a r p b ts (first_under r (distinct a (taken_in ts))) (request_taken_up a.exercise a.station.address p (log_in a s ts))
+      (request_brought a.exercise a.station.address p (Get s b)) (brought_by a r p s b goes)
     (up_turns a s later ts are settled r p goes))
 up_turns a s later (Takes b q stamp ∷ ts) are settled r p goes =
-    subst (TakesUp a r (Takes b q stamp ∷ ts) (first_under r (distinct a (q ∷ taken_in ts)))) (sym (up_sent a p s (reply a (taken_in ts) q stamp) (Get s b ∷ log_in a s ts) ∙ up_get a p s b (log_in a s ts)))
-    (up_later a r ts (Takes b q stamp ∷ ts) (λ q alike. alike) (first_under r (distinct a (q ∷ taken_in ts))) (option_or (request_taken_up a.exercise a.station.address p (log_in a s ts)) (request_brought a.exercise a.station.address p (Get s b)))
-    (up_taken a r p q s stamp b (distinct a (taken_in ts)) ts (request_taken_up a.exercise a.station.address p (log_in a s ts)) goes are.0.read settled.0 (course a (distinct a (taken_in ts)) q stamp)
+    subst (TakesUp a r (Takes b q stamp ∷ ts) (first_under r (distinct a (q ∷ taken_in ts))))
+      (sym (up_sent a p s (reply a (taken_in ts) q stamp) (Get s b ∷ log_in a s ts) ∙ up_get a p s b (log_in a s ts)))
+    (up_later a r ts (Takes b q stamp ∷ ts) (λ q alike. alike) (first_under r (distinct a (q ∷ taken_in ts)))
+      (option_or (request_taken_up a.exercise a.station.address p (log_in a s ts)) (request_brought a.exercise a.station.address p (Get s b)))
+    (up_taken a r p q s stamp b (distinct a (taken_in ts)) ts (request_taken_up a.exercise a.station.address p (log_in a s ts)) goes are.0.read settled.0
+      (course a (distinct a (taken_in ts)) q stamp)
     (up_turns a s (later || is_due a ts q stamp) ts are.2 settled.1 r p goes)))
 up_turns a s later (Loses b q stamp ∷ ts) are settled r p goes =
     subst (TakesUp a r (Loses b q stamp ∷ ts) (first_under r (distinct a (q ∷ taken_in ts)))) (sym (up_get a p s b (log_in a s ts)))
-    (up_later a r ts (Loses b q stamp ∷ ts) (λ q alike. alike) (first_under r (distinct a (q ∷ taken_in ts))) (option_or (request_taken_up a.exercise a.station.address p (log_in a s ts)) (request_brought a.exercise a.station.address p (Get s b)))
-    (up_taken a r p q s stamp b (distinct a (taken_in ts)) ts (request_taken_up a.exercise a.station.address p (log_in a s ts)) goes are.0.read settled.0 (course a (distinct a (taken_in ts)) q stamp)
+    (up_later a r ts (Loses b q stamp ∷ ts) (λ q alike. alike) (first_under r (distinct a (q ∷ taken_in ts)))
+      (option_or (request_taken_up a.exercise a.station.address p (log_in a s ts)) (request_brought a.exercise a.station.address p (Get s b)))
+    (up_taken a r p q s stamp b (distinct a (taken_in ts)) ts (request_taken_up a.exercise a.station.address p (log_in a s ts)) goes are.0.read settled.0
+      (course a (distinct a (taken_in ts)) q stamp)
     (up_turns a s true ts are.2 settled.1 r p goes)))

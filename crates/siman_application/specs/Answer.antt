@@ -154,7 +154,8 @@ answer_by a k q stamp (RemoveEntity request) = obeyed a k.states q stamp 2 reque
 answer_by a k q stamp (StartResume real sim request) = obeyed a k.states q stamp 3 request
 answer_by a k q stamp (StopFreeze real reason behaviour request) = obeyed a k.states q stamp 4 request
 answer_by a k q stamp (Acknowledge flag response request) = q
-answer_by a k q stamp (ActionRequest request action datums) = plain_answer a q stamp (ActionResponse request (action_status a k.states q action) no_datums)
+answer_by a k q stamp (ActionRequest request action datums) =
+    plain_answer a q stamp (ActionResponse request (action_status a k.states q action) no_datums)
 answer_by a k q stamp (ActionResponse request status datums) = q
 -- the interval is not looked at
 answer_by a k q stamp (DataQuery request interval ids) = data_answer a q stamp request (held_records k ids)

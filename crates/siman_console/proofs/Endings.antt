@@ -20,24 +20,28 @@ pub ends_with : (told : Result ℕ Fault) (ended : Ended) (old new : Option (Lis
 ends_with told ended old new ends = (ended.told, ends)
 
 -- What holds of what a reader has, where that is known, is more than what ends of it.
-pub ends_known : {A : Type 0} (Tells : A → Result ℕ Fault → Type 0) (known : Option A) (told : Result ℕ Fault) (ended : Ended) (old new : Option (List ℕ)) → IfSome known (λ a. Tells a told) → Ends told ended old new
+pub ends_known : {A : Type 0} (Tells : A → Result ℕ Fault → Type 0) (known : Option A) (told : Result ℕ Fault) (ended : Ended) (old new : Option (List ℕ))
+    → IfSome known (λ a. Tells a told) → Ends told ended old new
     → IfSome known (λ a. (told : Result ℕ Fault) × Tells a told × EndsWith told ended.status old new)
 ends_known Tells None told ended old new tells ends = tt
 ends_known Tells (Some a) told ended old new tells ends = (told, tells, (ended.told, ends))
 
-pub ends_known_both : {A B : Type 0} (Tells : A → B → Result ℕ Fault → Type 0) (first : Option A) (second : Option B) (told : Result ℕ Fault) (ended : Ended) (old new : Option (List ℕ)) → IfSome first (λ a. IfSome second (λ b. Tells a b told)) → Ends told ended old new
+pub ends_known_both : {A B : Type 0} (Tells : A → B → Result ℕ Fault → Type 0) (first : Option A) (second : Option B) (told : Result ℕ Fault) (ended : Ended) (old new : Option (List ℕ))
+    → IfSome first (λ a. IfSome second (λ b. Tells a b told)) → Ends told ended old new
     → IfSome first (λ a. IfSome second (λ b. (told : Result ℕ Fault) × Tells a b told × EndsWith told ended.status old new))
 ends_known_both Tells None second told ended old new tells ends = tt
 ends_known_both Tells (Some a) None told ended old new tells ends = tt
 ends_known_both Tells (Some a) (Some b) told ended old new tells ends = (told, tells, (ended.told, ends))
 
 -- What was shown or judged of what a reader has has this status.
-pub tells_show : (known : Option (List ℕ)) (shown : Result (Unit {0}) Fault) (told : Result ℕ Fault) (old new : Option (List ℕ)) → told ≡ shown_status shown → IfSome known (λ bytes. Shows (recording_at LARGEST_RECORDING bytes) shown old new)
+pub tells_show : (known : Option (List ℕ)) (shown : Result (Unit {0}) Fault) (told : Result ℕ Fault) (old new : Option (List ℕ))
+    → told ≡ shown_status shown → IfSome known (λ bytes. Shows (recording_at LARGEST_RECORDING bytes) shown old new)
     → IfSome known (λ bytes. TellsShow (recording_at LARGEST_RECORDING bytes) told old new)
 tells_show None shown told old new is shows = tt
 tells_show (Some bytes) shown told old new is shows = (shown, shows, is)
 
-pub tells_check : (first second : Option (List ℕ)) (judged : Result Bool FilesFault) (told : Result ℕ Fault) (old new : Option (List ℕ)) → told ≡ judged_status judged
+pub tells_check : (first second : Option (List ℕ)) (judged : Result Bool FilesFault) (told : Result ℕ Fault) (old new : Option (List ℕ))
+    → told ≡ judged_status judged
     → IfSome first (λ r. IfSome second (λ c. Judges (recording_at LARGEST_RECORDING r) (certificate_at LARGEST_CERTIFICATE c) judged old new))
     → IfSome first (λ r. IfSome second (λ c. TellsCheck (recording_at LARGEST_RECORDING r) (certificate_at LARGEST_CERTIFICATE c) told old new))
 tells_check None second judged told old new is judges = tt

@@ -14,7 +14,8 @@ taken-parts : (n : ℕ) (front rest : List ℕ) → length front ≤ n → (leng
 taken-parts n front rest within end = grind (arith, common_steps)
 
 -- A buffer of the size that is fetched was filled from a reader as far as the reader went.
-fetched-filled : (old new : Option (List ℕ)) (buf : List ℕ) (n : ℕ) → length buf ≡ LONGEST_HEX + 1 → n ≤ length buf → Consumes old new (take n buf) → (n < length buf → IsAtEnd new) → IfSome old (λ bytes. take n buf ≡ fetched bytes)
+fetched-filled : (old new : Option (List ℕ)) (buf : List ℕ) (n : ℕ) → length buf ≡ LONGEST_HEX + 1 → n ≤ length buf → Consumes old new (take n buf)
+    → (n < length buf → IsAtEnd new) → IfSome old (λ bytes. take n buf ≡ fetched bytes)
 fetched-filled None new buf n size within consumed end = tt
 fetched-filled (Some xs) None buf n size within consumed end = absurd consumed
 fetched-filled (Some xs) (Some ys) buf n size within consumed end =
@@ -26,8 +27,10 @@ cut-written : (size n : ℕ) (buf past : List ℕ) → length buf ≡ size → t
 cut-written size n buf past e = grind (arith, common_steps)
 
 -- The same of a vector that was the buffer, and was cut after it.
-pub fetched-cut : (old new : Option (List ℕ)) (size : ℕ) (buf past : List ℕ) (n : ℕ) (text : List ℕ) → size ≡ LONGEST_HEX + 1 → length buf ≡ size → n ≤ length buf
-    → Consumes old new (take n buf) → (n < length buf → IsAtEnd new) → text ≡ take n (take size (buf ++ past)) → IfSome old (λ bytes. text ≡ fetched bytes)
+pub fetched-cut : (old new : Option (List ℕ)) (size : ℕ) (buf past : List ℕ) (n : ℕ) (text : List ℕ) → size ≡ LONGEST_HEX + 1 → length buf ≡ size
+    → n ≤ length buf
+    → Consumes old new (take n buf) → (n < length buf → IsAtEnd new) → text ≡ take n (take size (buf ++ past))
+    → IfSome old (λ bytes. text ≡ fetched bytes)
 fetched-cut old new size buf past n text limit whole within consumed end cut =
     rw (cut, cut-written size n buf past whole) (fetched-filled old new buf n (whole ∙ limit) within consumed end)
 

@@ -29,4 +29,5 @@ without_line_end-line text = grind (arith, common_steps, nat_tests)
 pub said_of_input-line : (text : List ℕ) → length text < LONGEST_HEX → said_of_input (text ++ 10 ∷ []) ≡ said_of_hex text
 said_of_input-line text short =
     let long = length-append text (10 ∷ []) in
-    within LONGEST_HEX (length (text ++ 10 ∷ [])) not_byte_pairs (said_of_hex (without_line_end (text ++ 10 ∷ []))) (omega arith) ∙ ap said_of_hex (without_line_end-line text)
+    within LONGEST_HEX (length (text ++ 10 ∷ [])) not_byte_pairs (said_of_hex (without_line_end (text ++ 10 ∷ []))) (omega arith) ∙ ap said_of_hex
+      (without_line_end-line text)

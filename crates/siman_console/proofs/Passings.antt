@@ -34,26 +34,31 @@ part-longer old new text rest part =
     (front.0, subst (Appends old new) front.1 part.1)
 
 -- what was passed on, and then a prefix of what was held and more
-pub part-then : (old mid new : Option (List ℕ)) (held text more : List ℕ) → IsPassedOn old mid held text → WritesPart mid new (held ++ more) → WritesPart old new (text ++ more)
+pub part-then : (old mid new : Option (List ℕ)) (held text more : List ℕ) → IsPassedOn old mid held text → WritesPart mid new (held ++ more)
+    → WritesPart old new (text ++ more)
 part-then old mid new held text more passed part =
     let out = passed.0 in
     let whole : out ++ (held ++ more) ≡ text ++ more = sym (append_assoc out held more) ∙ ap (λ t. t ++ more) passed.2 in
-    let front : out ++ take part.0 (held ++ more) ≡ take (length out + part.0) (text ++ more) = sym (take-append-add out (held ++ more) part.0) ∙ ap (take (length out + part.0)) whole in
+    let front : out ++ take part.0 (held ++ more) ≡ take (length out + part.0) (text ++ more) = sym (take-append-add out (held ++ more) part.0) ∙ ap
+      (take (length out + part.0)) whole in
     (length out + part.0, subst (Appends old new) front (Appends-trans old mid new out (take part.0 (held ++ more)) passed.1 part.1))
 
 -- what was passed on, and then all of what was held and more but what is held now
-pub passed-then : (old mid new : Option (List ℕ)) (held text more after : List ℕ) → IsPassedOn old mid held text → IsPassedOn mid new after (held ++ more) → IsPassedOn old new after (text ++ more)
+pub passed-then : (old mid new : Option (List ℕ)) (held text more after : List ℕ) → IsPassedOn old mid held text
+    → IsPassedOn mid new after (held ++ more) → IsPassedOn old new after (text ++ more)
 passed-then old mid new held text more after first second =
     let whole : (first.0 ++ second.0) ++ after ≡ text ++ more =
     append_assoc first.0 second.0 after ∙ ap (λ t. first.0 ++ t) second.2 ∙ sym (append_assoc first.0 held more) ∙ ap (λ t. t ++ more) first.2 in
     (first.0 ++ second.0, Appends-trans old mid new first.0 second.0 first.1 second.1, whole)
 
-pub passes-then : (result : Result (Unit {0}) Fault) (old mid new : Option (List ℕ)) (held text more after : List ℕ) → IsPassedOn old mid held text → PassesOn result mid new after (held ++ more) → PassesOn result old new after (text ++ more)
+pub passes-then : (result : Result (Unit {0}) Fault) (old mid new : Option (List ℕ)) (held text more after : List ℕ) → IsPassedOn old mid held text
+    → PassesOn result mid new after (held ++ more) → PassesOn result old new after (text ++ more)
 passes-then (Ok x) old mid new held text more after first second = passed-then old mid new held text more after first second
 passes-then (Err fault) old mid new held text more after first second = (second.0, part-then old mid new held text more first second.1)
 
 -- a fault that was passed on, in a longer text
-pub fails-longer : (fault : Fault) (result : Result (Unit {0}) Fault) (old new : Option (List ℕ)) (held after text rest : List ℕ) → IsErrAnd result (λ e. e ≡ fault) → PassesOn (Err fault) old new held text → PassesOn result old new after (text ++ rest)
+pub fails-longer : (fault : Fault) (result : Result (Unit {0}) Fault) (old new : Option (List ℕ)) (held after text rest : List ℕ)
+    → IsErrAnd result (λ e. e ≡ fault) → PassesOn (Err fault) old new held text → PassesOn result old new after (text ++ rest)
 fails-longer fault (Ok x) old new held after text rest passed failed = absurd passed
 fails-longer fault (Err e) old new held after text rest passed failed = rw passed (failed.0, part-longer old new text rest failed.1)
 
@@ -63,28 +68,38 @@ unfolding texts_below
 texts-split text i zero within = let none : i ≡ 0 = omega arith in ([], rw none (sym (append-nil (texts_below text 0))))
 texts-split text i (suc n) within =
     ⊎_elim
-    (λ (below : i < suc n). let before = texts-split text i n (omega arith) in (before.0 ++ text n, ap (λ t. t ++ text n) before.1 ∙ append_assoc (texts_below text i) before.0 (text n)))
+    (λ (below : i < suc n). let before = texts-split text i n (omega arith) in
+      (before.0 ++ text n, ap (λ t. t ++ text n) before.1 ∙ append_assoc (texts_below text i) before.0 (text n)))
     (λ (past : suc n ≤ i). let all : i ≡ suc n = omega arith in ([], ap (texts_below text) (sym all) ∙ sym (append-nil (texts_below text i))))
     (cases_lt i (suc n))
 
 -- one more text was passed on in a loop
-pub loop-passes : (text : ℕ → List ℕ) (i : ℕ) (old mid new : Option (List ℕ)) (start held after : List ℕ) → IsPassedOn old mid held (start ++ texts_below text i) → IsPassedOn mid new after (held ++ text i) → IsPassedOn old new after (start ++ texts_below text (i + 1))
+pub loop-passes : (text : ℕ → List ℕ) (i : ℕ) (old mid new : Option (List ℕ)) (start held after : List ℕ)
+    → IsPassedOn old mid held (start ++ texts_below text i) → IsPassedOn mid new after (held ++ text i)
+    → IsPassedOn old new after (start ++ texts_below text (i + 1))
 loop-passes text i old mid new start held after so_far step =
-    let more : (start ++ texts_below text i) ++ text i ≡ start ++ texts_below text (i + 1) = append_assoc start (texts_below text i) (text i) ∙ ap (λ t. start ++ t) (sym (texts_below-more text i)) in
+    let more : (start ++ texts_below text i) ++ text i ≡ start ++ texts_below text (i + 1) = append_assoc start (texts_below text i) (text i) ∙ ap
+      (λ t. start ++ t) (sym (texts_below-more text i)) in
     subst (IsPassedOn old new after) more (passed-then old mid new held (start ++ texts_below text i) (text i) after so_far step)
 
 -- a loop ended with a fault
-pub loop-fails : (text : ℕ → List ℕ) (i n : ℕ) (fault : Fault) (result : Result (Unit {0}) Fault) (old mid new : Option (List ℕ)) (start held after last : List ℕ) → i < n → IsErrAnd result (λ e. e ≡ fault)
-    → IsPassedOn old mid held (start ++ texts_below text i) → PassesOn (Err fault) mid new after (held ++ text i) → PassesOn result old new last (start ++ texts_below text n)
+pub loop-fails : (text : ℕ → List ℕ) (i n : ℕ) (fault : Fault) (result : Result (Unit {0}) Fault) (old mid new : Option (List ℕ)) (start held after last : List ℕ)
+    → i < n → IsErrAnd result (λ e. e ≡ fault)
+    → IsPassedOn old mid held (start ++ texts_below text i) → PassesOn (Err fault) mid new after (held ++ text i)
+    → PassesOn result old new last (start ++ texts_below text n)
 loop-fails text i n fault result old mid new start held after last within passed so_far step =
-    let more : (start ++ texts_below text i) ++ text i ≡ start ++ texts_below text (i + 1) = append_assoc start (texts_below text i) (text i) ∙ ap (λ t. start ++ t) (sym (texts_below-more text i)) in
+    let more : (start ++ texts_below text i) ++ text i ≡ start ++ texts_below text (i + 1) = append_assoc start (texts_below text i) (text i) ∙ ap
+      (λ t. start ++ t) (sym (texts_below-more text i)) in
     let split = texts-split text (i + 1) n (omega arith) in
-    let all : (start ++ texts_below text (i + 1)) ++ split.0 ≡ start ++ texts_below text n = append_assoc start (texts_below text (i + 1)) split.0 ∙ ap (λ t. start ++ t) (sym split.1) in
+    let all : (start ++ texts_below text (i + 1)) ++ split.0 ≡ start ++ texts_below text n = append_assoc start (texts_below text (i + 1)) split.0 ∙ ap
+      (λ t. start ++ t) (sym split.1) in
     let failed = passes-then (Err fault) old mid new held (start ++ texts_below text i) (text i) after so_far step in
-    subst (PassesOn result old new last) all (fails-longer fault result old new after last (start ++ texts_below text (i + 1)) split.0 passed (subst (PassesOn (Err fault) old new after) more failed))
+    subst (PassesOn result old new last) all (fails-longer fault result old new after last (start ++ texts_below text (i + 1)) split.0 passed
+      (subst (PassesOn (Err fault) old new after) more failed))
 
 -- a fault that was passed on, in the same text
-pub fails-same : (fault : Fault) (result : Result (Unit {0}) Fault) (old new : Option (List ℕ)) (held after text : List ℕ) → IsErrAnd result (λ e. e ≡ fault) → PassesOn (Err fault) old new held text → PassesOn result old new after text
+pub fails-same : (fault : Fault) (result : Result (Unit {0}) Fault) (old new : Option (List ℕ)) (held after text : List ℕ)
+    → IsErrAnd result (λ e. e ≡ fault) → PassesOn (Err fault) old new held text → PassesOn result old new after text
 fails-same fault (Ok x) old new held after text passed failed = absurd passed
 fails-same fault (Err e) old new held after text passed failed = rw passed failed
 
@@ -92,12 +107,14 @@ none_left : (xs : List ℕ) → length xs ≤ 0 → xs ≡ []
 none_left [] within = refl
 none_left (x ∷ xs) within = absurd (omega arith)
 
-emptied : (result : Result (Unit {0}) Fault) (old new : Option (List ℕ)) (last text : List ℕ) → OnOk result (length last ≤ 0) → PassesOn result old new last text → PassesOn result old new [] text
+emptied : (result : Result (Unit {0}) Fault) (old new : Option (List ℕ)) (last text : List ℕ) → OnOk result (length last ≤ 0)
+    → PassesOn result old new last text → PassesOn result old new [] text
 emptied (Ok x) old new last text within passed = subst (λ held. IsPassedOn old new held text) (none_left last within) passed
 emptied (Err fault) old new last text within passed = passed
 
 -- all that was held is passed on
-pub passes-last : (result : Result (Unit {0}) Fault) (old mid new : Option (List ℕ)) (held text last : List ℕ) → IsPassedOn old mid held text → PassesOn result mid new last held → OnOk result (length last ≤ 0) → PassesOn result old new [] text
+pub passes-last : (result : Result (Unit {0}) Fault) (old mid new : Option (List ℕ)) (held text last : List ℕ) → IsPassedOn old mid held text
+    → PassesOn result mid new last held → OnOk result (length last ≤ 0) → PassesOn result old new [] text
 passes-last result old mid new held text last first second within =
     let whole = passes-then result old mid new held text [] last first (subst (PassesOn result mid new last) (sym (append-nil held)) second) in
     emptied result old new last text within (subst (PassesOn result old new last) (append-nil text) whole)

@@ -40,7 +40,8 @@ all_two P x y first second (suc zero) d within = second
 all_two P x y first second (suc (suc k)) d within = absurd (omega arith)
 
 -- what is known of the files, or of some
-pub judging : (r c : Option (List ℕ)) (told : Told) (out : Stream) → IfSome r (λ r. IfSome c (λ c. TellsCheck (recording_at LARGEST_RECORDING r) (certificate_at LARGEST_CERTIFICATE c) told out.old out.new))
+pub judging : (r c : Option (List ℕ)) (told : Told) (out : Stream)
+    → IfSome r (λ r. IfSome c (λ c. TellsCheck (recording_at LARGEST_RECORDING r) (certificate_at LARGEST_CERTIFICATE c) told out.old out.new))
     → (recorded : Recorded) × (certified : Certified) × TellsCheck recorded certified told out.old out.new → TellsJudged r c told out
 judging (Some r) (Some c) told out known some = known
 judging (Some r) None told out known some = some

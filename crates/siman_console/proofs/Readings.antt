@@ -11,6 +11,7 @@ said_of-read None pdu read e = let same : pdu ≡ read = cc in ap shown same
 said_of-read (Some fault) pdu read e = cc
 
 -- a datagram that reads as none is refused
-pub said_of-unread : (refusal : Option PduFault) (pdu : Pdu) → ((read : Pdu) → ¬ (unless_refused refusal pdu ≡ Some read)) → (said_of_reading refusal pdu).status ≡ 1
+pub said_of-unread : (refusal : Option PduFault) (pdu : Pdu) → ((read : Pdu) → ¬ (unless_refused refusal pdu ≡ Some read))
+    → (said_of_reading refusal pdu).status ≡ 1
 said_of-unread None pdu none = absurd (none pdu refl)
 said_of-unread (Some fault) pdu none = refl

@@ -17,13 +17,15 @@ use Rattle.siman_console.specs.Show.{counts_line, station_shown, entry_shown, sh
 abbrev Recorded : Type 0
 Recorded = Result PlainRecording FormatFault
 
-recording_refused : (recorded : Recorded) (fault : RecordingFault) (old new : Option (List ℕ)) → Fails (told fault) recorded → Keeps old new → Shows recorded (Err (of_recording fault)) old new
+recording_refused : (recorded : Recorded) (fault : RecordingFault) (old new : Option (List ℕ)) → Fails (told fault) recorded → Keeps old new
+    → Shows recorded (Err (of_recording fault)) old new
 recording_refused recorded (recordings.Format f) old new why keeps = (why, keeps)
 recording_refused recorded recordings.Read old new why keeps = keeps
 recording_refused recorded recordings.Memory old new why keeps = inl keeps
 
 -- the three parts of the text of a recording
-pub whole_text : (r : PlainRecording) (line : List ℕ) → line ≡ counts_line r → (line ++ texts_below (station_shown r) (length r.setting.stations)) ++ texts_below (entry_shown r) (length r.entries) ≡ show_text r
+pub whole_text : (r : PlainRecording) (line : List ℕ) → line ≡ counts_line r
+    → (line ++ texts_below (station_shown r) (length r.setting.stations)) ++ texts_below (entry_shown r) (length r.entries) ≡ show_text r
 whole_text r line e = rw e refl
 
 -- what may have been read where a fault is told
@@ -33,12 +35,14 @@ some_recorded recordings.Read = (Err (faults.Magic 0), tt)
 some_recorded recordings.Memory = (Err (faults.Magic 0), tt)
 
 -- a recording that could not be read
-pub recording_unread : (recorded : Recorded) (fault : RecordingFault) (result : Result (Unit {0}) Fault) (old new : Option (List ℕ)) → IsErrAnd result (λ e. e ≡ of_recording fault) → Fails (told fault) recorded → Keeps old new → Shows recorded result old new
+pub recording_unread : (recorded : Recorded) (fault : RecordingFault) (result : Result (Unit {0}) Fault) (old new : Option (List ℕ))
+    → IsErrAnd result (λ e. e ≡ of_recording fault) → Fails (told fault) recorded → Keeps old new → Shows recorded result old new
 recording_unread recorded fault (Ok x) old new passed why keeps = absurd passed
 recording_unread recorded fault (Err e) old new passed why keeps = rw passed (recording_refused recorded fault old new why keeps)
 
 -- a recording whose lines were passed on, all of them
-pub recording_shown : (recorded : Recorded) (r : PlainRecording) (result : Result (Unit {0}) Fault) (old new : Option (List ℕ)) → recorded ≡ Ok r → PassesOn result old new [] (show_text r) → Shows recorded result old new
+pub recording_shown : (recorded : Recorded) (r : PlainRecording) (result : Result (Unit {0}) Fault) (old new : Option (List ℕ)) → recorded ≡ Ok r
+    → PassesOn result old new [] (show_text r) → Shows recorded result old new
 recording_shown recorded r (Ok x) old new read passed = (r, read, subst (Appends old new) (sym (append-nil passed.0) ∙ passed.2) passed.1)
 recording_shown recorded r (Err fault) old new read (inl failed, part) = rw failed (r, read, part)
 recording_shown recorded r (Err fault) old new read (inr failed, part) = rw failed (inr (r, read, part))

@@ -15,7 +15,8 @@ unfolding texts_below
 texts_below-more text n = rw add-one refl
 
 -- a text, behind those before it
-pub texts-with-next : (text : ℕ → List ℕ) (n : ℕ) (start old new : List ℕ) → new ≡ old ++ text n → old ≡ start ++ texts_below text n → new ≡ start ++ texts_below text (n + 1)
+pub texts-with-next : (text : ℕ → List ℕ) (n : ℕ) (start old new : List ℕ) → new ≡ old ++ text n → old ≡ start ++ texts_below text n
+    → new ≡ start ++ texts_below text (n + 1)
 texts-with-next text n start old new step before =
     step ∙ ap (λ t. t ++ text n) before ∙ append_assoc start (texts_below text n) (text n) ∙ ap (λ t. start ++ t) (sym (texts_below-more text n))
 

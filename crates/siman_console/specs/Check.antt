@@ -60,7 +60,8 @@ pub record SaysNo (recorded : Recorded) (certified : Certified) (old new : Optio
 
 -- the text that is to go out for a recording and the steps of a certificate
 abbrev pub IsDue : PlainRecording → List Step → List ℕ → Type 0
-IsDue r steps text = (IsGood r steps × (text ≡ report_text r)) ⊎ ((k : ℕ) × (cause : Cause) × Refuses r steps (Bad k cause) × (text ≡ no_line k cause))
+IsDue r steps text =
+    (IsGood r steps × (text ≡ report_text r)) ⊎ ((k : ℕ) × (cause : Cause) × Refuses r steps (Bad k cause) × (text ≡ no_line k cause))
 
 -- WHAT A FAILED WRITE LEAVES: of the text that was to go out a prefix
 pub record SaysPart (recorded : Recorded) (certified : Certified) (old new : Option (List ℕ)) : Type 0 where
@@ -79,7 +80,8 @@ Judges recorded certified (Ok false) old new = SaysNo recorded certified old new
 Judges recorded certified (Err (Recording (recordings.Format fault))) old new = (recorded ≡ Err fault) × Keeps old new
 Judges recorded certified (Err (Recording recordings.Read)) old new = Keeps old new
 Judges recorded certified (Err (Recording recordings.Memory)) old new = ⊥
-Judges recorded certified (Err (Certificate (certificates.Format fault))) old new = ((r : PlainRecording) × (recorded ≡ Ok r)) × (certified ≡ Err fault) × Keeps old new
+Judges recorded certified (Err (Certificate (certificates.Format fault))) old new =
+    ((r : PlainRecording) × (recorded ≡ Ok r)) × (certified ≡ Err fault) × Keeps old new
 Judges recorded certified (Err (Certificate certificates.Read)) old new = ((r : PlainRecording) × (recorded ≡ Ok r)) × Keeps old new
 Judges recorded certified (Err (Certificate certificates.Memory)) old new = ⊥
 Judges recorded certified (Err Write) old new = SaysPart recorded certified old new
@@ -111,8 +113,10 @@ judged_status (Err fault) = Err (of_files fault)
 
 -- What `check` tells: what it judged is out, with status 0 or 1, or it met a fault.
 abbrev pub TellsCheck : Recorded → Certified → (told : Result ℕ Fault) → (old new : Option (List ℕ)) → Type 0
-TellsCheck recorded certified told old new = (judged : Result Bool FilesFault) × Judges recorded certified judged old new × (told ≡ judged_status judged)
+TellsCheck recorded certified told old new =
+    (judged : Result Bool FilesFault) × Judges recorded certified judged old new × (told ≡ judged_status judged)
 
 -- HOW `check` ENDS: what it judged is out, and it ends as that asks for
 abbrev pub EndsCheck : Recorded → Certified → (status : ℕ) → (old new : Option (List ℕ)) → (told_old told_new : Option (List ℕ)) → Type 0
-EndsCheck recorded certified status old new told_old told_new = (told : Result ℕ Fault) × TellsCheck recorded certified told old new × EndsWith told status told_old told_new
+EndsCheck recorded certified status old new told_old told_new =
+    (told : Result ℕ Fault) × TellsCheck recorded certified told old new × EndsWith told status told_old told_new

@@ -20,9 +20,12 @@ id_counts d = counts_text (length d.fixed) (length d.variable)
 abbrev pub fields_text : Body → List ℕ
 fields_text (CreateEntity request) = codes " request=" ++ decimal request
 fields_text (RemoveEntity request) = codes " request=" ++ decimal request
-fields_text (StartResume real sim request) = codes " real=" ++ clock_text real ++ codes " sim=" ++ clock_text sim ++ codes " request=" ++ decimal request
-fields_text (StopFreeze real reason behaviour request) = codes " real=" ++ clock_text real ++ codes " reason=" ++ decimal reason ++ codes " behaviour=" ++ decimal behaviour ++ codes " request=" ++ decimal request
-fields_text (Acknowledge flag response request) = codes " flag=" ++ decimal flag ++ codes " response=" ++ decimal response ++ codes " request=" ++ decimal request
+fields_text (StartResume real sim request) =
+    codes " real=" ++ clock_text real ++ codes " sim=" ++ clock_text sim ++ codes " request=" ++ decimal request
+fields_text (StopFreeze real reason behaviour request) =
+    codes " real=" ++ clock_text real ++ codes " reason=" ++ decimal reason ++ codes " behaviour=" ++ decimal behaviour ++ codes " request=" ++ decimal request
+fields_text (Acknowledge flag response request) =
+    codes " flag=" ++ decimal flag ++ codes " response=" ++ decimal response ++ codes " request=" ++ decimal request
 fields_text (ActionRequest request action datums) = codes " request=" ++ decimal request ++ codes " action=" ++ decimal action ++ datum_counts datums
 fields_text (ActionResponse request status datums) = codes " request=" ++ decimal request ++ codes " result=" ++ decimal status ++ datum_counts datums
 fields_text (DataQuery request interval ids) = codes " request=" ++ decimal request ++ codes " interval=" ++ decimal interval ++ id_counts ids

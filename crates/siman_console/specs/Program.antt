@@ -54,8 +54,10 @@ ShowsFile name deeds told out = ⊥
 -- TWO FILES ARE OPENED for `check`, the recording first; where that fails the other is not
 abbrev pub ChecksFiles : (recording certificate : List ℕ) → List Deed → Told → Stream → Type 0
 ChecksFiles recording certificate (Opens first (Err kind) ∷ []) told out = (first ≡ recording) × TellsUnopened recording kind told out
-ChecksFiles recording certificate (Opens first (Ok r) ∷ Opens second (Err kind) ∷ []) told out = (first ≡ recording) × (second ≡ certificate) × TellsUnopened certificate kind told out
-ChecksFiles recording certificate (Opens first (Ok r) ∷ Opens second (Ok c) ∷ []) told out = (first ≡ recording) × (second ≡ certificate) × TellsJudged r c told out
+ChecksFiles recording certificate (Opens first (Ok r) ∷ Opens second (Err kind) ∷ []) told out =
+    (first ≡ recording) × (second ≡ certificate) × TellsUnopened certificate kind told out
+ChecksFiles recording certificate (Opens first (Ok r) ∷ Opens second (Ok c) ∷ []) told out =
+    (first ≡ recording) × (second ≡ certificate) × TellsJudged r c told out
 ChecksFiles recording certificate deeds told out = ⊥
 
 -- WHAT A TASK TELLS: which files it opened, in their order, what it answered or the fault that it met, and what it left on the writer of answers; standard input has these bytes where they are known
@@ -82,4 +84,5 @@ words_by kind (Err error) = Err (kind error)
 -- HOW THE PROGRAM ENDS whose words are these, the program's name first, or could not be had
 abbrev pub EndsProgram : Result (List (List ℕ)) ErrorKind → List Deed → Option (List ℕ) → Outcome → Type 0
 EndsProgram (Ok words) deeds input o = EndsAsked (asked words) deeds input o
-EndsProgram (Err kind) deeds input o = (deeds ≡ []) × (Keeps o.out.old o.out.new × ((fault : Fault) × IsUnread kind fault × Ends (Err fault) o.ended o.errors.old o.errors.new))
+EndsProgram (Err kind) deeds input o =
+    (deeds ≡ []) × (Keeps o.out.old o.out.new × ((fault : Fault) × IsUnread kind fault × Ends (Err fault) o.ended o.errors.old o.errors.new))

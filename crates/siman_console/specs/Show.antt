@@ -23,7 +23,8 @@ use Rattle.siman_console.specs.Report.{texts_below}
 
 -- exercise=X stations=N records=N
 abbrev pub counts_line : PlainRecording → List ℕ
-counts_line r = codes "exercise=" ++ decimal r.setting.exercise ++ codes " stations=" ++ decimal (length r.setting.stations) ++ codes " records=" ++ decimal (length r.entries) ++ line_end
+counts_line r =
+    codes "exercise=" ++ decimal r.setting.exercise ++ codes " stations=" ++ decimal (length r.setting.stations) ++ codes " records=" ++ decimal (length r.entries) ++ line_end
 
 -- station INDEX ADDRESS
 abbrev pub station_line : ℕ → StationData → List ℕ
@@ -48,7 +49,8 @@ datagram_line x b = meant_text b (meaning x b) ++ line_end
 -- ENTRY sent INDEX stamp=N HEAD, ENTRY received INDEX stamp=N HEAD or ENTRY told INDEX ENTITY STATE
 abbrev pub entry_line : ℕ → ℕ → Entry → List ℕ
 entry_line x i (Sent s stamp b) = decimal i ++ codes " sent " ++ decimal s ++ codes " stamp=" ++ decimal stamp ++ codes " " ++ datagram_line x b
-entry_line x i (Received s stamp b) = decimal i ++ codes " received " ++ decimal s ++ codes " stamp=" ++ decimal stamp ++ codes " " ++ datagram_line x b
+entry_line x i (Received s stamp b) =
+    decimal i ++ codes " received " ++ decimal s ++ codes " stamp=" ++ decimal stamp ++ codes " " ++ datagram_line x b
 entry_line x i (Told s e y) = decimal i ++ codes " told " ++ decimal s ++ codes " " ++ decimal e ++ codes " " ++ state_text y ++ line_end
 
 -- what is shown of a station, and of an entry, by its number
@@ -107,4 +109,5 @@ TellsShow recorded told old new = (shown : Result (Unit {0}) Fault) × Shows rec
 
 -- HOW `show` ENDS: what it showed is out, and it ends as that asks for
 abbrev pub EndsShow : Result PlainRecording FormatFault → (status : ℕ) → (old new : Option (List ℕ)) → (told_old told_new : Option (List ℕ)) → Type 0
-EndsShow recorded status old new told_old told_new = (told : Result ℕ Fault) × TellsShow recorded told old new × EndsWith told status told_old told_new
+EndsShow recorded status old new told_old told_new =
+    (told : Result ℕ Fault) × TellsShow recorded told old new × EndsWith told status told_old told_new

@@ -20,13 +20,16 @@ use Rattle.siman_manager.proofs.Sends.{sends_of}
 
 -- Sends of one order.
 
-are_sends : (s : Settings) (first : Pdu) → first.origin ≡ manager_id s → (sends : List Send) → AllByRecursion (IsSendOf s first) (map (λ send. with_stamp send.stamp first) sends)
+are_sends : (s : Settings) (first : Pdu) → first.origin ≡ manager_id s → (sends : List Send)
+    → AllByRecursion (IsSendOf s first) (map (λ send. with_stamp send.stamp first) sends)
 are_sends s first origin [] = tt
 are_sends s first origin (send ∷ sends) = (record { same = refl; origin = origin }, are_sends s first origin sends)
 
-pub sends_are_same : (s : Settings) (past : List Call) → AreRequests past → (k : ℕ) (l : Life) → life s past k ≡ Some l → AllByRecursion (IsSendOf s l.order) (filter (has_id (s.first_id + k)) (given_out s past))
+pub sends_are_same : (s : Settings) (past : List Call) → AreRequests past → (k : ℕ) (l : Life) → life s past k ≡ Some l
+    → AllByRecursion (IsSendOf s l.order) (filter (has_id (s.first_id + k)) (given_out s past))
 sends_are_same s past are k l e =
-    subst (λ (ps : List Pdu). AllByRecursion (IsSendOf s l.order) ps) (sym (sends_of s past are k ∙ ap sent_as e)) (are_sends s l.order (made_as s past are k l e).origin l.sends)
+    subst (λ (ps : List Pdu). AllByRecursion (IsSendOf s l.order) ps) (sym (sends_of s past are k ∙ ap sent_as e))
+      (are_sends s l.order (made_as s past are k l e).origin l.sends)
 
 -- Each PDU that is given out is of an order.
 
@@ -40,7 +43,8 @@ made_of_order s n p (Some fault) rest e all = all
 made_of_order s n p None rest e all = ((n, omega arith, e), wider s n (n + 1) (omega arith) rest all)
 
 repeat_of_order : (s : Settings) (stamp n : ℕ) (orders : List KeptOrder) (rest : List Pdu) → Numbered s orders → length orders ≡ n → (o : Option ℕ)
-    → AllByRecursion (IsOfOrder s n) rest → AllByRecursion (IsOfOrder s n) (option_to_list (option_map (λ (x : KeptOrder). with_stamp stamp x.pdu) (item_at orders o)) ++ rest)
+    → AllByRecursion (IsOfOrder s n) rest
+    → AllByRecursion (IsOfOrder s n) (option_to_list (option_map (λ (x : KeptOrder). with_stamp stamp x.pdu) (item_at orders o)) ++ rest)
 repeat_of_order s stamp n orders rest numbers len None all = all
 repeat_of_order s stamp n orders rest numbers len (Some j) all = at (slice_get orders j) refl where
   at : (x : Option KeptOrder) → slice_get orders j ≡ x → AllByRecursion (IsOfOrder s n) (option_to_list (option_map (λ (x : KeptOrder). with_stamp stamp x.pdu) x) ++ rest)
@@ -55,15 +59,19 @@ repeat_of_order s stamp n orders rest numbers len (Some j) all = at (slice_get o
 pub of_orders : (s : Settings) (past : List Call) → AreRequests past → AllByRecursion (IsOfOrder s (count_made s past)) (given_out s past)
 of_orders s [] are = tt
 of_orders s (Requested order now stamp ∷ past) are =
-    subst (λ (n : ℕ). AllByRecursion (IsOfOrder s (one_more (refusal s (count_made s past) order stamp) (count_made s past))) (made_pdu (refusal s n order stamp) (order_pdu s (next_id s n) order stamp) ++ given_out s past))
+    subst (λ (n : ℕ). AllByRecursion (IsOfOrder s (one_more (refusal s (count_made s past) order stamp) (count_made s past)))
+      (made_pdu (refusal s n order stamp) (order_pdu s (next_id s n) order stamp) ++ given_out s past))
     (sym (counts s past))
-    (made_of_order s (count_made s past) (order_pdu s (next_id s (count_made s past)) order stamp) (refusal s (count_made s past) order stamp) (given_out s past)
+    (made_of_order s (count_made s past) (order_pdu s (next_id s (count_made s past)) order stamp) (refusal s (count_made s past) order stamp)
+      (given_out s past)
     (id-numbered (next_id s (count_made s past)) order.body are.0) (of_orders s past are.1))
 of_orders s (Came p ∷ past) are = of_orders s past are
 of_orders s (Ticked now stamp ∷ past) are =
-    subst (λ (x : Option KeptOrder). AllByRecursion (IsOfOrder s (count_made s past)) (option_to_list (option_map (λ (x : KeptOrder). with_stamp stamp x.pdu) x) ++ given_out s past))
+    subst (λ (x : Option KeptOrder). AllByRecursion (IsOfOrder s (count_made s past))
+      (option_to_list (option_map (λ (x : KeptOrder). with_stamp stamp x.pdu) x) ++ given_out s past))
     (sym (find-at (is_ready s now) (kept s past)))
-    (repeat_of_order s stamp (count_made s past) (kept s past) (given_out s past) (numbered_kept s (kept s past) (life s past) (agrees s past are) (numbers s past are)) (counts s past)
+    (repeat_of_order s stamp (count_made s past) (kept s past) (given_out s past)
+      (numbered_kept s (kept s past) (life s past) (agrees s past are) (numbers s past are)) (counts s past)
     (first_place (is_ready s now) (kept s past)) (of_orders s past are))
 
 -- How often.
@@ -71,7 +79,8 @@ of_orders s (Ticked now stamp ∷ past) are =
 abbrev pub WithinTries : Settings → Life → Type 0
 WithinTries s l = (1 ≤ length l.sends) × (length l.sends ≤ s.tries)
 
-within_made : (s : Settings) → 1 ≤ s.tries → (p : Pdu) (now stamp : ℕ) (r : Option OrderFault) (b : Bool) (o : Option Life) → ((l : Life) → o ≡ Some l → WithinTries s l)
+within_made : (s : Settings) → 1 ≤ s.tries → (p : Pdu) (now stamp : ℕ) (r : Option OrderFault) (b : Bool) (o : Option Life)
+    → ((l : Life) → o ≡ Some l → WithinTries s l)
     → (l : Life) → life_made r p now stamp b o ≡ Some l → WithinTries s l
 within_made s h p now stamp (Some fault) b o are l e = are l e
 within_made s h p now stamp None false o are l e = are l e
@@ -79,7 +88,8 @@ within_made s h p now stamp None true o are l e = subst (WithinTries s) same (om
   same : record { order = p; sends = record { at = now; stamp = stamp } ∷ []; standing = standings.Waiting } ≡ l
   same = cc
 
-within_mapped : (s : Settings) (f : Life → Life) (o : Option Life) → ((l : Life) → WithinTries s l → WithinTries s (f l)) → ((l : Life) → o ≡ Some l → WithinTries s l)
+within_mapped : (s : Settings) (f : Life → Life) (o : Option Life) → ((l : Life) → WithinTries s l → WithinTries s (f l))
+    → ((l : Life) → o ≡ Some l → WithinTries s l)
     → (l : Life) → option_map f o ≡ Some l → WithinTries s l
 within_mapped s f o keeps are l e =
     let from : (x : Life) × (o ≡ Some x) × (l ≡ f x) = mapped_from f o l e in
@@ -99,10 +109,13 @@ within_ticked s now stamp true l h = tested (is_due_at s now l) (nat_lt (length 
 
 pub within_tries : (s : Settings) (past : List Call) → 1 ≤ s.tries → (k : ℕ) (l : Life) → life s past k ≡ Some l → WithinTries s l
 within_tries s [] h k l e = absurd cc
-within_tries s (Requested order now stamp ∷ past) h k l e = within_made s h _ now stamp (refusal s (count_made s past) order stamp) (k == count_made s past) (life s past k) (within_tries s past h k) l e
-within_tries s (Came p ∷ past) h k l e = within_mapped s _ (life s past k) (λ x. within_came s (settles_order s x.order p) x) (within_tries s past h k) l e
+within_tries s (Requested order now stamp ∷ past) h k l e =
+    within_made s h _ now stamp (refusal s (count_made s past) order stamp) (k == count_made s past) (life s past k) (within_tries s past h k) l e
+within_tries s (Came p ∷ past) h k l e =
+    within_mapped s _ (life s past k) (λ x. within_came s (settles_order s x.order p) x) (within_tries s past h k) l e
 within_tries s (Ticked now stamp ∷ past) h k l e =
-    within_mapped s _ (life s past k) (λ x. within_ticked s now stamp (none_before (λ j. passes (is_ready_at s now) (life s past j)) k) x) (within_tries s past h k) l e
+    within_mapped s _ (life s past k) (λ x. within_ticked s now stamp (none_before (λ j. passes (is_ready_at s now) (life s past j)) k) x)
+      (within_tries s past h k) l e
 
 -- A PDU that has an identifier below the first is not given out.
 none_below : (s : Settings) (n id : ℕ) (ps : List Pdu) → id < s.first_id → AllByRecursion (IsOfOrder s n) ps → filter (has_id id) ps ≡ []
@@ -120,14 +133,16 @@ sent_within s (Some l) h =
     let bound : WithinTries s l = h l refl in
     let same : length (sent_as (Some l)) ≡ length l.sends = length-map l.sends _ in omega (arith, bound.1)
 
-pub at_most_tries : (s : Settings) (past : List Call) → 1 ≤ s.tries → AreRequests past → (id : ℕ) → length (filter (has_id id) (given_out s past)) ≤ s.tries
+pub at_most_tries : (s : Settings) (past : List Call) → 1 ≤ s.tries → AreRequests past → (id : ℕ)
+    → length (filter (has_id id) (given_out s past)) ≤ s.tries
 at_most_tries s past h are id = side (nat_le s.first_id id) refl where
   side : (b : Bool) → nat_le s.first_id id ≡ b → length (filter (has_id id) (given_out s past)) ≤ s.tries
   side true t =
       let low : s.first_id ≤ id = grind (arith, nat_tests) in
       let place : s.first_id + (id - s.first_id) ≡ id = omega arith in
       let at : length (filter (has_id (s.first_id + (id - s.first_id))) (given_out s past)) ≤ s.tries =
-      subst (λ (ps : List Pdu). length ps ≤ s.tries) (sym (sends_of s past are (id - s.first_id))) (sent_within s (life s past (id - s.first_id)) (within_tries s past h (id - s.first_id))) in
+      subst (λ (ps : List Pdu). length ps ≤ s.tries) (sym (sends_of s past are (id - s.first_id)))
+        (sent_within s (life s past (id - s.first_id)) (within_tries s past h (id - s.first_id))) in
       subst (λ (i : ℕ). length (filter (has_id i) (given_out s past)) ≤ s.tries) place at
   side false t =
       let low : id < s.first_id = grind (arith, nat_tests) in

@@ -38,14 +38,16 @@ length-after_take s p orders =
     elim (p.exercise == s.exercise) as (λ b. length (if b then settled_under s p orders (request_id_of p.body) else orders) ≡ length orders)
     [ true ↦ length-settled_under s p orders (request_id_of p.body) | false ↦ refl ]
 
-length-after_request : (r : Option OrderFault) (s : Settings) (order : Order) (now stamp : ℕ) (orders : List KeptOrder) → length (after_request r s order now stamp orders) ≡ one_more r (length orders)
+length-after_request : (r : Option OrderFault) (s : Settings) (order : Order) (now stamp : ℕ) (orders : List KeptOrder)
+    → length (after_request r s order now stamp orders) ≡ one_more r (length orders)
 length-after_request (Some fault) s order now stamp orders = refl
 length-after_request None s order now stamp orders = length-append orders _
 
 pub counts : (s : Settings) (past : List Call) → length (kept s past) ≡ count_made s past
 counts s [] = refl
 counts s (Requested order now stamp ∷ past) =
-    length-after_request (refusal s (length (kept s past)) order stamp) s order now stamp (kept s past) ∙ ap (λ (n : ℕ). one_more (refusal s n order stamp) n) (counts s past)
+    length-after_request (refusal s (length (kept s past)) order stamp) s order now stamp (kept s past) ∙ ap (λ (n : ℕ). one_more (refusal s n order stamp) n)
+      (counts s past)
 counts s (Came p ∷ past) = length-after_take s p (kept s past) ∙ counts s past
 counts s (Ticked now stamp ∷ past) = length-changed_through (is_ready s now) (looked_at s now stamp) (kept s past) ∙ counts s past
 
@@ -56,9 +58,11 @@ both_true true true x y e = (refl, refl)
 both_true true false x y e = absurd cc
 both_true false b x y e = absurd cc
 
-made_is_order : (s : Settings) (n : ℕ) (order : Order) (stamp : ℕ) → refusal s n order stamp ≡ None → IsTrue (is_request_body order.body) → IsOrder s n (order_pdu s (next_id s n) order stamp)
+made_is_order : (s : Settings) (n : ℕ) (order : Order) (stamp : ℕ) → refusal s n order stamp ≡ None → IsTrue (is_request_body order.body)
+    → IsOrder s n (order_pdu s (next_id s n) order stamp)
 made_is_order s n order stamp e is_request =
-    let within : (nat_lt (next_id s n) (2 ^ 32) ≡ true) × (nat_le (pdu_size (order_pdu s (next_id s n) order stamp)) LARGEST_DATAGRAM ≡ true) = both_true _ _ faults.TooLong faults.IdsSpent e in
+    let within : (nat_lt (next_id s n) (2 ^ 32) ≡ true) × (nat_le
+      (pdu_size (order_pdu s (next_id s n) order stamp)) LARGEST_DATAGRAM ≡ true) = both_true _ _ faults.TooLong faults.IdsSpent e in
     record {
       id = id-numbered (next_id s n) order.body is_request;
       below = ltb-true (next_id s n) (2 ^ 32) within.0;
@@ -71,7 +75,8 @@ pub mapped_from : {X Y : Type 0} (f : X → Y) (o : Option X) (y : Y) → option
 mapped_from f None y e = absurd cc
 mapped_from f (Some x) y e = (x, refl, cc)
 
-order_kept : (s : Settings) (k : ℕ) (f : Life → Life) (o : Option Life) → ((l : Life) → (f l).order ≡ l.order) → ((l : Life) → o ≡ Some l → IsOrder s k l.order)
+order_kept : (s : Settings) (k : ℕ) (f : Life → Life) (o : Option Life) → ((l : Life) → (f l).order ≡ l.order)
+    → ((l : Life) → o ≡ Some l → IsOrder s k l.order)
     → (l : Life) → option_map f o ≡ Some l → IsOrder s k l.order
 order_kept s k f o same are l e =
     let from : (x : Life) × (o ≡ Some x) × (l ≡ f x) = mapped_from f o l e in
@@ -89,7 +94,8 @@ ticked_same s now stamp true l = tested (is_due_at s now l) (nat_lt (length l.se
   tested true false = refl
   tested false fewer = refl
 
-made_orders : (s : Settings) (n : ℕ) (order : Order) (now stamp : ℕ) (r : Option OrderFault) → refusal s n order stamp ≡ r → IsTrue (is_request_body order.body)
+made_orders : (s : Settings) (n : ℕ) (order : Order) (now stamp : ℕ) (r : Option OrderFault) → refusal s n order stamp ≡ r
+    → IsTrue (is_request_body order.body)
     → (k : ℕ) (o : Option Life) → ((l : Life) → o ≡ Some l → IsOrder s k l.order)
     → (l : Life) → life_made r (order_pdu s (next_id s n) order stamp) now stamp (k == n) o ≡ Some l → IsOrder s k l.order
 made_orders s n order now stamp (Some fault) t is_request k o are l e = are l e
@@ -98,7 +104,8 @@ made_orders s n order now stamp None t is_request k o are l e = next (k == n) re
   next false u v = are l v
   next true u v =
       let order_is : order_pdu s (next_id s n) order stamp ≡ l.order = some_order _ v in
-      subst (λ (p : Pdu). IsOrder s k p) order_is (subst (λ (i : ℕ). IsOrder s i (order_pdu s (next_id s n) order stamp)) (sym (eq-true k n u)) (made_is_order s n order stamp t is_request))
+      subst (λ (p : Pdu). IsOrder s k p) order_is (subst (λ (i : ℕ). IsOrder s i (order_pdu s (next_id s n) order stamp)) (sym (eq-true k n u))
+        (made_is_order s n order stamp t is_request))
     where
       some_order : (x : Life) → Some x ≡ Some l → x.order ≡ l.order
       some_order x w = let same : x ≡ l = cc in ap (λ (z : Life). z.order) same
@@ -106,19 +113,24 @@ made_orders s n order now stamp None t is_request k o are l e = next (k == n) re
 pub made_as : (s : Settings) (past : List Call) → AreRequests past → (k : ℕ) (l : Life) → life s past k ≡ Some l → IsOrder s k l.order
 made_as s [] are k l e = absurd cc
 made_as s (Requested order now stamp ∷ past) are k l e =
-    made_orders s (count_made s past) order now stamp (refusal s (count_made s past) order stamp) refl are.0 k (life s past k) (λ x at. made_as s past are.1 k x at) l e
+    made_orders s (count_made s past) order now stamp (refusal s (count_made s past) order stamp) refl are.0 k (life s past k)
+      (λ x at. made_as s past are.1 k x at) l e
 made_as s (Came p ∷ past) are k l e =
     order_kept s k _ (life s past k) (λ x. came_same (settles_order s x.order p) x) (λ x at. made_as s past are k x at) l e
 made_as s (Ticked now stamp ∷ past) are k l e =
-    order_kept s k _ (life s past k) (λ x. ticked_same s now stamp (none_before (λ j. passes (is_ready_at s now) (life s past j)) k) x) (λ x at. made_as s past are k x at) l e
+    order_kept s k _ (life s past k) (λ x. ticked_same s now stamp (none_before (λ j. passes (is_ready_at s now) (life s past j)) k) x)
+      (λ x at. made_as s past are k x at) l e
 
 pub numbers : (s : Settings) (past : List Call) → AreRequests past → NumberedLives s (life s past)
 numbers s past are k l e = (made_as s past are k l e).id
 
 -- Agreement.
 
-made_agrees : (s : Settings) (order : Order) (now stamp : ℕ) (orders : List KeptOrder) (lives : ℕ → Option Life) → Agree orders lives → (r : Option OrderFault)
-    → Agree (after_request r s order now stamp orders) (λ k. life_made r (order_pdu s (next_id s (length orders)) order stamp) now stamp (k == length orders) (lives k))
+made_agrees : (s : Settings) (order : Order) (now stamp : ℕ) (orders : List KeptOrder) (lives : ℕ → Option Life) → Agree orders lives
+    → (r : Option OrderFault)
+    
+    → Agree (after_request r s order now stamp orders) (λ k. life_made r (order_pdu s (next_id s (length orders)) order stamp) now stamp (k == length orders)
+      (lives k))
 made_agrees s order now stamp orders lives agree (Some fault) k = agree k
 made_agrees s order now stamp orders lives agree None k =
     slice_get-append_one orders (new_order (order_pdu s (next_id s (length orders)) order stamp) now) k ∙ next (k == length orders) where
@@ -130,7 +142,8 @@ made_agrees s order now stamp orders lives agree None k =
 pub agrees : (s : Settings) (past : List Call) → AreRequests past → Agree (kept s past) (life s past)
 agrees s [] are = λ k. refl
 agrees s (Requested order now stamp ∷ past) are =
-    subst (λ (n : ℕ). Agree (kept s (Requested order now stamp ∷ past)) (λ k. life_made (refusal s n order stamp) (order_pdu s (next_id s n) order stamp) now stamp (k == n) (life s past k)))
+    subst (λ (n : ℕ). Agree (kept s (Requested order now stamp ∷ past))
+      (λ k. life_made (refusal s n order stamp) (order_pdu s (next_id s n) order stamp) now stamp (k == n) (life s past k)))
     (counts s past) (made_agrees s order now stamp (kept s past) (life s past) (agrees s past are.1) (refusal s (length (kept s past)) order stamp))
 agrees s (Came p ∷ past) are = came_agrees s p (kept s past) (life s past) (agrees s past are) (numbers s past are)
 agrees s (Ticked now stamp ∷ past) are = ticked_agrees s now stamp (kept s past) (life s past) (agrees s past are)

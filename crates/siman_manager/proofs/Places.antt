@@ -14,11 +14,13 @@ zero-eq-suc k = grind (arith, nat_tests)
 suc-eq-suc : (k i : ℕ) → (suc k == suc i) ≡ (k == i)
 suc-eq-suc k i = grind (arith, nat_tests)
 
-pub slice_get-append_one : {X : Type 0} (xs : List X) (x : X) (k : ℕ) → slice_get (xs ++ x ∷ []) k ≡ (if k == length xs then Some x else slice_get xs k)
+pub slice_get-append_one : {X : Type 0} (xs : List X) (x : X) (k : ℕ)
+    → slice_get (xs ++ x ∷ []) k ≡ (if k == length xs then Some x else slice_get xs k)
 slice_get-append_one [] x zero = refl
 slice_get-append_one [] x (suc k) = ap (λ (b : Bool). if b then Some x else None) (sym (suc-eq-zero k))
 slice_get-append_one (y ∷ ys) x zero = ap (λ (b : Bool). if b then Some x else Some y) (sym (zero-eq-suc (length ys)))
-slice_get-append_one (y ∷ ys) x (suc k) = slice_get-append_one ys x k ∙ ap (λ (b : Bool). if b then Some x else slice_get ys k) (sym (suc-eq-suc k (length ys)))
+slice_get-append_one (y ∷ ys) x (suc k) =
+    slice_get-append_one ys x k ∙ ap (λ (b : Bool). if b then Some x else slice_get ys k) (sym (suc-eq-suc k (length ys)))
 
 pub slice_get-past : {X : Type 0} (xs : List X) (k : ℕ) → length xs ≤ k → slice_get xs k ≡ None
 slice_get-past [] k h = refl
@@ -41,7 +43,8 @@ pub slice_get-changed_through : {X : Type 0} (p : X → Bool) (f : X → X) (xs 
 slice_get-changed_through p f [] k = refl
 slice_get-changed_through p f (x ∷ xs) zero = refl
 slice_get-changed_through p f (x ∷ xs) (suc k) =
-    elim (p x) as (λ b. slice_get (if b then xs else changed_through p f xs) k ≡ option_map (λ y. if (if b then false else none_before (λ j. passes p (slice_get xs j)) k) then f y else y) (slice_get xs k))
+    elim (p x) as (λ b. slice_get (if b then xs else changed_through p f xs) k ≡ option_map
+      (λ y. if (if b then false else none_before (λ j. passes p (slice_get xs j)) k) then f y else y) (slice_get xs k))
     [ true ↦ sym (option_map-same (slice_get xs k)) | false ↦ slice_get-changed_through p f xs k ]
 
 pub slice_get-set_none : {X : Type 0} (xs : List X) (i : ℕ) (y : X) (k : ℕ) → slice_get xs k ≡ None → slice_get (set xs i y) k ≡ None
@@ -51,12 +54,14 @@ slice_get-set_none (x ∷ xs) zero y (suc k) e = e
 slice_get-set_none (x ∷ xs) (suc i) y zero e = absurd cc
 slice_get-set_none (x ∷ xs) (suc i) y (suc k) e = slice_get-set_none xs i y k e
 
-pub slice_get-set_at : {X : Type 0} (xs : List X) (i : ℕ) (x y : X) (k : ℕ) → slice_get xs i ≡ Some x → slice_get (set xs i y) k ≡ (if k == i then Some y else slice_get xs k)
+pub slice_get-set_at : {X : Type 0} (xs : List X) (i : ℕ) (x y : X) (k : ℕ) → slice_get xs i ≡ Some x
+    → slice_get (set xs i y) k ≡ (if k == i then Some y else slice_get xs k)
 slice_get-set_at [] i x y k e = absurd cc
 slice_get-set_at (z ∷ zs) zero x y zero e = refl
 slice_get-set_at (z ∷ zs) zero x y (suc k) e = ap (λ (b : Bool). if b then Some y else slice_get zs k) (sym (suc-eq-zero k))
 slice_get-set_at (z ∷ zs) (suc i) x y zero e = ap (λ (b : Bool). if b then Some y else Some z) (sym (zero-eq-suc i))
-slice_get-set_at (z ∷ zs) (suc i) x y (suc k) e = slice_get-set_at zs i x y k e ∙ ap (λ (b : Bool). if b then Some y else slice_get zs k) (sym (suc-eq-suc k i))
+slice_get-set_at (z ∷ zs) (suc i) x y (suc k) e =
+    slice_get-set_at zs i x y k e ∙ ap (λ (b : Bool). if b then Some y else slice_get zs k) (sym (suc-eq-suc k i))
 
 -- the place of the first item that passes
 abbrev pub first_place : {X : Type 0} → (X → Bool) → List X → Option ℕ
@@ -94,7 +99,9 @@ pub reached_first : {X : Type 0} (p : X → Bool) (xs : List X) (k : ℕ)
     → (if none_before (λ j. passes p (slice_get xs j)) k then passes p (slice_get xs k) else false) ≡ is_place k (first_place p xs)
 reached_first p [] k = elim (none_before (λ j. false) k) as (λ b. (if b then false else false) ≡ false) [ true ↦ refl | false ↦ refl ]
 reached_first p (x ∷ xs) zero =
-    elim (p x) as (λ b. b ≡ is_place zero (if b then Some zero else option_map suc (first_place p xs))) [ true ↦ refl | false ↦ sym (is_place-zero (first_place p xs)) ]
+    elim (p x) as (λ b. b ≡ is_place zero (if b then Some zero else option_map suc (first_place p xs))) [ true ↦ refl | false ↦ sym
+      (is_place-zero (first_place p xs)) ]
 reached_first p (x ∷ xs) (suc k) =
-    elim (p x) as (λ b. (if (if b then false else none_before (λ j. passes p (slice_get xs j)) k) then passes p (slice_get xs k) else false) ≡ is_place (suc k) (if b then Some zero else option_map suc (first_place p xs)))
+    elim (p x) as (λ b. (if (if b then false else none_before (λ j. passes p (slice_get xs j)) k) then passes p (slice_get xs k) else false) ≡ is_place (suc k)
+      (if b then Some zero else option_map suc (first_place p xs)))
     [ true ↦ sym (suc-eq-zero k) | false ↦ reached_first p xs k ∙ sym (is_place-suc k (first_place p xs)) ]

@@ -56,7 +56,8 @@ answered_made s p now stamp n k None o came none are l e = next (k == n) refl e 
       let place : k ≡ n = eq-true k n t in
       subst (AnsweredBy s came) same (sym (ap (list_any (settles_order s p)) (none (omega arith))))
 
-answered_came : (s : Settings) (p : Pdu) (came : List Pdu) (l : Life) → AnsweredBy s came l → AnsweredBy s (p ∷ came) (if settles_order s l.order p then with_standing standings.Answered l else l)
+answered_came : (s : Settings) (p : Pdu) (came : List Pdu) (l : Life) → AnsweredBy s came l
+    → AnsweredBy s (p ∷ came) (if settles_order s l.order p then with_standing standings.Answered l else l)
 answered_came s p came l h = tested (settles_order s l.order p) refl where
   tested : (b : Bool) → settles_order s l.order p ≡ b → AnsweredBy s (p ∷ came) (if b then with_standing standings.Answered l else l)
   tested true t = sym (ap (λ (b : Bool). b || list_any (settles_order s l.order) came) t)
@@ -67,7 +68,8 @@ waiting_not_answered standings.Waiting b e = refl
 waiting_not_answered standings.Answered b e = absurd cc
 waiting_not_answered standings.GivenUp b e = refl
 
-answered_ticked : (s : Settings) (now stamp : ℕ) (b : Bool) (came : List Pdu) (l : Life) → AnsweredBy s came l → AnsweredBy s came (if b then life_ticked s now stamp l else l)
+answered_ticked : (s : Settings) (now stamp : ℕ) (b : Bool) (came : List Pdu) (l : Life) → AnsweredBy s came l
+    → AnsweredBy s came (if b then life_ticked s now stamp l else l)
 answered_ticked s now stamp false came l h = h
 answered_ticked s now stamp true came l h = tested (is_due_at s now l) (nat_lt (length l.sends) s.tries) refl where
   tested : (due fewer : Bool) → is_due_at s now l ≡ due → AnsweredBy s came (if due then (if fewer then with_send now stamp l else with_standing standings.GivenUp l) else l)
@@ -75,7 +77,8 @@ answered_ticked s now stamp true came l h = tested (is_due_at s now l) (nat_lt (
   tested true false t = sym (waiting_not_answered l.standing (nat_le s.wait (now - last_at l.sends)) t) ∙ h
   tested false fewer t = h
 
-answered_mapped : (s : Settings) (old new : List Pdu) (f : Life → Life) (o : Option Life) → ((l : Life) → AnsweredBy s old l → AnsweredBy s new (f l)) → ((l : Life) → o ≡ Some l → AnsweredBy s old l)
+answered_mapped : (s : Settings) (old new : List Pdu) (f : Life → Life) (o : Option Life) → ((l : Life) → AnsweredBy s old l → AnsweredBy s new (f l))
+    → ((l : Life) → o ≡ Some l → AnsweredBy s old l)
     → (l : Life) → option_map f o ≡ Some l → AnsweredBy s new l
 answered_mapped s old new f o keeps are l e =
     let from : (x : Life) × (o ≡ Some x) × (l ≡ f x) = mapped_from f o l e in
@@ -84,22 +87,28 @@ answered_mapped s old new f o keeps are l e =
 pub answered_by : (s : Settings) (past : List Call) (k : ℕ) (l : Life) → life s past k ≡ Some l → AnsweredBy s (came_since s past k) l
 answered_by s [] k l e = absurd cc
 answered_by s (Requested order now stamp ∷ past) k l e =
-    answered_made s _ now stamp (count_made s past) k (refusal s (count_made s past) order stamp) (life s past k) (came_since s past k) (nothing_came s past k) (answered_by s past k) l e
+    answered_made s _ now stamp (count_made s past) k (refusal s (count_made s past) order stamp) (life s past k) (came_since s past k) (nothing_came s past k)
+      (answered_by s past k) l e
 answered_by s (Came p ∷ past) k l e =
-    let from : (x : Life) × (life s past k ≡ Some x) × (l ≡ (if settles_order s x.order p then with_standing standings.Answered x else x)) = mapped_from _ (life s past k) l e in
-    subst (λ (came : List Pdu). AnsweredBy s came l) (sym (if_true (nat_lt k (count_made s past)) (p ∷ came_since s past k) [] (made_by_then s past k from.0 from.1)))
+    let from : (x : Life) × (life s past k ≡ Some x) × (l ≡ (if settles_order s x.order p then with_standing standings.Answered x else x)) = mapped_from _
+      (life s past k) l e in
+    subst (λ (came : List Pdu). AnsweredBy s came l) (sym
+      (if_true (nat_lt k (count_made s past)) (p ∷ came_since s past k) [] (made_by_then s past k from.0 from.1)))
     (answered_mapped s (came_since s past k) (p ∷ came_since s past k) _ (life s past k) (answered_came s p (came_since s past k)) (answered_by s past k) l e)
 answered_by s (Ticked now stamp ∷ past) k l e =
-    answered_mapped s (came_since s past k) (came_since s past k) _ (life s past k) (answered_ticked s now stamp (none_before (λ j. passes (is_ready_at s now) (life s past j)) k) (came_since s past k)) (answered_by s past k) l e
+    answered_mapped s (came_since s past k) (came_since s past k) _ (life s past k)
+      (answered_ticked s now stamp (none_before (λ j. passes (is_ready_at s now) (life s past j)) k) (came_since s past k)) (answered_by s past k) l e
 
 -- By its identifier an order is found.
 
-pub found : (s : Settings) (past : List Call) → AreRequests past → (k : ℕ) → order_of s (kept s past) (s.first_id + k) ≡ option_map kept_as (life s past k)
+pub found : (s : Settings) (past : List Call) → AreRequests past → (k : ℕ)
+    → order_of s (kept s past) (s.first_id + k) ≡ option_map kept_as (life s past k)
 found s past are k = order_of-place s (kept s past) k ∙ agrees s past are k
 
 -- What a PDU is taken as.
 
-pub taken_own : (s : Settings) (past : List Call) → AreRequests past → (p : Pdu) (k : ℕ) (l : Life) → life s past k ≡ Some l → p.exercise ≡ s.exercise → is_answer_to p l.order ≡ true
+pub taken_own : (s : Settings) (past : List Call) → AreRequests past → (p : Pdu) (k : ℕ) (l : Life) → life s past k ≡ Some l → p.exercise ≡ s.exercise
+    → is_answer_to p l.order ≡ true
     → taken_as s p (kept s past) ≡ taken_after (s.first_id + k) (settles p.body) l.standing
 taken_own s past are p k l e same answer =
     let id : request_id_of p.body ≡ Some (s.first_id + k) = answer_id p l.order answer ∙ (made_as s past are k l e).id in
@@ -109,12 +118,15 @@ taken_own s past are p k l e same answer =
     ∙ if_true (is_answer_to p l.order) (taken_after (s.first_id + k) (settles p.body) l.standing) taken.Foreign answer
 
 pub taken_none : (s : Settings) (past : List Call) → AreRequests past → (p : Pdu) → AnswersNone s past p → taken_as s p (kept s past) ≡ taken.Foreign
-taken_none s past are p none = elim (p.exercise == s.exercise) as (λ b. (if b then taken_under s p (kept s past) (request_id_of p.body) else taken.Foreign) ≡ taken.Foreign) [ true ↦ under (request_id_of p.body) | false ↦ refl ] where
+taken_none s past are p none =
+    elim (p.exercise == s.exercise) as (λ b. (if b then taken_under s p (kept s past) (request_id_of p.body) else taken.Foreign) ≡ taken.Foreign) [ true ↦ under
+      (request_id_of p.body) | false ↦ refl ] where
   not_answered : (id : ℕ) (y : KeptOrder) (o : Option Life) → life s past (id - s.first_id) ≡ o → option_map kept_as o ≡ Some y → judged id p y ≡ taken.Foreign
   not_answered id y None e u = absurd cc
   not_answered id y (Some l) e u =
       let is : kept_as l ≡ y = cc in
-      subst (λ (x : KeptOrder). judged id p x ≡ taken.Foreign) is (ap (λ (b : Bool). if b then taken_after id (settles p.body) l.standing else taken.Foreign) (none (id - s.first_id) l e))
+      subst (λ (x : KeptOrder). judged id p x ≡ taken.Foreign) is
+        (ap (λ (b : Bool). if b then taken_after id (settles p.body) l.standing else taken.Foreign) (none (id - s.first_id) l e))
 
   kept_one : (id : ℕ) (o : Option KeptOrder) → order_of s (kept s past) id ≡ o → judged_if id p o ≡ taken.Foreign
   kept_one id None e = refl
@@ -149,7 +161,8 @@ not_settled id p k h = tested (is_answer_to p k.pdu) (settles p.body) k.standing
   tested true true standings.GivenUp e u = absurd (u refl)
   tested true true standings.Answered e u = ap (λ (z : Standing). let x : KeptOrder = record k { standing = z } in x) (sym e)
 
-pub unchanged_unless : (s : Settings) (orders : List KeptOrder) (p : Pdu) → ((id : ℕ) → taken_as s p orders ≢ taken.Answered id) → after_take s p orders ≡ orders
+pub unchanged_unless : (s : Settings) (orders : List KeptOrder) (p : Pdu) → ((id : ℕ) → taken_as s p orders ≢ taken.Answered id)
+    → after_take s p orders ≡ orders
 unchanged_unless s orders p h = side (p.exercise == s.exercise) h where
   known : (id : ℕ) (o : Option KeptOrder) → order_of s orders id ≡ o → (judged_if id p o ≢ taken.Answered id) → settled_if (id - s.first_id) p orders o ≡ orders
   known id None e u = refl
@@ -177,7 +190,8 @@ count_by-below : {X : Type 0} (p : X → Bool) (xs : List X) → count_by p xs �
 count_by-below p [] = refl
 count_by-below p (x ∷ xs) =
     sum_by-cons (λ x. cond (p x) 1 0) x xs
-    ∙ elim (p x) as (λ b. cond b 1 0 + count_by p xs ≡ (if b then suc (count_below (λ j. passes p (slice_get xs j)) (length xs)) else count_below (λ j. passes p (slice_get xs j)) (length xs))) [
+    ∙ elim (p x) as (λ b. cond b 1 0 + count_by p xs ≡
+      (if b then suc (count_below (λ j. passes p (slice_get xs j)) (length xs)) else count_below (λ j. passes p (slice_get xs j)) (length xs))) [
       | true ↦ (let h : count_by p xs ≡ count_below (λ j. passes p (slice_get xs j)) (length xs) = count_by-below p xs in omega arith)
       | false ↦ (let h : count_by p xs ≡ count_below (λ j. passes p (slice_get xs j)) (length xs) = count_by-below p xs in omega arith)
     ]
@@ -186,8 +200,10 @@ given_up-agree : (o : Option Life) → passes is_given_up (option_map kept_as o)
 given_up-agree None = refl
 given_up-agree (Some l) = refl
 
-pub given_up_count : (s : Settings) (past : List Call) → AreRequests past → count_by is_given_up (kept s past) ≡ count_below (λ k. passes is_given_up_life (life s past k)) (count_made s past)
+pub given_up_count : (s : Settings) (past : List Call) → AreRequests past
+    → count_by is_given_up (kept s past) ≡ count_below (λ k. passes is_given_up_life (life s past k)) (count_made s past)
 given_up_count s past are =
     count_by-below is_given_up (kept s past)
     ∙ ap (count_below (λ j. passes is_given_up (slice_get (kept s past) j))) (counts s past)
-    ∙ count_below-same (λ j. passes is_given_up (slice_get (kept s past) j)) (λ k. passes is_given_up_life (life s past k)) (λ j. ap (passes is_given_up) (agrees s past are j) ∙ given_up-agree (life s past j)) (count_made s past)
+    ∙ count_below-same (λ j. passes is_given_up (slice_get (kept s past) j)) (λ k. passes is_given_up_life (life s past k))
+      (λ j. ap (passes is_given_up) (agrees s past are j) ∙ given_up-agree (life s past j)) (count_made s past)

@@ -8,7 +8,8 @@ use Rattle.siman_manager.specs.declared.settings.Settings.{Settings}
 use Rattle.siman_manager.specs.Book.{changed_through, is_due, is_ready, looked_at, resent, with_stamp, repeated}
 
 -- the walk ends at an item that passes
-pub ends_here : {X : Type 0} (p : X → Bool) (f : X → X) (xs : List X) (i : ℕ) (x y : X) → slice_get xs i ≡ Some x → p x ≡ true → y ≡ f x → set xs i y ≡ take i xs ++ changed_through p f (drop i xs)
+pub ends_here : {X : Type 0} (p : X → Bool) (f : X → X) (xs : List X) (i : ℕ) (x y : X) → slice_get xs i ≡ Some x → p x ≡ true → y ≡ f x
+    → set xs i y ≡ take i xs ++ changed_through p f (drop i xs)
 ends_here p f [] i x y at r l = absurd cc
 ends_here p f (k ∷ ks) zero x y at r l = let same : k ≡ x = cc in rw (same, r, l) refl
 ends_here p f (k ∷ ks) (suc i) x y at r l = ap (λ zs. k ∷ zs) (ends_here p f ks i x y at r l)
@@ -26,7 +27,8 @@ goes_on p f [] i x y at r l = absurd cc
 goes_on p f (k ∷ ks) zero x y at r l = let same : k ≡ x = cc in rw (same, r, l) refl
 goes_on p f (k ∷ ks) (suc i) x y at r l = ap (λ zs. k ∷ zs) (goes_on p f ks i x y at r l)
 
-pub finds_on : {X : Type 0} (p : X → Bool) (xs : List X) (i : ℕ) (x y : X) → slice_get xs i ≡ Some x → p x ≡ false → find p (drop (suc i) (set xs i y)) ≡ find p (drop i xs)
+pub finds_on : {X : Type 0} (p : X → Bool) (xs : List X) (i : ℕ) (x y : X) → slice_get xs i ≡ Some x → p x ≡ false
+    → find p (drop (suc i) (set xs i y)) ≡ find p (drop i xs)
 finds_on p [] i x y at r = absurd cc
 finds_on p (k ∷ ks) zero x y at r = let same : k ≡ x = cc in rw (same, r) refl
 finds_on p (k ∷ ks) (suc i) x y at r = finds_on p ks i x y at r
@@ -54,10 +56,12 @@ take-one_more [] i x at = absurd cc
 take-one_more (k ∷ ks) zero x at = let same : k ≡ x = cc in ap (λ z. z ∷ []) same
 take-one_more (k ∷ ks) (suc i) x at = ap (λ zs. k ∷ zs) (take-one_more ks i x at)
 
-pub count-one_more : {X : Type 0} (p : X → Bool) (xs : List X) (i : ℕ) (x : X) → slice_get xs i ≡ Some x → count_by p (take (i + 1) xs) ≡ count_by p (take i xs) + cond (p x) 1 0
+pub count-one_more : {X : Type 0} (p : X → Bool) (xs : List X) (i : ℕ) (x : X) → slice_get xs i ≡ Some x
+    → count_by p (take (i + 1) xs) ≡ count_by p (take i xs) + cond (p x) 1 0
 count-one_more p xs i x at =
     let zero_first : 0 + cond (p x) 1 0 ≡ cond (p x) 1 0 = omega arith in
-    ap (λ n. count_by p (take n xs)) (add-one i) ∙ ap (count_by p) (take-one_more xs i x at) ∙ sum_by-append (λ z. cond (p z) 1 0) (take i xs) (x ∷ []) ∙ ap (λ n. count_by p (take i xs) + n) zero_first
+    ap (λ n. count_by p (take n xs)) (add-one i) ∙ ap (count_by p) (take-one_more xs i x at) ∙ sum_by-append (λ z. cond (p z) 1 0) (take i xs) (x ∷ []) ∙ ap
+      (λ n. count_by p (take i xs) + n) zero_first
 
 pub if_both : {X : Type 0} (a b : Bool) (x y z : X) → (a && b) ≡ true → (if a then (if b then x else y) else z) ≡ x
 if_both true true x y z e = refl
@@ -69,7 +73,8 @@ pub looked-ready : (s : Settings) (now stamp : ℕ) (k : KeptOrder) → is_ready
 looked-ready s now stamp k e = if_both (is_due s now k) (nat_lt k.sends s.tries) (resent now stamp k) (record k { standing = standings.GivenUp }) k e
 
 -- what the walk sends is what stands where it ended
-pub sent_here : (s : Settings) (now stamp : ℕ) (xs : List KeptOrder) (i : ℕ) (x y : KeptOrder) → slice_get xs i ≡ Some x → is_ready s now x ≡ true → y ≡ looked_at s now stamp x
+pub sent_here : (s : Settings) (now stamp : ℕ) (xs : List KeptOrder) (i : ℕ) (x y : KeptOrder) → slice_get xs i ≡ Some x → is_ready s now x ≡ true
+    → y ≡ looked_at s now stamp x
     → option_map (λ k. k.pdu) (slice_get (set xs i y) i) ≡ repeated s now stamp (drop i xs)
 sent_here s now stamp xs i x y at r l =
     ap (option_map (λ (k : KeptOrder). k.pdu)) (slice_get-set xs i x y at)

@@ -34,11 +34,13 @@ some_iff : {X : Type 0} (o : Option X) (P Q : Type 0) (v w : X) → (P → Q) �
 some_iff None P Q v w f g e h = λ q. h (g q)
 some_iff (Some x) P Q v w f g e h = (f h.0, h.1 ∙ e h.0)
 
-next_number : (id n first i : ℕ) (b : Bool) → (id == first) ≡ b → SomeIff (position_from (nat_eq id) (i + 1) (numbers_from (suc first) n)) ((suc first ≤ id) × (id < suc first + n)) (i + 1 + (id - suc first))
+next_number : (id n first i : ℕ) (b : Bool) → (id == first) ≡ b
+    → SomeIff (position_from (nat_eq id) (i + 1) (numbers_from (suc first) n)) ((suc first ≤ id) × (id < suc first + n)) (i + 1 + (id - suc first))
     → SomeIff (cond b (Some i) (position_from (nat_eq id) (i + 1) (numbers_from (suc first) n))) ((first ≤ id) × (id < first + suc n)) (i + (id - first))
 next_number id n first i true t rest = let same : id ≡ first = grind (arith, nat_tests) in ((omega arith, omega arith), omega arith)
 next_number id n first i false t rest =
-    some_iff (position_from (nat_eq id) (i + 1) (numbers_from (suc first) n)) ((suc first ≤ id) × (id < suc first + n)) ((first ≤ id) × (id < first + suc n)) (i + 1 + (id - suc first)) (i + (id - first))
+    some_iff (position_from (nat_eq id) (i + 1) (numbers_from (suc first) n)) ((suc first ≤ id) × (id < suc first + n)) ((first ≤ id) × (id < first + suc n))
+      (i + 1 + (id - suc first)) (i + (id - first))
     (λ h. let low : suc first ≤ id = h.0 in let high : id < suc first + n = h.1 in (omega arith, omega arith))
     (λ h. let low : first ≤ id = h.0 in let high : id < first + suc n = h.1 in let up : suc first ≤ id = above low in (up, omega arith))
     (λ h. let low : suc first ≤ id = h.0 in omega arith)
@@ -52,7 +54,8 @@ place-numbers id zero first i = λ h. let low : first ≤ id = h.0 in let high :
 place-numbers id (suc n) first i = next_number id n first i (id == first) refl (place-numbers id n (suc first) (i + 1))
 
 -- The place of an identifier in a table that is numbered.
-pub place_known : (first id : ℕ) (m : Table) → IsNumbered first m → SomeIff (position (nat_eq id) (keys m)) ((first ≤ id) × (id < first + index_map_len m)) (id - first)
+pub place_known : (first id : ℕ) (m : Table) → IsNumbered first m
+    → SomeIff (position (nat_eq id) (keys m)) ((first ≤ id) × (id < first + index_map_len m)) (id - first)
 place_known first id m numbered =
     subst (λ (v : ℕ). SomeIff (position (nat_eq id) (keys m)) ((first ≤ id) × (id < first + index_map_len m)) v) zero_first
     (subst (λ (o : Option ℕ). SomeIff o ((first ≤ id) × (id < first + index_map_len m)) (0 + (id - first)))
@@ -75,7 +78,8 @@ tail_of a b xs ys e = cc
 head_of : (a b : ℕ) (xs ys : List ℕ) → a ∷ xs ≡ b ∷ ys → a ≡ b
 head_of a b xs ys e = cc
 
-pub inserts_next : (es : List (ℕ × KeptOrder)) (first id : ℕ) (kept : KeptOrder) → keys_of es ≡ numbers_from first (length es) → id ≡ first + length es → InsertsNext first es (insert_entry nat_eq es id kept) kept
+pub inserts_next : (es : List (ℕ × KeptOrder)) (first id : ℕ) (kept : KeptOrder) → keys_of es ≡ numbers_from first (length es)
+    → id ≡ first + length es → InsertsNext first es (insert_entry nat_eq es id kept) kept
 inserts_next [] first id kept e at = let same : id ≡ first = omega arith in record { keys = ap (λ i. i ∷ []) same; values = refl; len = refl }
 inserts_next (x ∷ es) first id kept e at =
     let key : x.0 ≡ first = head_of x.0 first (keys_of es) (numbers_from (suc first) (length es)) e in
@@ -86,6 +90,8 @@ inserts_next (x ∷ es) first id kept e at =
     (sym (ap (λ (b : Bool). if b then (x.0, kept) ∷ es else x ∷ insert_entry nat_eq es id kept) apart))
     (record { keys = ap (λ ns. x.0 ∷ ns) rest.keys ∙ ap (λ i. i ∷ numbers_from (suc first) (suc (length es))) key; values = ap (λ vs. x.1 ∷ vs) rest.values; len = ap suc rest.len })
 
-pub made_next : (first id : ℕ) (old new : Table) (kept : KeptOrder) → IsNumbered first old → id ≡ first + index_map_len old → new.entries ≡ insert_entry nat_eq old.entries id kept
+pub made_next : (first id : ℕ) (old new : Table) (kept : KeptOrder) → IsNumbered first old → id ≡ first + index_map_len old
+    → new.entries ≡ insert_entry nat_eq old.entries id kept
     → InsertsNext first old.entries new.entries kept
-made_next first id old new kept numbered at e = subst (λ (es : List (ℕ × KeptOrder)). InsertsNext first old.entries es kept) (sym e) (inserts_next old.entries first id kept numbered at)
+made_next first id old new kept numbered at e =
+    subst (λ (es : List (ℕ × KeptOrder)). InsertsNext first old.entries es kept) (sym e) (inserts_next old.entries first id kept numbered at)

@@ -17,18 +17,21 @@ if_true false x y e = absurd cc
 pub nat_le-true : (m n : ℕ) → m ≤ n → nat_le m n ≡ true
 nat_le-true m n h = grind (arith, nat_tests)
 
-pub order_known : (s : Settings) (orders : List KeptOrder) (id place : ℕ) (x : KeptOrder) → s.first_id ≤ id → place ≡ id - s.first_id → slice_get orders place ≡ Some x → order_of s orders id ≡ Some x
+pub order_known : (s : Settings) (orders : List KeptOrder) (id place : ℕ) (x : KeptOrder) → s.first_id ≤ id → place ≡ id - s.first_id
+    → slice_get orders place ≡ Some x → order_of s orders id ≡ Some x
 order_known s orders id place x low is at =
     if_true (nat_le s.first_id id) (slice_get orders (id - s.first_id)) None (nat_le-true s.first_id id low)
     ∙ ap (slice_get orders) (sym is) ∙ at
 
-pub taken_known : (s : Settings) (p : Pdu) (orders : List KeptOrder) (id place : ℕ) (x : KeptOrder) → p.exercise ≡ s.exercise → request_id_of p.body ≡ Some id
+pub taken_known : (s : Settings) (p : Pdu) (orders : List KeptOrder) (id place : ℕ) (x : KeptOrder) → p.exercise ≡ s.exercise
+    → request_id_of p.body ≡ Some id
     → s.first_id ≤ id → place ≡ id - s.first_id → slice_get orders place ≡ Some x → taken_as s p orders ≡ judged id p x
 taken_known s p orders id place x e r low is at =
     if_true (p.exercise == s.exercise) (taken_under s p orders (request_id_of p.body)) taken.Foreign (eq-eqb p.exercise s.exercise e)
     ∙ ap (taken_under s p orders) r ∙ ap (judged_if id p) (order_known s orders id place x low is at)
 
-pub settled_known : (s : Settings) (p : Pdu) (orders : List KeptOrder) (id place : ℕ) (x : KeptOrder) → p.exercise ≡ s.exercise → request_id_of p.body ≡ Some id
+pub settled_known : (s : Settings) (p : Pdu) (orders : List KeptOrder) (id place : ℕ) (x : KeptOrder) → p.exercise ≡ s.exercise
+    → request_id_of p.body ≡ Some id
     → s.first_id ≤ id → place ≡ id - s.first_id → slice_get orders place ≡ Some x → after_take s p orders ≡ set orders place (settled p x)
 settled_known s p orders id place x e r low is at =
     if_true (p.exercise == s.exercise) (settled_under s p orders (request_id_of p.body)) orders (eq-eqb p.exercise s.exercise e)
@@ -36,7 +39,8 @@ settled_known s p orders id place x e r low is at =
     ∙ ap (λ (i : ℕ). set orders i (settled p x)) (sym is)
 
 -- no order of an identifier that is out of the table
-pub order_unknown : (s : Settings) (orders : List KeptOrder) (id : ℕ) → ((s.first_id ≤ id) × (id < s.first_id + length orders) → ⊥) → order_of s orders id ≡ None
+pub order_unknown : (s : Settings) (orders : List KeptOrder) (id : ℕ) → ((s.first_id ≤ id) × (id < s.first_id + length orders) → ⊥)
+    → order_of s orders id ≡ None
 order_unknown s orders id h = side (nat_le s.first_id id) refl where
   side : (b : Bool) → nat_le s.first_id id ≡ b → (if b then slice_get orders (id - s.first_id) else None) ≡ None
   side false t = refl

@@ -20,17 +20,20 @@ use Rattle.siman_pdus.proofs.Ends.{total-append, total-replicate}
 
 -- ---- datums
 
-pub total-datum_sizes : (counts : ℕ) (b : List ℕ) → total (datum_sizes counts b) ≡ 8 * number_at w32 counts b + total (variable_sizes (number_at w32 (counts + 4) b) (variable_start counts b) b)
+pub total-datum_sizes : (counts : ℕ) (b : List ℕ)
+    → total (datum_sizes counts b) ≡ 8 * number_at w32 counts b + total (variable_sizes (number_at w32 (counts + 4) b) (variable_start counts b) b)
 total-datum_sizes counts b =
     let ms : List ℕ = replicate (number_at w32 counts b) 8 in
     let ns : List ℕ = variable_sizes (number_at w32 (counts + 4) b) (variable_start counts b) b in
     omega (arith, total-append ms ns, total-replicate (number_at w32 counts b) 8)
 
 pub datums_fit : (counts : ℕ) (b : List ℕ) → counts + 8 + total (datum_sizes counts b) ≤ length b → DatumsFit counts b
-datums_fit counts b le = let e = total-datum_sizes counts b in record { counts_fit = omega arith; fixed_fit = omega arith; variable_fit = omega arith }
+datums_fit counts b le =
+    let e = total-datum_sizes counts b in record { counts_fit = omega arith; fixed_fit = omega arith; variable_fit = omega arith }
 
 -- what is read of datums stands there
-pub datums_stand : (counts : ℕ) (b : List ℕ) → StandAt (datums_layout (datums_at counts b)) counts b × (size (datums_layout (datums_at counts b)) ≡ 8 + total (datum_sizes counts b))
+pub datums_stand : (counts : ℕ) (b : List ℕ)
+    → StandAt (datums_layout (datums_at counts b)) counts b × (size (datums_layout (datums_at counts b)) ≡ 8 + total (datum_sizes counts b))
 unfolding datums_at
 datums_stand counts b =
     let m = number_at w32 counts b in
@@ -44,16 +47,19 @@ datums_stand counts b =
     let records = variable_stand n start b in
     let first : counts + 8 ≡ counts + 4 + 4 = omega arith in
     let second : start ≡ counts + 8 + size (fixed_layouts fixed) = omega (arith, fixed_size) in
-    let both = join (fixed_layouts fixed) (variable_layouts variable) (counts + 8) b (fixed_stand m (counts + 8) b) (subst (λ (k : ℕ). StandAt (variable_layouts variable) k b) second records.0) in (
+    let both = join (fixed_layouts fixed) (variable_layouts variable) (counts + 8) b (fixed_stand m (counts + 8) b)
+      (subst (λ (k : ℕ). StandAt (variable_layouts variable) k b) second records.0) in (
       (fixed_count, (variable_count, subst (λ (k : ℕ). StandAt (fixed_layouts fixed ++ variable_layouts variable) k b) first both)),
       omega (arith, size-append (fixed_layouts fixed) (variable_layouts variable), fixed_size, records.1, total-datum_sizes counts b),
     )
 
-same_datums : (d : DatumLists) (fixed : List FixedDatum) (variable : List Datum) → d.fixed ≡ fixed → d.variable ≡ variable → d ≡ record { fixed = fixed; variable = variable }
+same_datums : (d : DatumLists) (fixed : List FixedDatum) (variable : List Datum) → d.fixed ≡ fixed → d.variable ≡ variable
+    → d ≡ record { fixed = fixed; variable = variable }
 same_datums d fixed variable p q = rw (← p, ← q) refl
 
 -- datums that stand there are read
-pub datums_again : (d : DatumLists) (counts : ℕ) (b : List ℕ) → StandAt (datums_layout d) counts b → (d ≡ datums_at counts b) × (size (datums_layout d) ≡ 8 + total (datum_sizes counts b))
+pub datums_again : (d : DatumLists) (counts : ℕ) (b : List ℕ) → StandAt (datums_layout d) counts b
+    → (d ≡ datums_at counts b) × (size (datums_layout d) ≡ 8 + total (datum_sizes counts b))
 unfolding datums_at
 datums_again d counts b stand =
     let m = number_at w32 counts b in
@@ -61,7 +67,8 @@ datums_again d counts b stand =
     let fixed_count : length d.fixed ≡ m = stand.0 in
     let variable_count : length d.variable ≡ n = stand.1.0 in
     let first : counts + 4 + 4 ≡ counts + 8 = omega arith in
-    let both = split (fixed_layouts d.fixed) (variable_layouts d.variable) (counts + 8) b (subst (λ (k : ℕ). StandAt (fixed_layouts d.fixed ++ variable_layouts d.variable) k b) first stand.1.1) in
+    let both = split (fixed_layouts d.fixed) (variable_layouts d.variable) (counts + 8) b
+      (subst (λ (k : ℕ). StandAt (fixed_layouts d.fixed ++ variable_layouts d.variable) k b) first stand.1.1) in
     let fixed_size : size (fixed_layouts d.fixed) ≡ 8 * m = omega (arith, size-fixed_layouts d.fixed, fixed_count) in
     let second : counts + 8 + size (fixed_layouts d.fixed) ≡ variable_start counts b = omega (arith, fixed_size) in
     let fixed = fixed_is d.fixed (counts + 8) b both.0 in
@@ -69,7 +76,8 @@ datums_again d counts b stand =
       same_datums d (fixed_at m (counts + 8) b) (map canonical (variable_at n (variable_start counts b) b))
           (fixed ∙ ap (λ (k : ℕ). fixed_at k (counts + 8) b) fixed_count)
           (variable.0 ∙ ap (λ (k : ℕ). map canonical (variable_at k (variable_start counts b) b)) variable_count),
-      let sizes : total (variable_sizes (length d.variable) (variable_start counts b) b) ≡ total (variable_sizes n (variable_start counts b) b) = ap (λ (k : ℕ). total (variable_sizes k (variable_start counts b) b)) variable_count in
+      let sizes : total (variable_sizes (length d.variable) (variable_start counts b) b) ≡ total (variable_sizes n (variable_start counts b) b) = ap
+        (λ (k : ℕ). total (variable_sizes k (variable_start counts b) b)) variable_count in
           omega (arith, size-append (fixed_layouts d.fixed) (variable_layouts d.variable), fixed_size, variable.1, sizes, total-datum_sizes counts b),
     )
 
@@ -89,7 +97,8 @@ abbrev ids_start : ℕ → List ℕ → ℕ
 ids_start counts b = counts + 8 + 4 * number_at w32 counts b
 
 -- what is read of identifiers stands there
-pub id_lists_stand : (counts : ℕ) (b : List ℕ) → StandAt (ids_layout (id_lists_at counts b)) counts b × (size (ids_layout (id_lists_at counts b)) ≡ 8 + total (id_sizes counts b))
+pub id_lists_stand : (counts : ℕ) (b : List ℕ)
+    → StandAt (ids_layout (id_lists_at counts b)) counts b × (size (ids_layout (id_lists_at counts b)) ≡ 8 + total (id_sizes counts b))
 unfolding id_lists_at
 id_lists_stand counts b =
     let m = number_at w32 counts b in
@@ -103,7 +112,8 @@ id_lists_stand counts b =
     let variable_size : size (id_layouts variable) ≡ 4 * n = omega (arith, size-id_layouts variable, variable_count) in
     let first : counts + 8 ≡ counts + 4 + 4 = omega arith in
     let second : start ≡ counts + 8 + size (id_layouts fixed) = omega (arith, fixed_size) in
-    let both = join (id_layouts fixed) (id_layouts variable) (counts + 8) b (ids_stand m (counts + 8) b) (subst (λ (k : ℕ). StandAt (id_layouts variable) k b) second (ids_stand n start b)) in (
+    let both = join (id_layouts fixed) (id_layouts variable) (counts + 8) b (ids_stand m (counts + 8) b)
+      (subst (λ (k : ℕ). StandAt (id_layouts variable) k b) second (ids_stand n start b)) in (
       (fixed_count, (variable_count, subst (λ (k : ℕ). StandAt (id_layouts fixed ++ id_layouts variable) k b) first both)),
       omega (arith, size-append (id_layouts fixed) (id_layouts variable), fixed_size, variable_size, total-id_sizes counts b),
     )
@@ -112,7 +122,8 @@ same_id_lists : (d : IdLists) (fixed variable : List ℕ) → d.fixed ≡ fixed 
 same_id_lists d fixed variable p q = rw (← p, ← q) refl
 
 -- identifiers that stand there are read
-pub ids_again : (d : IdLists) (counts : ℕ) (b : List ℕ) → StandAt (ids_layout d) counts b → (d ≡ id_lists_at counts b) × (size (ids_layout d) ≡ 8 + total (id_sizes counts b))
+pub ids_again : (d : IdLists) (counts : ℕ) (b : List ℕ) → StandAt (ids_layout d) counts b
+    → (d ≡ id_lists_at counts b) × (size (ids_layout d) ≡ 8 + total (id_sizes counts b))
 unfolding id_lists_at
 ids_again d counts b stand =
     let m = number_at w32 counts b in
@@ -121,7 +132,8 @@ ids_again d counts b stand =
     let fixed_count : length d.fixed ≡ m = stand.0 in
     let variable_count : length d.variable ≡ n = stand.1.0 in
     let first : counts + 4 + 4 ≡ counts + 8 = omega arith in
-    let both = split (id_layouts d.fixed) (id_layouts d.variable) (counts + 8) b (subst (λ (k : ℕ). StandAt (id_layouts d.fixed ++ id_layouts d.variable) k b) first stand.1.1) in
+    let both = split (id_layouts d.fixed) (id_layouts d.variable) (counts + 8) b
+      (subst (λ (k : ℕ). StandAt (id_layouts d.fixed ++ id_layouts d.variable) k b) first stand.1.1) in
     let fixed_size : size (id_layouts d.fixed) ≡ 4 * m = omega (arith, size-id_layouts d.fixed, fixed_count) in
     let variable_size : size (id_layouts d.variable) ≡ 4 * n = omega (arith, size-id_layouts d.variable, variable_count) in
     let second : counts + 8 + size (id_layouts d.fixed) ≡ start = omega (arith, fixed_size) in
@@ -148,12 +160,18 @@ body_stands kinds.RemoveEntity b e = record { kind_is = refl; stand = (refl, tt)
 body_stands kinds.StartResume b e = record { kind_is = refl; stand = (refl, (refl, (refl, (refl, (refl, tt))))); whole_is = omega arith }
 body_stands kinds.StopFreeze b e = record { kind_is = refl; stand = (refl, (refl, (refl, (refl, (tt, (refl, tt)))))); whole_is = omega arith }
 body_stands kinds.Acknowledge b e = record { kind_is = refl; stand = (refl, (refl, (refl, tt))); whole_is = omega arith }
-body_stands kinds.ActionRequest b e = let datums = datums_stand 32 b in record { kind_is = refl; stand = (refl, (refl, datums.0)); whole_is = omega (arith, datums.1) }
-body_stands kinds.ActionResponse b e = let datums = datums_stand 32 b in record { kind_is = refl; stand = (refl, (refl, datums.0)); whole_is = omega (arith, datums.1) }
-body_stands kinds.DataQuery b e = let ids = id_lists_stand 32 b in record { kind_is = refl; stand = (refl, (refl, ids.0)); whole_is = omega (arith, ids.1) }
-body_stands kinds.SetData b e = let datums = datums_stand 32 b in record { kind_is = refl; stand = (refl, (tt, datums.0)); whole_is = omega (arith, datums.1) }
-body_stands kinds.DataPdu b e = let datums = datums_stand 32 b in record { kind_is = refl; stand = (refl, (tt, datums.0)); whole_is = omega (arith, datums.1) }
-body_stands kinds.EventReport b e = let datums = datums_stand 32 b in record { kind_is = refl; stand = (refl, (tt, datums.0)); whole_is = omega (arith, datums.1) }
+body_stands kinds.ActionRequest b e =
+    let datums = datums_stand 32 b in record { kind_is = refl; stand = (refl, (refl, datums.0)); whole_is = omega (arith, datums.1) }
+body_stands kinds.ActionResponse b e =
+    let datums = datums_stand 32 b in record { kind_is = refl; stand = (refl, (refl, datums.0)); whole_is = omega (arith, datums.1) }
+body_stands kinds.DataQuery b e =
+    let ids = id_lists_stand 32 b in record { kind_is = refl; stand = (refl, (refl, ids.0)); whole_is = omega (arith, ids.1) }
+body_stands kinds.SetData b e =
+    let datums = datums_stand 32 b in record { kind_is = refl; stand = (refl, (tt, datums.0)); whole_is = omega (arith, datums.1) }
+body_stands kinds.DataPdu b e =
+    let datums = datums_stand 32 b in record { kind_is = refl; stand = (refl, (tt, datums.0)); whole_is = omega (arith, datums.1) }
+body_stands kinds.EventReport b e =
+    let datums = datums_stand 32 b in record { kind_is = refl; stand = (refl, (tt, datums.0)); whole_is = omega (arith, datums.1) }
 body_stands kinds.Comment b e = let datums = datums_stand 24 b in record { kind_is = refl; stand = datums.0; whole_is = omega (arith, datums.1) }
 
 same_time : (t : ClockTime) (hour past : ℕ) → t.hour ≡ hour → t.past ≡ past → t ≡ record { hour = hour; past = past }
@@ -174,7 +192,8 @@ body_again (StartResume real sim request) b stand all =
     let z = stand.1.1.1.1.0 in
     record { read = cc; whole = omega arith }
 body_again (StopFreeze real reason behaviour request) b stand all =
-    let time = same_time real (number_at w32 24 b) (number_at w32 28 b) stand.0 stand.1.0 in let p = stand.1.1.0 in let q = stand.1.1.1.0 in let r = stand.1.1.1.1.1.0 in
+    let time = same_time real (number_at w32 24 b)
+      (number_at w32 28 b) stand.0 stand.1.0 in let p = stand.1.1.0 in let q = stand.1.1.1.0 in let r = stand.1.1.1.1.1.0 in
     record { read = cc; whole = omega arith }
 body_again (Acknowledge flag response request) b stand all =
     record { read = let p = stand.0 in let q = stand.1.0 in let r = stand.1.1.0 in cc; whole = omega arith }

@@ -88,15 +88,18 @@ time t h = (number32 t.hour h.0, (number32 t.past h.1, tt))
 
 fixed : (ds : List FixedDatum) → All IsFixedInRange ds → Carry (fixed_layouts ds)
 fixed [] h = tt
-fixed (d ∷ ds) h = let one = All-head IsFixedInRange d ds h in (number32 d.id one.0, (number32 d.value one.1, fixed ds (All-tail IsFixedInRange d ds h)))
+fixed (d ∷ ds) h =
+    let one = All-head IsFixedInRange d ds h in (number32 d.id one.0, (number32 d.value one.1, fixed ds (All-tail IsFixedInRange d ds h)))
 
 variable_one : (d : Datum) → IsVariableInRange d → Carry (variable_layout d)
-variable_one d h = (number32 d.id h.id, (number32 d.bits h.bits, (record { fits = (h.value.size, h.value.unused); bytes = h.bytes }, (padding _, tt))))
+variable_one d h =
+    (number32 d.id h.id, (number32 d.bits h.bits, (record { fits = (h.value.size, h.value.unused); bytes = h.bytes }, (padding _, tt))))
 
 variable : (ds : List Datum) → All IsVariableInRange ds → Carry (variable_layouts ds)
 variable [] h = tt
 variable (d ∷ ds) h =
-    Carry-append (variable_layout d) (variable_layouts ds) (variable_one d (All-head IsVariableInRange d ds h)) (variable ds (All-tail IsVariableInRange d ds h))
+    Carry-append (variable_layout d) (variable_layouts ds) (variable_one d (All-head IsVariableInRange d ds h))
+      (variable ds (All-tail IsVariableInRange d ds h))
 
 abbrev IsId : ℕ → Type 0
 IsId id = id < 2 ^ 32
@@ -107,16 +110,19 @@ identifiers (id ∷ xs) h = (number32 id (All-head IsId id xs h), identifiers xs
 
 datums : (d : DatumLists) → AreDatumsInRange d → size (datums_layout d) ≤ LARGEST_DATAGRAM → Carry (datums_layout d)
 datums d h le =
-    let all : size (fixed_layouts d.fixed ++ variable_layouts d.variable) ≡ size (fixed_layouts d.fixed) + size (variable_layouts d.variable) = size_join _ _ in (
+    let all : size (fixed_layouts d.fixed ++ variable_layouts d.variable) ≡ size (fixed_layouts d.fixed) + size (variable_layouts d.variable) = size_join _ _ in
+      (
       number32 (length d.fixed) (omega (arith, all, size_fixed d.fixed)),
-      (number32 (length d.variable) (omega (arith, all, variable_least d.variable)), Carry-append (fixed_layouts d.fixed) (variable_layouts d.variable) (fixed d.fixed h.0) (variable d.variable h.1)),
+      (number32 (length d.variable) (omega (arith, all, variable_least d.variable)), Carry-append (fixed_layouts d.fixed) (variable_layouts d.variable)
+        (fixed d.fixed h.0) (variable d.variable h.1)),
     )
 
 ids : (d : IdLists) → AreIdsInRange d → size (ids_layout d) ≤ LARGEST_DATAGRAM → Carry (ids_layout d)
 ids d h le =
     let all : size (id_layouts d.fixed ++ id_layouts d.variable) ≡ size (id_layouts d.fixed) + size (id_layouts d.variable) = size_join _ _ in (
       number32 (length d.fixed) (omega (arith, all, size_ids d.fixed)),
-      (number32 (length d.variable) (omega (arith, all, size_ids d.variable)), Carry-append (id_layouts d.fixed) (id_layouts d.variable) (identifiers d.fixed h.0) (identifiers d.variable h.1)),
+      (number32 (length d.variable) (omega (arith, all, size_ids d.variable)), Carry-append (id_layouts d.fixed) (id_layouts d.variable)
+        (identifiers d.fixed h.0) (identifiers d.variable h.1)),
     )
 
 -- ---- bodies
@@ -124,7 +130,8 @@ ids d h le =
 body : (b : Body) → IsBodyInRange b → size (body_layout b) ≤ LARGEST_DATAGRAM → Carry (body_layout b)
 body (CreateEntity request) h le = (number32 request h, tt)
 body (RemoveEntity request) h le = (number32 request h, tt)
-body (StartResume real sim request) h le = (number32 real.hour h.0.0, (number32 real.past h.0.1, (number32 sim.hour h.1.0, (number32 sim.past h.1.1, (number32 request h.2, tt)))))
+body (StartResume real sim request) h le =
+    (number32 real.hour h.0.0, (number32 real.past h.0.1, (number32 sim.hour h.1.0, (number32 sim.past h.1.1, (number32 request h.2, tt)))))
 body (StopFreeze real reason behaviour request) h le =
     (number32 real.hour h.0.0, (number32 real.past h.0.1, (byte reason h.1, (byte behaviour h.2, (padding 2, (number32 request h.3, tt))))))
 body (Acknowledge flag response request) h le = (number16 flag h.0, (number16 response h.1, (number32 request h.2, tt)))

@@ -23,10 +23,12 @@ ends-append at (m ∷ ms) ns len =
     ]
 
 -- a part that is there, and the others after it
-pub goes_on : (at n end len : ℕ) (ns : List ℕ) (all : Result ℕ PduFault) → ends at (n ∷ []) len ≡ Ok end → ends at (n ∷ ns) len ≡ all → ends end ns len ≡ all
+pub goes_on : (at n end len : ℕ) (ns : List ℕ) (all : Result ℕ PduFault) → ends at (n ∷ []) len ≡ Ok end → ends at (n ∷ ns) len ≡ all
+    → ends end ns len ≡ all
 goes_on at n end len ns all here so_far = sym (ends-append at (n ∷ []) ns len ∙ rw here refl) ∙ so_far
 
-pub stops : (at n len : ℕ) (fault : PduFault) (ns : List ℕ) (all : Result ℕ PduFault) → ends at (n ∷ []) len ≡ Err fault → ends at (n ∷ ns) len ≡ all → all ≡ Err fault
+pub stops : (at n len : ℕ) (fault : PduFault) (ns : List ℕ) (all : Result ℕ PduFault) → ends at (n ∷ []) len ≡ Err fault → ends at (n ∷ ns) len ≡ all
+    → all ≡ Err fault
 stops at n len fault ns all here so_far = sym so_far ∙ ends-append at (n ∷ []) ns len ∙ rw here refl
 
 -- a part whose head is not there
@@ -46,7 +48,8 @@ one_more count i lt = omega arith
 abbrev pub first_size : ℕ → List ℕ → ℕ
 first_size at b = padded (number_at w32 (at + 4) b)
 
-pub sizes_step : (count i at : ℕ) (b : List ℕ) → i < count → variable_sizes (count - i) at b ≡ first_size at b ∷ variable_sizes (count - (i + 1)) (at + first_size at b) b
+pub sizes_step : (count i at : ℕ) (b : List ℕ) → i < count
+    → variable_sizes (count - i) at b ≡ first_size at b ∷ variable_sizes (count - (i + 1)) (at + first_size at b) b
 sizes_step count i at b lt =
     let e : count - i - 1 ≡ count - (i + 1) = omega arith in
     rw e at (sizes_more (count - i) at b (omega arith))

@@ -83,10 +83,12 @@ cleared_bytes : (bits : ℕ) (xs : List ℕ) → All IsByte xs → All IsByte (c
 cleared_bytes bits [] h = All-nil IsByte
 cleared_bytes bits (byte ∷ xs) h =
     let small : byte < 2 ^ 8 = All-head IsByte byte xs h in
-    All-cons IsByte (first_bits bits byte) (cleared (bits - 8) xs) (omega (arith, first_bits_least bits byte, small)) (cleared_bytes (bits - 8) xs (All-tail IsByte byte xs h))
+    All-cons IsByte (first_bits bits byte) (cleared (bits - 8) xs) (omega (arith, first_bits_least bits byte, small))
+      (cleared_bytes (bits - 8) xs (All-tail IsByte byte xs h))
 
 -- a datum with its unused bits zero
-canonical_in_range : (d : Datum) → d.id < 2 ^ 32 → d.bits < 2 ^ 32 → All IsByte d.bytes → length d.bytes ≡ bytes_for d.bits → IsVariableInRange (canonical d)
+canonical_in_range : (d : Datum) → d.id < 2 ^ 32 → d.bits < 2 ^ 32 → All IsByte d.bytes → length d.bytes ≡ bytes_for d.bits
+    → IsVariableInRange (canonical d)
 canonical_in_range d id bits bytes len = record {
   id = id;
   bits = bits;
@@ -104,7 +106,8 @@ module _ (b : List ℕ) (bytes : AreBytes b) where
       let len : length value ≡ bytes_for bits = omega (arith, length-take (bytes_for bits) (drop (at + 8) b), length-drop (at + 8) b) in
       let small = AreBytes-take (bytes_for bits) (drop (at + 8) b) (AreBytes-drop (at + 8) b bytes) in
       All-cons IsVariableInRange _ (map canonical (variable_at n (at + padded bits) b))
-      (canonical_in_range (record { id = number_at w32 at b; bits = bits; bytes = value }) (below32 at b bytes) (below32 (at + 4) b bytes) (All-from_get_or IsByte value 0 (λ i lt. small i)) len)
+      (canonical_in_range (record { id = number_at w32 at b; bits = bits; bytes = value }) (below32 at b bytes) (below32 (at + 4) b bytes)
+        (All-from_get_or IsByte value 0 (λ i lt. small i)) len)
       (variable_in_range n (at + padded bits) (omega arith))
 
 -- ---- bodies
@@ -120,7 +123,8 @@ module _ (b : List ℕ) (bytes : AreBytes b) where
   id_lists_in_range : (counts : ℕ) → AreIdsInRange (id_lists_at counts b)
   unfolding id_lists_at
   id_lists_in_range counts =
-      (ids_in_range b bytes (number_at w32 counts b) (counts + 8), ids_in_range b bytes (number_at w32 (counts + 4) b) (counts + 8 + 4 * number_at w32 counts b))
+      (ids_in_range b bytes (number_at w32 counts b) (counts + 8), ids_in_range b bytes (number_at w32 (counts + 4) b)
+        (counts + 8 + 4 * number_at w32 counts b))
 
   body_in_range : (kind : Kind) → IsWhole kind b → IsBodyInRange (body_at kind b)
   unfolding body_at
@@ -156,6 +160,7 @@ read_in_range b p bytes e =
     subst IsInRange found.1 (pdu_in_range b bytes found.0)
 
 -- what decode answers
-pub decoded_in_range : (r : Result Pdu PduFault) (b : List ℕ) → AreBytes b → IfOk r (λ p. (refusal_of b ≡ None) × (p ≡ pdu_from (header_at b) b)) → IfOk r IsInRange
+pub decoded_in_range : (r : Result Pdu PduFault) (b : List ℕ) → AreBytes b → IfOk r (λ p. (refusal_of b ≡ None) × (p ≡ pdu_from (header_at b) b))
+    → IfOk r IsInRange
 decoded_in_range (Ok p) b bytes e = subst IsInRange (sym e.1) (pdu_in_range b bytes e.0)
 decoded_in_range (Err fault) b bytes e = tt

@@ -17,7 +17,8 @@ same_time_fields : (t u : ClockTime) → t.hour ≡ u.hour → t.past ≡ u.past
 same_time_fields t u p q = rw (p, q) refl
 
 time_decides : (t u : ClockTime) → Decides (same_time t u) (t ≡ u)
-time_decides t u = Decides-like (same_time t u) (λ p. same_time_fields t u p.0 p.1) (λ s. (ap (λ (x : ClockTime). x.hour) s, ap (λ (x : ClockTime). x.past) s))
+time_decides t u =
+    Decides-like (same_time t u) (λ p. same_time_fields t u p.0 p.1) (λ s. (ap (λ (x : ClockTime). x.hour) s, ap (λ (x : ClockTime). x.past) s))
     (Decides-and (t.hour == u.hour) (t.past == u.past) (Decides-eqb t.hour u.hour) (Decides-eqb t.past u.past))
 
 same_entity_fields : (i j : EntityId) → i.site ≡ j.site → i.application ≡ j.application → i.entity ≡ j.entity → i ≡ j
@@ -41,9 +42,11 @@ pub body_same : (a b : Body) → same_body a b ≡ true → a ≡ b
 body_same (CreateEntity m) (CreateEntity n) e = let p = (Decides-eqb m n).0 e in cc
 body_same (RemoveEntity m) (RemoveEntity n) e = let p = (Decides-eqb m n).0 e in cc
 body_same (StartResume r s m) (StartResume r' s' n) e =
-    let p = (Decides-and (same_time r r') (same_time s s' && (m == n)) (time_decides r r') (Decides-and (same_time s s') (m == n) (time_decides s s') (Decides-eqb m n))).0 e in cc
+    let p = (Decides-and (same_time r r') (same_time s s' && (m == n)) (time_decides r r')
+      (Decides-and (same_time s s') (m == n) (time_decides s s') (Decides-eqb m n))).0 e in cc
 body_same (StopFreeze r s t m) (StopFreeze r' s' t' n) e =
-    let p = (Decides-and (same_time r r') ((s == s') && ((t == t') && (m == n))) (time_decides r r') (number_and s s' _ _ (number_and t t' _ _ (Decides-eqb m n)))).0 e in cc
+    let p = (Decides-and (same_time r r') ((s == s') && ((t == t') && (m == n))) (time_decides r r')
+      (number_and s s' _ _ (number_and t t' _ _ (Decides-eqb m n)))).0 e in cc
 body_same (Acknowledge f r m) (Acknowledge f' r' n) e = let p = (number_and f f' _ _ (number_and r r' _ _ (Decides-eqb m n))).0 e in cc
 body_same (ActionRequest m a d) (ActionRequest n a' d') e = let p = (number_and m n _ _ (number_and a a' _ _ (datums_decide d d'))).0 e in cc
 body_same (ActionResponse m a d) (ActionResponse n a' d') e = let p = (number_and m n _ _ (number_and a a' _ _ (datums_decide d d'))).0 e in cc
@@ -57,8 +60,12 @@ body_same a b e = absurd cc
 body_itself : (a : Body) → same_body a a ≡ true
 body_itself (CreateEntity m) = (Decides-eqb m m).1 refl
 body_itself (RemoveEntity m) = (Decides-eqb m m).1 refl
-body_itself (StartResume r s m) = (Decides-and (same_time r r) (same_time s s && (m == m)) (time_decides r r) (Decides-and (same_time s s) (m == m) (time_decides s s) (Decides-eqb m m))).1 (refl, (refl, refl))
-body_itself (StopFreeze r s t m) = (Decides-and (same_time r r) ((s == s) && ((t == t) && (m == m))) (time_decides r r) (number_and s s _ _ (number_and t t _ _ (Decides-eqb m m)))).1 (refl, (refl, (refl, refl)))
+body_itself (StartResume r s m) =
+    (Decides-and (same_time r r) (same_time s s && (m == m)) (time_decides r r) (Decides-and (same_time s s) (m == m) (time_decides s s) (Decides-eqb m m))).1
+      (refl, (refl, refl))
+body_itself (StopFreeze r s t m) =
+    (Decides-and (same_time r r) ((s == s) && ((t == t) && (m == m))) (time_decides r r) (number_and s s _ _ (number_and t t _ _ (Decides-eqb m m)))).1
+      (refl, (refl, (refl, refl)))
 body_itself (Acknowledge f r m) = (number_and f f _ _ (number_and r r _ _ (Decides-eqb m m))).1 (refl, (refl, refl))
 body_itself (ActionRequest m a d) = (number_and m m _ _ (number_and a a _ _ (datums_decide d d))).1 (refl, (refl, refl))
 body_itself (ActionResponse m a d) = (number_and m m _ _ (number_and a a _ _ (datums_decide d d))).1 (refl, (refl, refl))
@@ -71,7 +78,8 @@ body_itself (Comment d) = (datums_decide d d).1 refl
 pub body_decides : (a b : Body) → Decides (same_body a b) (a ≡ b)
 body_decides a b = (body_same a b, λ s. subst (λ (x : Body). same_body a x ≡ true) s (body_itself a))
 
-same_order_fields : (p q : Pdu) → p.version ≡ q.version → p.exercise ≡ q.exercise → p.origin ≡ q.origin → p.target ≡ q.target → p.body ≡ q.body → IsSameOrder p q
+same_order_fields : (p q : Pdu) → p.version ≡ q.version → p.exercise ≡ q.exercise → p.origin ≡ q.origin → p.target ≡ q.target → p.body ≡ q.body
+    → IsSameOrder p q
 same_order_fields p q v x o t b = rw (v, x, o, t, b) refl
 
 pub order_decides : (p q : Pdu) → Decides (is_same_order p q) (IsSameOrder p q)
@@ -83,7 +91,8 @@ order_decides p q =
     (Decides-and (same_entity p.origin q.origin) _ (entity_decides p.origin q.origin)
     (Decides-and (same_entity p.target q.target) (same_body p.body q.body) (entity_decides p.target q.target) (body_decides p.body q.body)))))
 
-same_pdu_fields : (p q : Pdu) → p.version ≡ q.version → p.exercise ≡ q.exercise → p.stamp ≡ q.stamp → p.status ≡ q.status → p.origin ≡ q.origin → p.target ≡ q.target → p.body ≡ q.body → p ≡ q
+same_pdu_fields : (p q : Pdu) → p.version ≡ q.version → p.exercise ≡ q.exercise → p.stamp ≡ q.stamp → p.status ≡ q.status → p.origin ≡ q.origin
+    → p.target ≡ q.target → p.body ≡ q.body → p ≡ q
 same_pdu_fields p q v x s u o t b = rw (v, x, s, u, o, t, b) refl
 
 pub pdu_decides : (p q : Pdu) → Decides (is_same_pdu p q) (p ≡ q)

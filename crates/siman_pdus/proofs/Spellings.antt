@@ -28,8 +28,10 @@ use Rattle.siman_pdus.proofs.Bodies.{body_stands, body_again}
 pub head_refused : (b : List ℕ) (fault : HeaderFault) → header_refusal b ≡ Some fault → refusal_of b ≡ Some (faults.Header fault)
 head_refused b fault e = ap (λ (o : Option HeaderFault). first_refusal o (body_refusal (header_at b).kind b)) e
 
-pub body_refused : (b : List ℕ) (header : Header) (refusal : Option PduFault) → header_refusal b ≡ None → header ≡ header_at b → body_refusal header.kind b ≡ refusal → refusal_of b ≡ refusal
-body_refused b header refusal e is body = ap (λ (o : Option HeaderFault). first_refusal o (body_refusal (header_at b).kind b)) e ∙ ap (λ (h : Header). body_refusal h.kind b) (sym is) ∙ body
+pub body_refused : (b : List ℕ) (header : Header) (refusal : Option PduFault) → header_refusal b ≡ None → header ≡ header_at b
+    → body_refusal header.kind b ≡ refusal → refusal_of b ≡ refusal
+body_refused b header refusal e is body =
+    ap (λ (o : Option HeaderFault). first_refusal o (body_refusal (header_at b).kind b)) e ∙ ap (λ (h : Header). body_refusal h.kind b) (sym is) ∙ body
 
 -- what is not refused has a header and a body that are not
 pub not_refused_parts : (head : Option HeaderFault) (body : Option PduFault) → first_refusal head body ≡ None → (head ≡ None) × (body ≡ None)
@@ -57,10 +59,12 @@ reading_spells b passes =
 
 -- ---- what is spelled so is read
 
-same_entity : (id : EntityId) (site application entity : ℕ) → id.site ≡ site → id.application ≡ application → id.entity ≡ entity → id ≡ record { site = site; application = application; entity = entity }
+same_entity : (id : EntityId) (site application entity : ℕ) → id.site ≡ site → id.application ≡ application → id.entity ≡ entity
+    → id ≡ record { site = site; application = application; entity = entity }
 same_entity id site application entity p q r = rw (← p, ← q, ← r) refl
 
-same_pdu : (p : Pdu) (origin target : EntityId) (body : Body) → p.origin ≡ origin → p.target ≡ target → p.body ≡ body → p ≡ record { version = p.version; exercise = p.exercise; stamp = p.stamp; status = p.status; origin = origin; target = target; body = body }
+same_pdu : (p : Pdu) (origin target : EntityId) (body : Body) → p.origin ≡ origin → p.target ≡ target → p.body ≡ body
+    → p ≡ record { version = p.version; exercise = p.exercise; stamp = p.stamp; status = p.status; origin = origin; target = target; body = body }
 same_pdu p origin target body a b c = rw (← a, ← b, ← c) refl
 
 -- The datagram is not refused, and its reading is the PDU.
@@ -131,7 +135,8 @@ never_refused p b fault spells refused = let clash = sym (spelled_read p b spell
 
 -- The reading of the datagram is answered, or its refusal, unless memory runs out.
 abbrev pub Answered : Result Pdu PduFault → List ℕ → Type 0
-Answered r b = IfOk r (λ q. (refusal_of b ≡ None) × (q ≡ pdu_from (header_at b) b)) × IfErr r (λ fault. (fault ≡ faults.Memory) ⊎ (refusal_of b ≡ Some fault))
+Answered r b =
+    IfOk r (λ q. (refusal_of b ≡ None) × (q ≡ pdu_from (header_at b) b)) × IfErr r (λ fault. (fault ≡ faults.Memory) ⊎ (refusal_of b ≡ Some fault))
 
 pub answered_only : (r : Result Pdu PduFault) (b : List ℕ) → Answered r b → (p : Pdu) → Spells p b → (r ≡ Ok p) ⊎ (r ≡ Err faults.Memory)
 answered_only (Ok q) b answered p spells = inl (ap (λ (x : Pdu). Ok x) (only_read b p q answered.0.0 answered.0.1 spells))
@@ -145,7 +150,8 @@ answered_spelled (Ok q) b answered = subst (λ (p : Pdu). Spells p b) (sym answe
 answered_spelled (Err fault) b answered = tt
 
 pub answered_reads : (r : Result Pdu PduFault) (b : List ℕ) → Answered r b → (r ≡ Err faults.Memory) ⊎ (result_ok r ≡ reading b)
-answered_reads (Ok q) b answered = inr (ap (λ (p : Pdu). Some p) answered.0.1 ∙ ap (λ (o : Option PduFault). unless_refused o (pdu_from (header_at b) b)) (sym answered.0.0))
+answered_reads (Ok q) b answered =
+    inr (ap (λ (p : Pdu). Some p) answered.0.1 ∙ ap (λ (o : Option PduFault). unless_refused o (pdu_from (header_at b) b)) (sym answered.0.0))
 answered_reads (Err fault) b answered = elim answered.1 [
   | inl memory ↦ inl (ap (λ (x : PduFault). Err x) memory)
   | inr refused ↦ inr (ap (λ (o : Option PduFault). unless_refused o (pdu_from (header_at b) b)) (sym refused))

@@ -6,7 +6,8 @@ use Rattle.dis_records.specs.Layout.{bytes_for, cleared}
 use Rattle.dis_records.proofs.Offered.{cleared_is, cleared_end}
 use Rattle.siman_pdus.specs.Reading.{with_last}
 
-pub last_makes_cleared : (bits : ℕ) (bytes : List ℕ) → length bytes ≡ bytes_for bits → with_last (slice_get (cleared bits bytes) (length bytes - 1)) bytes ≡ cleared bits bytes
+pub last_makes_cleared : (bits : ℕ) (bytes : List ℕ) → length bytes ≡ bytes_for bits
+    → with_last (slice_get (cleared bits bytes) (length bytes - 1)) bytes ≡ cleared bits bytes
 last_makes_cleared bits [] len = refl
 last_makes_cleared bits (byte ∷ bytes) len =
     let all : List ℕ = byte ∷ bytes in

@@ -14,21 +14,24 @@ same_fixed_fields : (d e : FixedDatum) → d.id ≡ e.id → d.value ≡ e.value
 same_fixed_fields d e p q = rw (p, q) refl
 
 fixed_decides : (d e : FixedDatum) → Decides (same_fixed d e) (d ≡ e)
-fixed_decides d e = Decides-like (same_fixed d e) (λ p. same_fixed_fields d e p.0 p.1) (λ s. (ap (λ (x : FixedDatum). x.id) s, ap (λ (x : FixedDatum). x.value) s))
+fixed_decides d e =
+    Decides-like (same_fixed d e) (λ p. same_fixed_fields d e p.0 p.1) (λ s. (ap (λ (x : FixedDatum). x.id) s, ap (λ (x : FixedDatum). x.value) s))
     (Decides-and (d.id == e.id) (d.value == e.value) (Decides-eqb d.id e.id) (Decides-eqb d.value e.value))
 
 same_datum_lists : (d e : DatumLists) → d.fixed ≡ e.fixed → d.variable ≡ e.variable → d ≡ e
 same_datum_lists d e p q = rw (p, q) refl
 
 pub datums_decide : (d e : DatumLists) → Decides (same_datums d e) (d ≡ e)
-datums_decide d e = Decides-like (same_datums d e) (λ p. same_datum_lists d e p.0 p.1) (λ s. (ap (λ (x : DatumLists). x.fixed) s, ap (λ (x : DatumLists). x.variable) s))
+datums_decide d e =
+    Decides-like (same_datums d e) (λ p. same_datum_lists d e p.0 p.1) (λ s. (ap (λ (x : DatumLists). x.fixed) s, ap (λ (x : DatumLists). x.variable) s))
     (Decides-and (pointwise same_fixed d.fixed e.fixed) (pointwise same_datum d.variable e.variable) (pointwise_decides fixed_decides d.fixed e.fixed) (pointwise_decides datum_decides d.variable e.variable))
 
 same_id_lists : (d e : IdLists) → d.fixed ≡ e.fixed → d.variable ≡ e.variable → d ≡ e
 same_id_lists d e p q = rw (p, q) refl
 
 pub ids_decide : (d e : IdLists) → Decides (same_ids d e) (d ≡ e)
-ids_decide d e = Decides-like (same_ids d e) (λ p. same_id_lists d e p.0 p.1) (λ s. (ap (λ (x : IdLists). x.fixed) s, ap (λ (x : IdLists). x.variable) s))
+ids_decide d e =
+    Decides-like (same_ids d e) (λ p. same_id_lists d e p.0 p.1) (λ s. (ap (λ (x : IdLists). x.fixed) s, ap (λ (x : IdLists). x.variable) s))
     (Decides-and (pointwise ◌==◌ d.fixed e.fixed) (pointwise ◌==◌ d.variable e.variable) (bytes_decides d.fixed e.fixed) (bytes_decides d.variable e.variable))
 
 pub datums_equivalence : IsEquivalence same_datums

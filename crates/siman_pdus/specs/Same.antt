@@ -23,11 +23,16 @@ abbrev pub same_body : Body → Body → Bool
 same_body (CreateEntity request) (CreateEntity request') = request == request'
 same_body (RemoveEntity request) (RemoveEntity request') = request == request'
 same_body (StartResume real sim request) (StartResume real' sim' request') = same_time real real' && (same_time sim sim' && (request == request'))
-same_body (StopFreeze real reason behaviour request) (StopFreeze real' reason' behaviour' request') = same_time real real' && ((reason == reason') && ((behaviour == behaviour') && (request == request')))
-same_body (Acknowledge flag response request) (Acknowledge flag' response' request') = (flag == flag') && ((response == response') && (request == request'))
-same_body (ActionRequest request action datums) (ActionRequest request' action' datums') = (request == request') && ((action == action') && same_datums datums datums')
-same_body (ActionResponse request status datums) (ActionResponse request' status' datums') = (request == request') && ((status == status') && same_datums datums datums')
-same_body (DataQuery request interval ids) (DataQuery request' interval' ids') = (request == request') && ((interval == interval') && same_ids ids ids')
+same_body (StopFreeze real reason behaviour request) (StopFreeze real' reason' behaviour' request') =
+    same_time real real' && ((reason == reason') && ((behaviour == behaviour') && (request == request')))
+same_body (Acknowledge flag response request) (Acknowledge flag' response' request') =
+    (flag == flag') && ((response == response') && (request == request'))
+same_body (ActionRequest request action datums) (ActionRequest request' action' datums') =
+    (request == request') && ((action == action') && same_datums datums datums')
+same_body (ActionResponse request status datums) (ActionResponse request' status' datums') =
+    (request == request') && ((status == status') && same_datums datums datums')
+same_body (DataQuery request interval ids) (DataQuery request' interval' ids') =
+    (request == request') && ((interval == interval') && same_ids ids ids')
 same_body (SetData request datums) (SetData request' datums') = (request == request') && same_datums datums datums'
 same_body (DataPdu request datums) (DataPdu request' datums') = (request == request') && same_datums datums datums'
 same_body (EventReport event datums) (EventReport event' datums') = (event == event') && same_datums datums datums'

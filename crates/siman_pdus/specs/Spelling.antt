@@ -52,7 +52,8 @@ body_layout (RemoveEntity request) = Number w32 request ∷ []
 -- real-world time, simulation time, request identifier
 body_layout (StartResume real sim request) = clock_time_layout real ++ clock_time_layout sim ++ (Number w32 request ∷ [])
 -- real-world time, reason, frozen behaviour, padding, request identifier
-body_layout (StopFreeze real reason behaviour request) = clock_time_layout real ++ (Byte reason ∷ Byte behaviour ∷ Padding 2 ∷ Number w32 request ∷ [])
+body_layout (StopFreeze real reason behaviour request) =
+    clock_time_layout real ++ (Byte reason ∷ Byte behaviour ∷ Padding 2 ∷ Number w32 request ∷ [])
 -- acknowledge flag, response flag, request identifier
 body_layout (Acknowledge flag response request) = Number w16 flag ∷ Number w16 response ∷ Number w32 request ∷ []
 -- request identifier, action identifier, datums

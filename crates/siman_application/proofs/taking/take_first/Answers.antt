@@ -19,7 +19,8 @@ pub obey-requires-clause-possible : goal.obey-requires-clause-possible
 obey-requires-clause-possible c =
     (made_answer c.args.outfit.now c.args.entities.now c.args.datums.now c.args.pdu.now c.in_ok-outcome.outcome.answer c.args.stamp c.requires.own c.in_ok-outcome.ensures.answer).able_can
 
-kept : (c : goal.After-put_in_place) → c.keep-place.new.kept.entries ≡ c.args.kept.now.entries ++ (c.args.key, record { request = c.args.pdu.now; answer = c.in_ok-outcome.outcome.answer }) ∷ []
+kept : (c : goal.After-put_in_place)
+    → c.keep-place.new.kept.entries ≡ c.args.kept.now.entries ++ (c.args.key, record { request = c.args.pdu.now; answer = c.in_ok-outcome.outcome.answer }) ∷ []
 kept c =
     kept_one c.args.kept.now c.reserve.new.self c.keep-place.new.kept c.args.key c.args.pdu.now c.in_ok-request.request c.in_ok-outcome.outcome.answer
     c.keep-place.ensures.kept c.reserve.ensures.entries c.in_ok-request.ensures
@@ -27,15 +28,18 @@ kept c =
 pub returns-clause-right : goal.returns-clause-right
 returns-clause-right c =
     right_more c.args.outfit.now c.args.kept.now c.keep-place.new.kept c.args.entities.now c.obey.new.self c.args.datums.now c.put_in_place.new.datums c.args.key c.args.pdu.now c.in_ok-outcome.outcome.answer c.args.stamp
-    c.requires.right c.requires.own c.requires.key c.requires.first c.numbers_are_in_range.ensures c.in_ok-outcome.ensures.answer (kept c) c.in_ok-obey.ensures.ok
+    c.requires.right c.requires.own c.requires.key c.requires.first c.numbers_are_in_range.ensures c.in_ok-outcome.ensures.answer
+      (kept c) c.in_ok-obey.ensures.ok
     (λ xs. ap (λ (d : DatumLists). knows xs d) c.put_in_place.ensures ∙ c.in_ok-outcome.ensures.datums xs)
 
 pub returns-clause-came : goal.returns-clause-came
-returns-clause-came c = requests_more c.args.kept.now c.keep-place.new.kept c.args.key (record { request = c.args.pdu.now; answer = c.in_ok-outcome.outcome.answer }) (kept c)
+returns-clause-came c =
+    requests_more c.args.kept.now c.keep-place.new.kept c.args.key (record { request = c.args.pdu.now; answer = c.in_ok-outcome.outcome.answer }) (kept c)
 
 pub returns-clause-answer : goal.returns-clause-answer
 returns-clause-answer c =
     ap (λ (i : ℕ). option_map (λ (k : KeptRequest). k.answer) (slice_get (values c.keep-place.new.kept) i))
     (c.keep-place.ensures.place ∙ ap (λ (es : List (RequestKey × KeptRequest)). length (values_of es)) c.reserve.ensures.entries)
     ∙ given_first c.args.kept.now c.keep-place.new.kept c.args.key (record { request = c.args.pdu.now; answer = c.in_ok-outcome.outcome.answer }) (kept c)
-    ∙ ap (λ (p : Pdu). Some p) (c.in_ok-outcome.ensures.answer ∙ ap (λ (k : Knowledge). answer c.args.outfit.now k c.args.pdu.now c.args.stamp) c.requires.right.known_is)
+    ∙ ap (λ (p : Pdu). Some p) (c.in_ok-outcome.ensures.answer ∙ ap
+      (λ (k : Knowledge). answer c.args.outfit.now k c.args.pdu.now c.args.stamp) c.requires.right.known_is)

@@ -17,7 +17,8 @@ returns-clause-answer c =
     let known : request_id_of c.args.pdu.now.body ≡ Some c.in-Some.id = search rules in
     let low : c.args.settings.now.first_id ≤ c.in-Some.id = search rules in
     let at : c.in-Some-place_of.place ≡ c.in-Some.id - c.args.settings.now.first_id = search rules in
-    c.judge.ensures.answer ∙ sym (taken_known c.args.settings.now c.args.pdu.now (values c.args.orders.now) c.in-Some.id c.in-Some-place_of.place c.index_mut.result.now same known low at c.index_mut.ensures.value)
+    c.judge.ensures.answer ∙ sym (taken_known c.args.settings.now c.args.pdu.now
+      (values c.args.orders.now) c.in-Some.id c.in-Some-place_of.place c.index_mut.result.now same known low at c.index_mut.ensures.value)
 
 pub returns-clause-after : goal.returns-clause-after
 returns-clause-after c =
@@ -27,4 +28,5 @@ returns-clause-after c =
     let at : c.in-Some-place_of.place ≡ c.in-Some.id - c.args.settings.now.first_id = search rules in
     values-with_value_at c.args.orders.now c.in-Some-place_of.place c.judge.new.kept
     ∙ ap (set (values c.args.orders.now) c.in-Some-place_of.place) c.judge.ensures.after
-    ∙ sym (settled_known c.args.settings.now c.args.pdu.now (values c.args.orders.now) c.in-Some.id c.in-Some-place_of.place c.index_mut.result.now same known low at c.index_mut.ensures.value)
+    ∙ sym (settled_known c.args.settings.now c.args.pdu.now
+      (values c.args.orders.now) c.in-Some.id c.in-Some-place_of.place c.index_mut.result.now same known low at c.index_mut.ensures.value)

@@ -9,22 +9,31 @@ whole_of : (b : List ℕ) (kind other : Kind) → kind ≡ other → IsWhole kin
 whole_of b kind other e whole = subst (λ (k : Kind). IsWhole k b) e whole
 
 pub read_datums-requires : goal.read_datums-requires
-read_datums-requires c = let whole = whole_of c.args.bytes.now c.args.kind kinds.ActionRequest c.in-ActionRequest.is c.requires in datums_fit 32 c.args.bytes.now (omega (arith, whole))
+read_datums-requires c =
+    let whole = whole_of c.args.bytes.now c.args.kind kinds.ActionRequest c.in-ActionRequest.is c.requires in datums_fit 32 c.args.bytes.now
+      (omega (arith, whole))
 
 pub read_datums-requires-in-ActionResponse : goal.read_datums-requires-in-ActionResponse
-read_datums-requires-in-ActionResponse c = let whole = whole_of c.args.bytes.now c.args.kind kinds.ActionResponse c.in-ActionResponse.is c.requires in datums_fit 32 c.args.bytes.now (omega (arith, whole))
+read_datums-requires-in-ActionResponse c =
+    let whole = whole_of c.args.bytes.now c.args.kind kinds.ActionResponse c.in-ActionResponse.is c.requires in datums_fit 32 c.args.bytes.now
+      (omega (arith, whole))
 
 pub read_datums-requires-in-SetData : goal.read_datums-requires-in-SetData
-read_datums-requires-in-SetData c = let whole = whole_of c.args.bytes.now c.args.kind kinds.SetData c.in-SetData.is c.requires in datums_fit 32 c.args.bytes.now (omega (arith, whole))
+read_datums-requires-in-SetData c =
+    let whole = whole_of c.args.bytes.now c.args.kind kinds.SetData c.in-SetData.is c.requires in datums_fit 32 c.args.bytes.now (omega (arith, whole))
 
 pub read_datums-requires-in-DataPdu : goal.read_datums-requires-in-DataPdu
-read_datums-requires-in-DataPdu c = let whole = whole_of c.args.bytes.now c.args.kind kinds.DataPdu c.in-DataPdu.is c.requires in datums_fit 32 c.args.bytes.now (omega (arith, whole))
+read_datums-requires-in-DataPdu c =
+    let whole = whole_of c.args.bytes.now c.args.kind kinds.DataPdu c.in-DataPdu.is c.requires in datums_fit 32 c.args.bytes.now (omega (arith, whole))
 
 pub read_datums-requires-in-EventReport : goal.read_datums-requires-in-EventReport
-read_datums-requires-in-EventReport c = let whole = whole_of c.args.bytes.now c.args.kind kinds.EventReport c.in-EventReport.is c.requires in datums_fit 32 c.args.bytes.now (omega (arith, whole))
+read_datums-requires-in-EventReport c =
+    let whole = whole_of c.args.bytes.now c.args.kind kinds.EventReport c.in-EventReport.is c.requires in datums_fit 32 c.args.bytes.now (omega (arith, whole))
 
 pub read_datums-requires-in-Comment : goal.read_datums-requires-in-Comment
-read_datums-requires-in-Comment c = let whole = whole_of c.args.bytes.now c.args.kind kinds.Comment c.in-Comment.is c.requires in datums_fit 24 c.args.bytes.now (omega (arith, whole))
+read_datums-requires-in-Comment c =
+    let whole = whole_of c.args.bytes.now c.args.kind kinds.Comment c.in-Comment.is c.requires in datums_fit 24 c.args.bytes.now (omega (arith, whole))
 
 pub read_ids-requires : goal.read_ids-requires
-read_ids-requires c = let whole = whole_of c.args.bytes.now c.args.kind kinds.DataQuery c.in-DataQuery.is c.requires in ids_fit 32 c.args.bytes.now (omega (arith, whole))
+read_ids-requires c =
+    let whole = whole_of c.args.bytes.now c.args.kind kinds.DataQuery c.in-DataQuery.is c.requires in ids_fit 32 c.args.bytes.now (omega (arith, whole))

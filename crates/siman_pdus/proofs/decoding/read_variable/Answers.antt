@@ -9,7 +9,8 @@ use Rattle.siman_pdus.proofs.Values.{last_makes_cleared}
 use Rattle.siman_pdus.proofs.decoding.read_variable.Goals as goal
 
 -- the bytes after their last was set are cleared
-set_bytes : (bits : ℕ) (bytes copied new : List ℕ) (last : Option ℕ) → length bytes ≡ bytes_for bits → copied ≡ bytes → last ≡ slice_get (cleared bits bytes) (length bytes - 1) → new ≡ with_last last copied → new ≡ cleared bits bytes
+set_bytes : (bits : ℕ) (bytes copied new : List ℕ) (last : Option ℕ) → length bytes ≡ bytes_for bits → copied ≡ bytes
+    → last ≡ slice_get (cleared bits bytes) (length bytes - 1) → new ≡ with_last last copied → new ≡ cleared bits bytes
 set_bytes bits bytes copied new last len same is set = rw (set, same, is) (last_makes_cleared bits bytes len)
 
 pub unwrap-requires : goal.unwrap-requires
@@ -21,7 +22,9 @@ unwrap-requires c =
       unused = ap (cleared v.bits) bytes ∙ cleared-cleared v.bits v.bytes.now ∙ sym bytes;
     })
 
-same_value : (result : Result Datum DatumFault) (found : Datum) (id bits : ℕ) (new bytes : List ℕ) → result ≡ Ok found → IfOk result (λ datum. datum ≡ record { id = id; bits = bits; bytes = new }) → new ≡ bytes → found ≡ record { id = id; bits = bits; bytes = bytes }
+same_value : (result : Result Datum DatumFault) (found : Datum) (id bits : ℕ) (new bytes : List ℕ) → result ≡ Ok found
+    → IfOk result (λ datum. datum ≡ record { id = id; bits = bits; bytes = new }) → new ≡ bytes
+    → found ≡ record { id = id; bits = bits; bytes = bytes }
 same_value result found id bits new bytes ok value same = let is = rw ok at value in rw (← same) is
 
 pub returns : goal.returns

@@ -13,7 +13,8 @@ invariant_of-result c =
     (ap is_opening opening ∙ c.opening.ensures.opening) c.in_ok-datums.ensures
 
 pub returns-clause-ranges : goal.returns-clause-ranges
-returns-clause-ranges c = begun_in_range c.args.exercise c.in_ok-station.station _ _ (omega arith) c.in_ok-station.ensures.station c.datums_are_in_range.ensures
+returns-clause-ranges c =
+    begun_in_range c.args.exercise c.in_ok-station.station _ _ (omega arith) c.in_ok-station.ensures.station c.datums_are_in_range.ensures
 
 pub returns-clause-too_many : goal.returns-clause-too_many
 returns-clause-too_many c =

@@ -25,7 +25,6 @@ mod laws;
 mod link;
 mod order;
 mod state;
-mod step_laws;
 
 pub use certificate::{Certificate, NO_LINK, Step};
 pub use certificate_fault::{CertificateFault, CertificateFormatFault, CertificateWriterFault};
@@ -34,5 +33,4 @@ pub use certificate_text::write_certificate;
 pub use checked::Checked;
 pub use checker::{CheckFault, check};
 pub use course::{Course, Progress};
-pub use laws::{refusals_hold, text_and_reading_agree};
-pub use step_laws::good_steps_have_no_cause;
+pub use laws::{good_steps_have_no_cause, refusals_hold, text_and_reading_agree};

@@ -21,14 +21,14 @@ less p q e =
     ⊎_elim
     (λ (site : nat_lt p.site q.site ≡ true). inl (ltb-true _ _ site))
     (λ (both : ((p.site == q.site) && nat_lt p.application q.application) ≡ true). let parts = and_parts (p.site == q.site)
-      (nat_lt p.application q.application) both in inr (eqb-true _ _ parts.0, ltb-true _ _ parts.1))
+    (nat_lt p.application q.application) both in inr (eqb-true _ _ parts.0, ltb-true _ _ parts.1))
     (or_parts (nat_lt p.site q.site) ((p.site == q.site) && nat_lt p.application q.application) e)
 
 less_on : (p q u : Pair) → IsLess p q → IsLess q u → IsLess p u
 less_on p q u one other =
     ⊎_elim
     (λ (a : p.site < q.site). ⊎_elim (λ (b : q.site < u.site). let c : p.site < u.site = omega arith in inl c)
-      (λ (b : (q.site ≡ u.site) × (q.application < u.application)). let c : p.site < u.site = omega (arith, a, b.0) in inl c) other)
+    (λ (b : (q.site ≡ u.site) × (q.application < u.application)). let c : p.site < u.site = omega (arith, a, b.0) in inl c) other)
     (λ (a : (p.site ≡ q.site) × (p.application < q.application)).
     ⊎_elim (λ (b : q.site < u.site). let c : p.site < u.site = omega (arith, a.0, b) in inl c)
     (λ (b : (q.site ≡ u.site) × (q.application < u.application)).
@@ -61,7 +61,7 @@ no_two_origins a c p one other below =
     let y = and_parts (p.origin.site == c.site) (p.origin.application == c.application) other in
     let x0 = eqb-true _ _ x.0 in let x1 = eqb-true _ _ x.1 in let y0 = eqb-true _ _ y.0 in let y1 = eqb-true _ _ y.1 in
     ⊎_elim (λ (less : a.site < c.site). absurd (omega (arith, x0, y0, less)))
-      (λ (less : (a.site ≡ c.site) × (a.application < c.application)). absurd (omega (arith, x1, y1, less.1))) below
+    (λ (less : (a.site ≡ c.site) × (a.application < c.application)). absurd (omega (arith, x1, y1, less.1))) below
 
 -- a PDU comes from one station
 pub one_origin : (w : SettingData) → IsSetting w → (p : Pdu) (i j : ℕ) → i < j → j < length w.stations → is_from (station_in w j).address p ≡ true

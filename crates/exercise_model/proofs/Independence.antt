@@ -22,7 +22,7 @@ same_logs r h before v i explains within stands =
 pub same_requests : (r : PlainRecording) (h before : History) (v : Event) (i : ℕ) → Explains r h → Contains h before v → StandsFor r i before v
     → (p : Pdu)
     → request_taken_up r.setting.exercise (station_at r (station_of v)).address p (log_at (station_of v) before) ≡ request_taken_up r.setting.exercise
-      (station_at r (station_of v)).address p (log_before r (station_of v) i)
+    (station_at r (station_of v)).address p (log_before r (station_of v) i)
 same_requests r h before v i explains within stands p =
     ap (request_taken_up r.setting.exercise (station_at r (station_of v)).address p) (same_logs r h before v i explains within stands)
 

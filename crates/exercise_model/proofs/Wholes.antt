@@ -37,7 +37,7 @@ unfolding entry_taken_up
 taken_entry r before s i p q logs taken =
     elim (entry_taken_up r s p i) as (λ o. entry_taken_up r s p i ≡ o → (j : ℕ) × (o ≡ Some j) × IsTakenUp r before s p j) [
       | None ↦ λ none. let nothing = none_taken r s p i none in absurd
-        (cc (nothing, taken, ap (request_taken_up r.setting.exercise (station_at r s).address p) logs))
+          (cc (nothing, taken, ap (request_taken_up r.setting.exercise (station_at r s).address p) logs))
       | Some j ↦ λ some. (j, refl, taken_in_log r before s i j p logs some)
     ] refl
 
@@ -60,12 +60,12 @@ pair_of_answer r i j =
     ] refl
   where
     of_pdu : (s stamp : ℕ) (b : List ℕ) → slice_get r.entries i ≡ Some (Sent s stamp b) → (p : Pdu) → meaning r.setting.exercise b ≡ Some p → (t : Bool)
-      → is_answer_body p.body ≡ t → cond t (entry_taken_up r s p i) None ≡ Some j → SendsAnswer r i
+        → is_answer_body p.body ≡ t → cond t (entry_taken_up r s p i) None ≡ Some j → SendsAnswer r i
     of_pdu s stamp b at p meant false is e = absurd (cc)
     of_pdu s stamp b at p meant true is e = record { station = s; stamp = stamp; bytes = b; pdu = p; at = at; meant = meant; answer = is }
 
     of_sent : (s stamp : ℕ) (b : List ℕ) → slice_get r.entries i ≡ Some (Sent s stamp b) → (o : Option Pdu) → meaning r.setting.exercise b ≡ o → option_and_then
-      (pair_of_sent r s i) o ≡ Some j → SendsAnswer r i
+        (pair_of_sent r s i) o ≡ Some j → SendsAnswer r i
     of_sent s stamp b at None meant e = absurd (cc)
     of_sent s stamp b at (Some p) meant e = of_pdu s stamp b at p meant (is_answer_body p.body) refl e
 
@@ -104,14 +104,14 @@ first_is test (suc n) j within passes below =
     (λ (at : n ≤ j).
     let same : n ≡ j = omega arith in
     ap (λ o. option_or o (if test n then Some n else None)) (no_first n (λ k l. below k (omega arith))) ∙ ap (λ t. if t then Some n else None)
-      (ap test same ∙ passes) ∙ ap Some same)
+    (ap test same ∙ passes) ∙ ap Some same)
     (cases_lt j n)
   where
     no_first : (m : ℕ) → ((k : ℕ) → k < m → test k ≡ false) → first_below test m ≡ None
     no_first zero none = refl
     no_first (suc m) none =
         ap (λ o. option_or o (if test m then Some m else None)) (no_first m (λ k l. none k (omega arith))) ∙ ap (λ t. if t then Some m else None)
-          (none m (omega arith))
+        (none m (omega arith))
 
 off : (t : Bool) → (t ≡ true → ⊥) → t ≡ false
 off true never = absurd (never refl)
@@ -123,7 +123,7 @@ sender_found : (r : PlainRecording) → IsRecording r → (p : Pdu) (t : ℕ) �
 unfolding sender_of
 sender_found r limits p t within own =
     first_is (λ s. is_from (station_at r s).address p) (length r.setting.stations) t within own
-      (λ k below. off _ (one_origin r.setting limits.setting p k t below within own))
+    (λ k below. off _ (one_origin r.setting limits.setting p k t below within own))
 
 -- an event of a history that passes is one of its station's log
 any_at : (test : Event → Bool) (v : Event) (later earlier : History) → test v ≡ true
@@ -133,7 +133,7 @@ any_at test v [] earlier passes = ap (list_any test) (log_at-own v earlier) ∙ 
 any_at test v (w ∷ later) earlier passes =
     let rest = any_at test v later earlier passes in
     elim (nat_eq (station_of w) (station_of v)) as (λ b. list_any test
-      (cond b (w ∷ log_at (station_of v) (later ++ v ∷ earlier)) (log_at (station_of v) (later ++ v ∷ earlier))) ≡ true) [
+    (cond b (w ∷ log_at (station_of v) (later ++ v ∷ earlier)) (log_at (station_of v) (later ++ v ∷ earlier))) ≡ true) [
       | false ↦ rest
       | true ↦ elim (test w) as (λ t. (t || list_any test (log_at (station_of v) (later ++ v ∷ earlier))) ≡ true) [ true ↦ refl | false ↦ rest ]
     ]
@@ -153,7 +153,7 @@ able_found r h earlier t k b explains within sends =
     let whole : log_before r t (length r.entries) ≡ log_at t h = log_before-all r t ∙ sym (explains.logs t) in
     elim (first_below (sends_able r t k) (length r.entries)) as (λ o. first_below (sends_able r t k) (length r.entries) ≡ o → (j : ℕ) × (o ≡ Some j)) [
       | None ↦ λ none. let nothing = none_sent r t k (length r.entries) none in absurd
-        (cc (nothing, sent, ap (was_acknowledged r.setting.exercise able k) whole))
+          (cc (nothing, sent, ap (was_acknowledged r.setting.exercise able k) whole))
       | Some j ↦ λ _. (j, refl)
     ] refl
 
@@ -173,7 +173,7 @@ able_changed r h before s b p i limits explains within stands meant is_able know
     let k = key.0 in
     let sender = sender_found r limits p t sent.recorded sent.own in
     let under : responds_under able k p ≡ true = ap (λ c. c && option_map_or (same_key k) (key_of p) false) is_able ∙ ap
-      (λ o. option_map_or (same_key k) o false) key.1 ∙ key_itself k in
+    (λ o. option_map_or (same_key k) o false) key.1 ∙ key_itself k in
     let sends : sends_under x able k (Send t b) ≡ true = ap (λ o. option_map_or (responds_under able k) o false) meant ∙ under in
     let found = able_found r h sent.earlier t k b explains (contains_on h before sent.earlier (Send t b) (Get s b) within sent.sent) sends in
     let change : change_behind r i ≡ Some found.0 =
@@ -209,13 +209,22 @@ change_of_able r i j =
     of_key p (Some k) e = of_sender p k (sender_of r p) refl e
 
     of_pdu : (s stamp : ℕ) (b : List ℕ) → slice_get r.entries i ≡ Some (Received s stamp b) → (p : Pdu) → meaning r.setting.exercise b ≡ Some p → (t : Bool)
-      → responds able p ≡ t → cond t (option_and_then (change_under r p) (key_of p)) None ≡ Some j → ReceivesAble r i
+        → responds able p ≡ t → cond t (option_and_then (change_under r p) (key_of p)) None ≡ Some j → ReceivesAble r i
     of_pdu s stamp b at p meant false is e = absurd (cc)
-    of_pdu s stamp b at p meant true is e = record { station = s; stamp = stamp; bytes = b; pdu = p; at = at; meant = meant; is_able = is; recorded = of_key p
-      (key_of p) e }
+    of_pdu s stamp b at p meant true is e = record {
+      station = s;
+      stamp = stamp;
+      bytes = b;
+      pdu = p;
+      at = at;
+      meant = meant;
+      is_able = is;
+      recorded = of_key p
+          (key_of p) e;
+    }
 
     of_got : (s stamp : ℕ) (b : List ℕ) → slice_get r.entries i ≡ Some (Received s stamp b) → (o : Option Pdu) → meaning r.setting.exercise b ≡ o
-      → option_and_then (change_behind_pdu r) o ≡ Some j → ReceivesAble r i
+        → option_and_then (change_behind_pdu r) o ≡ Some j → ReceivesAble r i
     of_got s stamp b at None meant e = absurd (cc)
     of_got s stamp b at (Some p) meant e = of_pdu s stamp b at p meant (responds able p) refl e
 

@@ -20,7 +20,6 @@ mod laws;
 mod log;
 mod meaning;
 mod recording;
-mod run_laws;
 mod setting;
 mod state;
 mod station;
@@ -31,13 +30,13 @@ pub use dis_records::LARGEST_DATAGRAM;
 pub use entry::{EntryView, LogEntry};
 pub use exchange::{is_answer, is_asked, is_from};
 pub use fault::LogFault;
-pub use laws::first_answers_change_states;
+pub use laws::{
+    accounts_are_whole, allowed_stays_allowed, ends_are_one, first_answers_change_states,
+    logs_suffice, what_explains_holds,
+};
 pub use log::ExerciseLog;
 pub use meaning::meaning_of;
 pub use recording::{MOST_ENTRIES, Recording};
-pub use run_laws::{
-    accounts_are_whole, allowed_stays_allowed, ends_are_one, logs_suffice, what_explains_holds,
-};
 pub use setting::Setting;
 pub use siman_pdus::is_under_identifier;
 pub use state::{Change, is_entity, scope_has, state_made};

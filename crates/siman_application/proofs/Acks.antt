@@ -100,17 +100,17 @@ acks_same a r p q ds n stamp k f to key own first false u =
     ap (λ (b : Bool). b || acked_as a n k (first_under r ds)) (other_key r f.request p (answer_at a f stamp) n k to.target to.id g.target g.id key u)
 acks_same a r p q ds n stamp k f to key own first true u =
     let found : first_under r ds ≡ Some f = first_same r f.request (same_key_of r f.request u) ds ∙ sym
-      (first_same q f.request (same_key_of q f.request (first_has q ds f first)) ds) ∙ first in
+    (first_same q f.request (same_key_of q f.request (first_has q ds f first)) ds) ∙ first in
     ap (λ (b : Bool). b || acked_as a n k (first_under r ds)) (responds_stamped a f stamp n k own)
     ∙ ap (λ (o : Option Placed). responds_under n k (answer_at a f 0) || acked_as a n k o) found ∙ or_same (responds_under n k (answer_at a f 0)) ∙ sym
-      (ap (acked_as a n k) found)
+    (ap (acked_as a n k) found)
 
 -- the reply to one that is the first under its key
 pub acks_fresh : (a : Outfit) (r p q : Pdu) (ds : List Pdu) (n stamp : ℕ) (k : AcknowledgeKey) → GoesTo r p → IsKeyOf k p → is_for a q ≡ true
     → first_under q ds ≡ None
     → (b : Bool) → is_under_key r q ≡ b
     → (responds_under n k (answer a (known a ds) q stamp) || acked_as a n k (first_under r ds)) ≡ acked_as a n k
-      (option_or (first_under r ds) (if b then Some (record { request = q; before = ds }) else None))
+    (option_or (first_under r ds) (if b then Some (record { request = q; before = ds }) else None))
 acks_fresh a r p q ds n stamp k to key own none false u =
     let g = goes a (known a ds) q stamp own in
     ap (λ (b : Bool). b || acked_as a n k (first_under r ds)) (other_key r q p (answer a (known a ds) q stamp) n k to.target to.id g.target g.id key u)
@@ -142,7 +142,7 @@ acks_taken a r p q s stamp n k b qs log to key text (Same f own first reply_is s
     let kept = for_at a qs q f first in
     ap (λ (o : Option Pdu). was_acknowledged a.exercise n k (sent_after s o (Get s b ∷ log))) reply_is
     ∙ ack_send a.exercise n k s (pdu_text (answer_at a f stamp)) (answer_at a f stamp) (Get s b ∷ log)
-      (answer_means a (known a f.before) f.request stamp kept (text_of (reply a qs q stamp) (answer_at a f stamp) reply_is text))
+    (answer_means a (known a f.before) f.request stamp kept (text_of (reply a qs q stamp) (answer_at a f stamp) reply_is text))
     ∙ ap (λ (v : Bool). responds_under n k (answer_at a f stamp) || v) (ack_get a.exercise n k s b log ∙ rest)
     ∙ acks_same a r p q (distinct a qs) n stamp k f to key kept first (is_under_key r f.request) refl
     ∙ sym (ap (λ (ds : List Pdu). acked_as a n k (first_under r ds)) same)
@@ -161,9 +161,9 @@ acks_turns a s [] are r p to n k key = ack_start a.exercise n k ∙ sym (ap (ack
 acks_turns a s (Tells e y ∷ ts) are r p to n k key = ack_tell a.exercise n k s e y (log_in a s ts) ∙ acks_turns a s ts are r p to n k key
 acks_turns a s (Orders o ∷ ts) are r p to n k key =
     ack_send a.exercise n k s (pdu_text o) o (log_in a s ts) are.0.means ∙ ap (λ (v : Bool). v || was_acknowledged a.exercise n k (log_in a s ts))
-      (silent o n k are.0.request) ∙ acks_turns a s ts are.1 r p to n k key
+    (silent o n k are.0.request) ∙ acks_turns a s ts are.1 r p to n k key
 acks_turns a s (Passes b ∷ ts) are r p to n k key = ack_get a.exercise n k s b (log_in a s ts) ∙ acks_turns a s ts are r p to n k key
 acks_turns a s (Takes b q stamp ∷ ts) are r p to n k key =
     acks_taken a r p q s stamp n k b (taken_in ts) (log_in a s ts) to key are.1 (course a (distinct a (taken_in ts)) q stamp)
-      (acks_turns a s ts are.2 r p to n k key)
+    (acks_turns a s ts are.2 r p to n k key)
 acks_turns a s (Loses b q stamp ∷ ts) are r p to n k key = let clash : true ≡ false = are.1 in absurd cc

@@ -60,7 +60,7 @@ whole_turns a station later (Orders o ∷ ts) are = whole_turns a station later 
 whole_turns a station later (Passes b ∷ ts) are = whole_turns a station later ts are
 whole_turns a station later (Takes b q stamp ∷ ts) are =
     whole_taken a q stamp (distinct a (taken_in ts)) station are.0.ranges (course a (distinct a (taken_in ts)) q stamp)
-      (whole_turns a station (later || is_due a ts q stamp) ts are.2)
+    (whole_turns a station (later || is_due a ts q stamp) ts are.2)
 whole_turns a station later (Loses b q stamp ∷ ts) are =
     whole_taken a q stamp (distinct a (taken_in ts)) station are.0.ranges (course a (distinct a (taken_in ts)) q stamp) (whole_turns a station true ts are.2)
 
@@ -78,7 +78,7 @@ not_change x p log acked = by (responds able p) (key_of p) refl refl where
 pub same_key_self : (k : AcknowledgeKey) → same_key k k ≡ true
 same_key_self k =
     and_from (k.flag == k.flag) ((k.request == k.request) && ((k.site == k.site) && ((k.application == k.application) && (k.entity == k.entity))))
-      (equal_self k.flag)
+    (equal_self k.flag)
     (and_from (k.request == k.request) ((k.site == k.site) && ((k.application == k.application) && (k.entity == k.entity))) (equal_self k.request)
     (and_from (k.site == k.site) ((k.application == k.application) && (k.entity == k.entity)) (equal_self k.site)
     (and_from (k.application == k.application) (k.entity == k.entity) (equal_self k.application) (equal_self k.entity))))
@@ -86,7 +86,7 @@ same_key_self k =
 pub responds_itself : (n : ℕ) (k : AcknowledgeKey) (p : Pdu) → responds n p ≡ true → key_of p ≡ Some k → responds_under n k p ≡ true
 responds_itself n k p r e =
     ap (λ (b : Bool). b && option_map_or (same_key k) (key_of p) false) r ∙ ap (λ (o : Option AcknowledgeKey). option_map_or (same_key k) o false) e
-      ∙ same_key_self k
+    ∙ same_key_self k
 
 -- an answer that comes again is no change
 pub again_no_change : (a : Outfit) (s stamp : ℕ) (b : List ℕ) (q : Pdu) (f : Placed) (ts : List Turn) → AreMeant a true ts → is_for a f.request ≡ true
@@ -97,7 +97,7 @@ again_no_change a s stamp b q f ts are own first =
     (λ r k e. ack_get a.exercise able k s b (log_in a s ts)
     ∙ acks_turns a s ts are f.request (answer_at a f stamp) (goes a (known a f.before) f.request stamp own) able k (key_is (answer_at a f stamp) k e)
     ∙ ap (acked_as a able k) (sym (first_same q f.request (same_key_of q f.request (first_has q (distinct a (taken_in ts)) f first)) (distinct a (taken_in ts)))
-      ∙ first)
+    ∙ first)
     ∙ sym (responds_stamped a f stamp able k own) ∙ responds_itself able k (answer_at a f stamp) r e)
 
 -- nothing was acknowledged under the key of an answer to a request that is the first under its key
@@ -109,7 +109,7 @@ fresh_acks a s stamp n b q ts are own none k e =
     let ds = distinct a (taken_in ts) in
     ack_get a.exercise n k s b (log_in a s ts)
     ∙ acks_turns a s ts are q (answer a (known a ds) q stamp) (goes a (known a ds) q stamp own) n k (key_is (answer a (known a ds) q stamp) k e) ∙ ap
-      (acked_as a n k) none
+    (acked_as a n k) none
 
 -- What an answer takes up.
 
@@ -131,9 +131,9 @@ pub takes_up : (a : Outfit) (s stamp : ℕ) (b : List ℕ) (q r p : Pdu) (f : Pl
     → first_under r (distinct a (q ∷ taken_in ts)) ≡ Some f → TakenAs a p f.request (Get s b ∷ log_in a s ts)
 takes_up a s stamp b q r p f ts read text are alike settled to first =
     taken_first a r p (Takes b q stamp ∷ ts) f (Get s b ∷ log_in a s ts) (first_under r (distinct a (q ∷ taken_in ts)))
-      (request_taken_up a.exercise a.station.address p (Get s b ∷ log_in a s ts)) first refl
+    (request_taken_up a.exercise a.station.address p (Get s b ∷ log_in a s ts)) first refl
     (subst (TakesUp a r (Takes b q stamp ∷ ts) (first_under r (distinct a (q ∷ taken_in ts))))
-      (up_sent a p s (reply a (taken_in ts) q stamp) (Get s b ∷ log_in a s ts))
+    (up_sent a p s (reply a (taken_in ts) q stamp) (Get s b ∷ log_in a s ts))
     (up_turns a s true (Takes b q stamp ∷ ts) (read, text, are) (alike, settled) r p to))
 
 pub under_itself : (q : Pdu) → is_request_body q.body ≡ true → is_under_key q q ≡ true
@@ -181,7 +181,7 @@ pub fresh_state_able : (a : Outfit) (s : ℕ) (c : List ℕ) (q f p : Pdu) (log 
     → state_after a.exercise a.station (Send s c ∷ log) e ≡ changed e (state_over a ds e) (change_of p q)
 fresh_state_able a s c q f p log ds first same can rest e true v =
     first_able_changes a.exercise a.station log s c f p first e v ∙ ap (λ (c : Change). changed e (state_after a.exercise a.station log e) c)
-      (change_same p q f same)
+    (change_same p q f same)
     ∙ ap (λ (y : EntityState). changed e y (change_of p q)) (rest e)
 fresh_state_able a s c q f p log ds first same can rest e false v =
     outside_range a.exercise a (Send s c ∷ log) e v
@@ -204,9 +204,9 @@ fresh_state a s stamp b q f p ts are own none is m taken same rest e = by (respo
       ≡ (if v then changed e (state_over a (distinct a (taken_in ts)) e) (change_of p q) else state_over a (distinct a (taken_in ts)) e)
   by true r =
       fresh_state_able a s (pdu_text p) q f p (Get s b ∷ log_in a s ts) (distinct a (taken_in ts))
-        (fresh_able a s stamp b q f ts are own none p is m r taken same) same
+      (fresh_able a s stamp b q f ts are own none p is m r taken same) same
       (subst (λ (w : Pdu). IsPossible (change_of w q) (λ e. state_over a (distinct a (taken_in ts)) e)) (sym is)
-        ((is_answer a (known a (distinct a (taken_in ts))) q stamp own).able_can (ap (responds able) (sym is) ∙ r)))
+      ((is_answer a (known a (distinct a (taken_in ts))) q stamp own).able_can (ap (responds able) (sym is) ∙ r)))
       got e (is_entity e) refl
   by false r = others_keep a.exercise a.station (Get s b ∷ log_in a s ts) s (pdu_text p) p m r e ∙ got e
 
@@ -221,14 +221,14 @@ pub states_taken : (a : Outfit) → IsOutfitInRange a → (s stamp : ℕ) (b : L
     → ((e : ℕ) → state_after a.exercise a.station (log_in a s ts) e ≡ state_over a (distinct a (taken_in ts)) e)
     → (e : ℕ)
     → state_after a.exercise a.station (sent_after s (reply a (taken_in ts) q stamp) (Get s b ∷ log_in a s ts)) e ≡ state_over a
-      (distinct a (q ∷ taken_in ts)) e
+    (distinct a (q ∷ taken_in ts)) e
 states_taken a station s stamp b q ts read text are alike settled (Foreign reply_is same out) rest e =
     ap (λ (o : Option Pdu). state_after a.exercise a.station (sent_after s o (Get s b ∷ log_in a s ts)) e) reply_is ∙ received_keeps a.exercise a.station
-      (log_in a s ts) s b e ∙ rest e
+    (log_in a s ts) s b e ∙ rest e
     ∙ sym (ap (λ (ds : List Pdu). state_over a ds e) same)
 states_taken a station s stamp b q ts read text are alike settled (Other f own first reply_is same) rest e =
     ap (λ (o : Option Pdu). state_after a.exercise a.station (sent_after s o (Get s b ∷ log_in a s ts)) e) reply_is ∙ received_keeps a.exercise a.station
-      (log_in a s ts) s b e ∙ rest e
+    (log_in a s ts) s b e ∙ rest e
     ∙ sym (ap (λ (ds : List Pdu). state_over a ds e) same)
 states_taken a station s stamp b q ts read text are alike settled (Same f own first reply_is same) rest e =
     let kept = for_at a (taken_in ts) q f first in
@@ -241,7 +241,7 @@ states_taken a station s stamp b q ts read text are alike settled (Fresh own non
     let p = answer a (known a ds) q stamp in
     let whole = whole_turns a station true ts are in
     let up = takes_up a s stamp b q q p (record { request = q; before = ds }) ts read text are alike settled (goes a (known a ds) q stamp own)
-      (first_then a q ds own none same) in
+    (first_then a q ds own none same) in
     ap (λ (o : Option Pdu). state_after a.exercise a.station (sent_after s o (Get s b ∷ log_in a s ts)) e) reply_is
     ∙ fresh_state a s stamp b q up.request p ts are own none refl (known_text a (taken_in ts) q stamp (known a ds) q own reply_is text) up.taken up.same rest e
     ∙ ap (λ (w : Pdu). after w q (state_over a ds) e) (answer_stamped a (known a ds) q stamp 0 (for_parts a q own).request)
@@ -260,10 +260,10 @@ states_turns a station s (Tells n y ∷ ts) are settled e =
     told_keeps a.exercise a.station (log_in a s ts) s n y e ∙ states_turns a station s ts are settled e
 states_turns a station s (Orders o ∷ ts) are settled e =
     others_keep a.exercise a.station (log_in a s ts) s (pdu_text o) o are.0.means (silent_by o.body able are.0.request) e
-      ∙ states_turns a station s ts are.1 settled e
+    ∙ states_turns a station s ts are.1 settled e
 states_turns a station s (Passes b ∷ ts) are settled e =
     received_keeps a.exercise a.station (log_in a s ts) s b e ∙ states_turns a station s ts are settled e
 states_turns a station s (Takes b q stamp ∷ ts) are settled e =
     states_taken a station s stamp b q ts are.0 are.1 are.2 settled.0 settled.1 (course a (distinct a (taken_in ts)) q stamp)
-      (states_turns a station s ts are.2 settled.1) e
+    (states_turns a station s ts are.2 settled.1) e
 states_turns a station s (Loses b q stamp ∷ ts) are settled e = let clash : true ≡ false = are.1 in absurd cc

@@ -124,7 +124,7 @@ chosen_named y n m place true free e =
       free = free;
       fits = same_fits kinds.CreateEntity n;
       scope = ap (λ (b : Bool). if not b then One n else (if not (is_open kinds.CreateEntity n) then One n else All))
-        (entity_closed n (and_parts (is_entity n) (is_absent (y n)) free).0);
+          (entity_closed n (and_parts (is_entity n) (is_absent (y n)) free).0);
     })
 
 chosen_by : (y : ℕ → EntityState) (n m : ℕ) (b : Bool) → has_place y ≡ b → (c : Bool) → (n == ANY_NUMBER) ≡ c
@@ -144,9 +144,9 @@ pub answers_it : (a : Outfit) (q : Pdu) (stamp m : ℕ) (body : Body) → IsFor 
     → are_fitting (body_kind q.body) q.target.entity m ≡ true → is_answer_to (answer_pdu a q stamp m body) q ≡ true
 answers_it a q stamp m body own kind id fits =
     and_from (matches_kind body (body_kind q.body)) (same_id (request_id_of body) (request_id_of q.body) &&
-      (same_pair q.origin q.origin && (is_addressed q.target a.station.address && are_fitting (body_kind q.body) q.target.entity m))) kind
+    (same_pair q.origin q.origin && (is_addressed q.target a.station.address && are_fitting (body_kind q.body) q.target.entity m))) kind
     (and_from (same_id (request_id_of body) (request_id_of q.body))
-      (same_pair q.origin q.origin && (is_addressed q.target a.station.address && are_fitting (body_kind q.body) q.target.entity m)) id
+    (same_pair q.origin q.origin && (is_addressed q.target a.station.address && are_fitting (body_kind q.body) q.target.entity m)) id
     (and_from (same_pair q.origin q.origin) (is_addressed q.target a.station.address && are_fitting (body_kind q.body) q.target.entity m)
     (and_from (q.origin.site == q.origin.site) (q.origin.application == q.origin.application) (equal_self q.origin.site) (equal_self q.origin.application))
     (and_from (is_addressed q.target a.station.address) (are_fitting (body_kind q.body) q.target.entity m) own.addressed fits)))
@@ -227,7 +227,7 @@ created_is a y q stamp request own asks (Some m) e =
     answer_is a y q stamp m (Acknowledge 1 able request) kinds.CreateEntity request own asks refl refl is.fits
     (λ r. record {
       possible = ap (λ (k : Kind). is_hopeless k (scope_of k q.target.entity m) y) asks.kind_is ∙ ap
-        (λ (s : Scope). is_hopeless kinds.CreateEntity s y) is.scope ∙ ap not is.free;
+          (λ (s : Scope). is_hopeless kinds.CreateEntity s y) is.scope ∙ ap not is.free;
       place = λ c. is.place;
     })
 
@@ -266,11 +266,11 @@ answer_by_is a k q stamp (StopFreeze real reason behaviour request) e r own =
 answer_by_is a k q stamp (Acknowledge flag response request) e r own = absurd (outside flag response request r)
 answer_by_is a k q stamp (ActionRequest request action datums) e r own =
     plain_is a k.states q stamp (ActionResponse request _ _) kinds.ActionRequest request own
-      (asks q (ActionRequest request action datums) request e refl) refl refl (λ r. absurd cc)
+    (asks q (ActionRequest request action datums) request e refl) refl refl (λ r. absurd cc)
 answer_by_is a k q stamp (ActionResponse request status datums) e r own = absurd cc
 answer_by_is a k q stamp (DataQuery request interval ids) e r own =
     plain_is a k.states q stamp (DataPdu request _) kinds.DataQuery request own (asks q (DataQuery request interval ids) request e refl) refl refl
-      (λ r. absurd cc)
+    (λ r. absurd cc)
 answer_by_is a k q stamp (SetData request datums) e r own =
     plain_is a k.states q stamp (DataPdu request _) kinds.SetData request own (asks q (SetData request datums) request e refl) refl refl (λ r. absurd cc)
 answer_by_is a k q stamp (DataPdu request datums) e r own = absurd cc

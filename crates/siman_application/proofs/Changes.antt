@@ -47,8 +47,11 @@ state_inserted n e y (x ∷ xs) = state_inserted_by n e y x xs (state_inserted n
 pub length-inserted : (n : ℕ) (y : EntityState) (xs : Entities) → length (inserted n y xs) ≡ suc (length xs)
 length-inserted n y [] = refl
 length-inserted n y (x ∷ xs) =
-    elim (nat_lt x.0 n) as (λ b. length (if b then x ∷ inserted n y xs else (n, y) ∷ x ∷ xs) ≡ suc (suc (length xs))) [ true ↦ ap suc
-      (length-inserted n y xs) | false ↦ refl ]
+    elim (nat_lt x.0 n) as (λ b. length (if b then x ∷ inserted n y xs else (n, y) ∷ x ∷ xs) ≡ suc (suc (length xs))) [
+      | true ↦ ap suc
+          (length-inserted n y xs)
+      | false ↦ refl
+    ]
 
 pub opening_inserted_by : (a n : ℕ) (y : EntityState) (x : ℕ × EntityState) (xs : Entities) → a < n → n ≤ LARGEST_ENTITY → is_absent y ≡ false
     → is_opening_above a (x ∷ xs) ≡ true → listed_state (x ∷ xs) n ≡ Absent
@@ -58,15 +61,15 @@ opening_inserted_by a n y x xs above within there o absent rest true t =
     let below : x.0 < n = grind (arith, nat_tests) in
     let r : Rises a x.0 x.1 xs = rises_from a x xs o in
     rises_to a x (inserted n y xs)
-      (record { above = r.above; within = r.within; there = r.there; rest = rest below (sym (state_past x.0 n x.1 xs (λ same. omega arith)) ∙ absent) })
+    (record { above = r.above; within = r.within; there = r.there; rest = rest below (sym (state_past x.0 n x.1 xs (λ same. omega arith)) ∙ absent) })
 opening_inserted_by a n y x xs above within there o absent rest false t =
     let low : n ≤ x.0 = grind (arith, nat_tests) in
     let r : Rises a x.0 x.1 xs = rises_from a x xs o in
     let other : (x.0 ≡ n) → ⊥ = λ same. let clash : is_absent x.1 ≡ true = ap is_absent
-      (sym (state_head x.0 n x.1 xs same) ∙ absent) in let there : is_absent x.1 ≡ false = r.there in absurd cc in
+    (sym (state_head x.0 n x.1 xs same) ∙ absent) in let there : is_absent x.1 ≡ false = r.there in absurd cc in
     let apart : n < x.0 = apart_of (nat_lt n x.0) refl other low in
     rises_to a (n, y) (x ∷ xs)
-      (record { above = above; within = within; there = there; rest = rises_to n x xs (record { above = apart; within = r.within; there = r.there; rest = r.rest }) }) where
+    (record { above = above; within = within; there = there; rest = rises_to n x xs (record { above = apart; within = r.within; there = r.there; rest = r.rest }) }) where
       apart_of : (c : Bool) → nat_lt n x.0 ≡ c → ((x.0 ≡ n) → ⊥) → n ≤ x.0 → n < x.0
       apart_of true u other low = grind (arith, nat_tests)
       apart_of false u other low = let same : x.0 ≡ n = grind (arith, nat_tests) in absurd (other same)
@@ -118,7 +121,7 @@ state_removed_by a n e x xs r rest true t false u =
 state_removed_by a n e x xs r rest false t true u =
     let here : n ≡ e = grind (arith, nat_tests) in
     state_past x.0 e x.1 (removed n xs) (λ clash. let no : (x.0 == n) ≡ true = eq-eqb x.0 n (clash ∙ sym here) in absurd cc) ∙ rest ∙ ap
-      (λ (c : Bool). if c then Absent else listed_state xs e) u
+    (λ (c : Bool). if c then Absent else listed_state xs e) u
 state_removed_by a n e x xs r rest false t false u =
     ap (λ (z : EntityState). if x.0 == e then x.1 else z) (rest ∙ ap (λ (c : Bool). if c then Absent else listed_state xs e) u)
 
@@ -231,7 +234,7 @@ up_to_none a (x ∷ xs) o =
     let r : Rises a x.0 x.1 xs = rises_from a x xs o in
     let above : a < x.0 = r.above in
     let none : ◌≡◌ {A = ℕ} (if nat_le x.0 0 then 1 else 0) 0 = let past : nat_le x.0 0 ≡ false = grind (arith, nat_tests) in ap
-      (λ (b : Bool). if b then 1 else 0) past in
+    (λ (b : Bool). if b then 1 else 0) past in
     omega (arith, none, up_to_none x.0 xs r.rest)
 
 pub up_to_all : (a : ℕ) (xs : Entities) → is_opening_above a xs ≡ true → up_to LARGEST_ENTITY xs ≡ length xs
@@ -252,7 +255,7 @@ count_is_length xs o = count_up_to 0 LARGEST_ENTITY xs o ∙ up_to_all 0 xs o
 pub has_few : (xs : Entities) → is_opening xs ≡ true → has_place (states_in xs) ≡ true → length xs < MOST_ENTITIES
 has_few xs o e =
     let t : nat_lt (count_present (states_in xs) LARGEST_ENTITY) MOST_ENTITIES ≡ true = e in let few : count_present
-      (states_in xs) LARGEST_ENTITY < MOST_ENTITIES = grind (arith, nat_tests) in omega (arith, count_is_length xs o)
+    (states_in xs) LARGEST_ENTITY < MOST_ENTITIES = grind (arith, nat_tests) in omega (arith, count_is_length xs o)
 
 -- A change made.
 
@@ -329,12 +332,12 @@ pub chosen_least : (xs : Entities) (n m : ℕ) → is_opening xs ≡ true → le
 chosen_least xs n m o few any least =
     chosen_of (states_in xs) n 0 true (place_there xs true o (lt-ltb (length xs) MOST_ENTITIES few))
     ∙ ap (λ (b : Bool). if b then first_below (is_free (states_in xs)) (LARGEST_ENTITY + 1) else (if is_free (states_in xs) n then Some n else None))
-      (eq-eqb n ANY_NUMBER any) ∙ least
+    (eq-eqb n ANY_NUMBER any) ∙ least
 
 pub chosen_own : (xs : Entities) (n : ℕ) → is_opening xs ≡ true → length xs < MOST_ENTITIES → ((n ≡ ANY_NUMBER) → ⊥) → (b : Bool)
     → is_free (states_in xs) n ≡ b → chosen (states_in xs) n ≡ (if b then Some n else None)
 chosen_own xs n o few own b free =
     chosen_of (states_in xs) n 0 true (place_there xs true o (lt-ltb (length xs) MOST_ENTITIES few))
     ∙ ap (λ (c : Bool). if c then first_below (is_free (states_in xs)) (LARGEST_ENTITY + 1) else (if is_free (states_in xs) n then Some n else None))
-      (other_number n ANY_NUMBER own)
+    (other_number n ANY_NUMBER own)
     ∙ ap (λ (c : Bool). if c then Some n else None) free

@@ -31,7 +31,7 @@ unfolding largest
 largest_is test k zero le passes fails = omega arith
 largest_is test k (suc n) le passes fails =
     largest_next test k n le passes (λ lt. fails (suc n) lt (omega arith)) (λ low. largest_is test k n low passes (λ j lt high. fails j lt (omega arith)))
-      (nat_le k n) refl
+    (nat_le k n) refl
 
 -- Sizes.
 
@@ -144,12 +144,12 @@ filled_full d many =
     record {
       within = omega arith;
       same = same_records (take 1019 d.fixed) (take 1019 d.fixed) (take (1019 - length d.fixed) d.variable)
-        (fitting (8152 - 8 * length (take 1019 d.fixed)) d.variable) refl (front ∙ sym left);
+          (fitting (8152 - 8 * length (take 1019 d.fixed)) d.variable) refl (front ∙ sym left);
       fits = omega (arith, cut, ap records_size front);
       most = λ j lt high. past j lt (nat_le j (length d.fixed)) refl;
     } where
       past : (j : ℕ) → 1019 < j → (b : Bool) → nat_le j (length d.fixed) ≡ b → 8152 < 8 * length (take j d.fixed) + records_size
-        (take (j - length d.fixed) d.variable)
+          (take (j - length d.fixed) d.variable)
       past j lt true t = let low : j ≤ length d.fixed = grind (arith, nat_tests) in omega (arith, length-take j d.fixed low)
       past j lt false t = let high : length d.fixed < j = grind (arith, nat_tests) in omega (arith, ap length (take_all j d.fixed (omega arith)))
 
@@ -159,9 +159,9 @@ cut_by a q stamp request d k f =
     ap (λ (n : ℕ). data_pdu a q stamp request (first_records n d))
     (largest_is (λ n. nat_le (pdu_size (data_pdu a q stamp request (first_records n d))) LARGEST_DATAGRAM) k (record_count d) f.within
     (λ some. le-leb (pdu_size (data_pdu a q stamp request (first_records k d))) LARGEST_DATAGRAM
-      (omega (arith, data_size a q stamp request (first_records k d), f.fits)))
+    (omega (arith, data_size a q stamp request (first_records k d), f.fits)))
     (λ j lt high. lt-leb (pdu_size (data_pdu a q stamp request (first_records j d))) LARGEST_DATAGRAM
-      (omega (arith, data_size a q stamp request (first_records j d), f.most j lt high))))
+    (omega (arith, data_size a q stamp request (first_records j d), f.most j lt high))))
     ∙ ap (data_pdu a q stamp request) f.same
 
 pub cut_is : (a : Outfit) (q : Pdu) (stamp request : ℕ) (d : DatumLists)

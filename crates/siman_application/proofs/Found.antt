@@ -39,9 +39,8 @@ stored_more (Some n) None x false = refl
 stored_more (Some n) (Some y) x b = refl
 
 same_under : {X : Type 0} (id_of : X → ℕ) (id : ℕ) (came : List X) (x : X) (b : Bool) → (id_of x == id) ≡ b
-    
     → ◌≡◌ {A = Option X} (if b then Some (unwrap_or (last_under id_of (id_of x) came) x) else None)
-      (if b then Some (unwrap_or (last_under id_of id came) x) else None)
+    (if b then Some (unwrap_or (last_under id_of id came) x) else None)
 same_under id_of id came x true t = let same : id_of x ≡ id = grind (arith, nat_tests) in ap (λ n. Some (unwrap_or (last_under id_of n came) x)) same
 same_under id_of id came x false t = refl
 
@@ -53,10 +52,10 @@ last_stored {X} id_of came id [] = none (last_under id_of id came) where
   none (Some y) = refl
 last_stored {X} id_of came id (x ∷ held) =
     ap (λ (o : Option X). option_or o
-      (if id_of (unwrap_or (last_under id_of (id_of x) came) x) == id then Some
-      (unwrap_or (last_under id_of (id_of x) came) x) else None)) (last_stored id_of came id held)
+    (if id_of (unwrap_or (last_under id_of (id_of x) came) x) == id then Some
+    (unwrap_or (last_under id_of (id_of x) came) x) else None)) (last_stored id_of came id held)
     ∙ ap (λ n. option_or (stored (last_under id_of id came) (last_under id_of id held))
-      (if n == id then Some (unwrap_or (last_under id_of (id_of x) came) x) else None)) (own_id id_of x came (last_under id_of (id_of x) came) refl)
+    (if n == id then Some (unwrap_or (last_under id_of (id_of x) came) x) else None)) (own_id id_of x came (last_under id_of (id_of x) came) refl)
     ∙ ap (λ (o : Option X). option_or (stored (last_under id_of id came) (last_under id_of id held)) o) (same_under id_of id came x (id_of x == id) refl)
     ∙ stored_more (last_under id_of id came) (last_under id_of id held) x (id_of x == id)
 

@@ -51,9 +51,11 @@ one_alike : (a : Outfit) (s : ℕ) (h : History) → AreOneOrder a h → (b : Li
 one_alike a s h one b q got m own [] within = tt
 one_alike a s h one b q got m own (Tells e y ∷ ts) within = one_alike a s h one b q got m own ts within
 one_alike a s h one b q got m own (Orders c ∷ ts) within = one_alike a s h one b q got m own ts within
-one_alike a s h one b q got m own (Passes c ∷ ts) within =
-    (λ p n mine under. one c b p q (within c (inl refl)) got n m (for_parts a p mine).request
-      (for_parts a q own).request under, one_alike a s h one b q got m own ts (λ d g. within d (inr g)))
+one_alike a s h one b q got m own (Passes c ∷ ts) within = (
+  λ p n mine under. one c b p q (within c (inl refl)) got n m (for_parts a p mine).request
+      (for_parts a q own).request under,
+  one_alike a s h one b q got m own ts (λ d g. within d (inr g)),
+)
 one_alike a s h one b q got m own (takes c p stamp ∷ ts) within =
     one_alike a s h one b q got m own ts (λ d g. within d (get_sent s (reply a (taken_in ts) p stamp) (Get s c ∷ log_in a s ts) d (inr g)))
 one_alike a s h one b q got m own (Loses c p stamp ∷ ts) within = one_alike a s h one b q got m own ts (λ d g. within d (inr g))

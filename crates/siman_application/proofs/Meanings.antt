@@ -64,4 +64,4 @@ pub answer_means : (a : Outfit) (k : Knowledge) (q : Pdu) (stamp : ℕ) → is_f
 answer_means a k q stamp own e =
     read_means a.exercise (pdu_text (answer a k q stamp)) (answer a k q stamp) e
     (ap (λ (n : ℕ). n == a.exercise) (is_answer a k q stamp own).exercise ∙ equal_self a.exercise)
-      (answer_inside a k q stamp q.body (for_parts a q own).request)
+    (answer_inside a k q stamp q.body (for_parts a q own).request)

@@ -63,7 +63,10 @@ meant_turns a own later (Tells e y ∷ ts) are = meant_turns a own later ts are
 meant_turns a own later (Orders p ∷ ts) are = (ordered a p are.0, meant_turns a own later ts are.1)
 meant_turns a own later (Passes b ∷ ts) are = meant_turns a own later ts are
 meant_turns a own later (Takes b q stamp ∷ ts) are =
-    let is = taken b q are.0 in
-    (is, reply_read a (taken_in ts) q stamp own (taken_in_range a (later || is_due a ts q stamp) ts are.2) is.ranges are.1, meant_turns a own
-      (later || is_due a ts q stamp) ts are.2)
+    let is = taken b q are.0 in (
+      is,
+      reply_read a (taken_in ts) q stamp own (taken_in_range a (later || is_due a ts q stamp) ts are.2) is.ranges are.1,
+      meant_turns a own
+          (later || is_due a ts q stamp) ts are.2,
+    )
 meant_turns a own later (Loses b q stamp ∷ ts) are = (taken b q are.0, are.3, meant_turns a own true ts are.4)

@@ -92,7 +92,7 @@ pub first_not : (test : ℕ → Bool) (k : ℕ) → first_below test k ≡ None 
 unfolding first_below
 first_not test k none t =
     ap (first_below test) (add-one k) ∙ ap (λ (o : Option ℕ). option_or o (if test k then Some k else None)) none ∙ ap
-      (λ (b : Bool). if b then Some k else None) t
+    (λ (b : Bool). if b then Some k else None) t
 
 pub none_below_one : (y : ℕ → EntityState) → first_below (is_free y) 1 ≡ None
 unfolding first_below
@@ -117,14 +117,14 @@ least_more xs i least x at l same =
     let r : Rises i x.0 x.1 (drop (i + 1) xs) = rises_from i x (drop (i + 1) xs) (ap (is_opening_above i) (sym at) ∙ l.rises) in
     let is : least ≡ i + 1 = l.least_is in
     let here : listed_state xs least ≡ x.1 = sym (l.above least (omega arith)) ∙ ap (λ (ys : Entities). listed_state ys least) at ∙ state_head x.0 least x.1
-      (drop (i + 1) xs) same in
+    (drop (i + 1) xs) same in
     record {
       least_is = omega arith;
       rises = subst (λ (n : ℕ). is_opening_above n (drop (i + 1) xs) ≡ true) (same ∙ is) r.rest;
       above = λ e h. sym (state_past x.0 e x.1 (drop (i + 1) xs) (λ clash. omega arith)) ∙ ap (λ (ys : Entities). listed_state ys e) (sym at) ∙ l.above e
-        (omega arith);
+          (omega arith);
       none = first_not (is_free (states_in xs)) least l.none (ap (λ (b : Bool). is_entity least && b) (ap is_absent here ∙ r.there) ∙ and_false
-        (is_entity least));
+          (is_entity least));
     } where
       and_false : (b : Bool) → (b && false) ≡ false
       and_false true = refl
@@ -136,7 +136,7 @@ least_found xs i least l within absent =
     let is : least ≡ i + 1 = l.least_is in
     first_found (is_free (states_in xs)) least (LARGEST_ENTITY + 1) l.none
     (and_from (is_entity least) (is_absent (listed_state xs least)) (is_entity-true least (omega arith) within)
-      (ap is_absent (sym (l.above least (omega arith)) ∙ absent)))
+    (ap is_absent (sym (l.above least (omega arith)) ∙ absent)))
     (omega arith)
 
 -- a gap before the entity at the head
@@ -149,7 +149,7 @@ least_gap xs i least x at l other =
     let within : x.0 ≤ LARGEST_ENTITY = r.within in
     least_found xs i least l (omega arith)
     (ap (λ (ys : Entities). listed_state ys least) at ∙ state_past x.0 least x.1 (drop (i + 1) xs) other ∙ absent_up_to x.0 least (drop (i + 1) xs) r.rest
-      (omega arith))
+    (omega arith))
 
 pub head_at : {X : Type 0} (xs : List X) (i : ℕ) (d : X) → i < length xs → drop i xs ≡ get_or xs i d ∷ drop (i + 1) xs
 head_at xs i d h = rw (add-one, drop-cons xs i d) refl

@@ -57,7 +57,7 @@ tests_under : (key k : RequestKey) (q d : Pdu) → IsKey key q → IsKey k d →
 tests_under key k q d i j =
     rw (i.site, i.application, j.site, j.application)
     (equal_keys (q.origin.site == d.origin.site) (q.origin.application == d.origin.application) (key.request == k.request)
-      (same_id (request_id_of q.body) (request_id_of d.body))
+    (same_id (request_id_of q.body) (request_id_of d.body))
     (same_ids (request_id_of q.body) (request_id_of d.body) key.request k.request i.request j.request))
 
 -- The place.
@@ -67,7 +67,7 @@ abbrev FoundFrom : Pdu → List Pdu → List KeptRequest → ℕ → Option ℕ 
 FoundFrom q ds ks i None = search_from q ds ks ≡ None
 FoundFrom q ds ks i (Some p) =
     (j : ℕ) × (p ≡ i + j) × (k : KeptRequest) × (slice_get ks j ≡ Some k) × (j < length ks) ×
-      (search_from q ds ks ≡ Some (record { request = k.request; before = kept_after ds (take j ks) }))
+    (search_from q ds ks ≡ Some (record { request = k.request; before = kept_after ds (take j ks) }))
 
 search_here : (q : Pdu) (ds : List Pdu) (k : KeptRequest) (ks : List KeptRequest) → is_under_key q k.request ≡ true
     → search_from q ds (k ∷ ks) ≡ Some (record { request = k.request; before = ds })
@@ -103,7 +103,7 @@ found_from q key test tests own ds (e ∷ es) i keyed =
     let is : test e.0 ≡ is_under_key q e.1.request = tests e.0 ∙ tests_under key e.0 q e.1.request own keyed.0 in
     subst (λ (b : Bool). FoundFrom q ds (values_of (e ∷ es)) i (cond b (Some i) (position_from test (i + 1) (keys_of es)))) (sym is)
     (found_by q ds e.1 (values_of es) i (position_from test (i + 1) (keys_of es)) (found_from q key test tests own (e.1.request ∷ ds) es (i + 1) keyed.1)
-      (is_under_key q e.1.request) refl)
+    (is_under_key q e.1.request) refl)
 
 none_first : (q : Pdu) → first_under q [] ≡ None
 unfolding first_under
@@ -117,7 +117,7 @@ is_place q ks None f = first_is q ks ∙ f
 is_place q ks (Some p) f =
     let same : p ≡ f.0 = omega (arith, f.1) in
     subst (λ (n : ℕ). (k : KeptRequest) × (slice_get ks n ≡ Some k) × (n < length ks) ×
-      (first_under q (requests ks) ≡ Some (record { request = k.request; before = requests_before n ks }))) (sym same)
+    (first_under q (requests ks) ≡ Some (record { request = k.request; before = requests_before n ks }))) (sym same)
     (f.2, f.3, f.4, first_is q ks ∙ f.5)
 
 pub place_is : (q : Pdu) (key : RequestKey) (test : RequestKey → Bool) → ((k : RequestKey) → test k ≡ tests_key key k) → IsKey key q

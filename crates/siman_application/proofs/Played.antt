@@ -48,7 +48,7 @@ equal_swaps m n = by (n == m) refl where
 pub pair_swaps : (i j : EntityId) → same_pair i j ≡ same_pair j i
 pair_swaps i j =
     ap (λ (b : Bool). b && (i.application == j.application)) (equal_swaps i.site j.site) ∙ ap (λ (b : Bool). (j.site == i.site) && b)
-      (equal_swaps i.application j.application)
+    (equal_swaps i.application j.application)
 
 not_asked : (r s i j : Bool) → (j && i) ≡ false → (r && (s && (i && j))) ≡ false
 not_asked false s i j e = refl
@@ -62,11 +62,11 @@ pub other_not_asked : (a : Outfit) (q d p : Pdu) → p.target ≡ q.origin → r
     → is_asked a.station.address p d ≡ false
 other_not_asked a q d p target id other =
     ap (λ (i : EntityId). is_request_body d.body &&
-      (is_addressed d.target a.station.address && (same_id (request_id_of p.body) (request_id_of d.body) && same_pair d.origin i))) target
+    (is_addressed d.target a.station.address && (same_id (request_id_of p.body) (request_id_of d.body) && same_pair d.origin i))) target
     ∙ ap (λ (o : Option ℕ). is_request_body d.body &&
-      (is_addressed d.target a.station.address && (same_id o (request_id_of d.body) && same_pair d.origin q.origin))) id
+    (is_addressed d.target a.station.address && (same_id o (request_id_of d.body) && same_pair d.origin q.origin))) id
     ∙ not_asked (is_request_body d.body) (is_addressed d.target a.station.address) (same_id (request_id_of q.body) (request_id_of d.body))
-      (same_pair d.origin q.origin)
+    (same_pair d.origin q.origin)
     (ap (λ (b : Bool). b && same_id (request_id_of q.body) (request_id_of d.body)) (pair_swaps d.origin q.origin) ∙ other)
 
 -- the key of an Acknowledge tells where it goes and under which identifier
@@ -107,19 +107,19 @@ pub keys_agree : (q d p r : Pdu) (k j : AcknowledgeKey) → p.target ≡ q.origi
     → IsKeyOf k p → IsKeyOf j r → same_key k j ≡ true → is_under_key q d ≡ true
 keys_agree q d p r k j pt pi rt ri kp jr e =
     let e1 = and_parts (k.flag == j.flag) ((k.request == j.request) &&
-      ((k.site == j.site) && ((k.application == j.application) && (k.entity == j.entity)))) e in
+    ((k.site == j.site) && ((k.application == j.application) && (k.entity == j.entity)))) e in
     let e2 = and_parts (k.request == j.request) ((k.site == j.site) && ((k.application == j.application) && (k.entity == j.entity))) e1.1 in
     let e3 = and_parts (k.site == j.site) ((k.application == j.application) && (k.entity == j.entity)) e2.1 in
     let e4 = and_parts (k.application == j.application) (k.entity == j.entity) e3.1 in
     let site : q.origin.site ≡ d.origin.site = sym (kp.site ∙ ap (λ (i : EntityId). i.site) pt) ∙ equal_of k.site j.site e3.0 ∙ jr.site ∙ ap
-      (λ (i : EntityId). i.site) rt in
+    (λ (i : EntityId). i.site) rt in
     let application : q.origin.application ≡ d.origin.application = sym (kp.application ∙ ap (λ (i : EntityId). i.application) pt)
-      ∙ equal_of k.application j.application e4.0 ∙ jr.application ∙ ap (λ (i : EntityId). i.application) rt in
+    ∙ equal_of k.application j.application e4.0 ∙ jr.application ∙ ap (λ (i : EntityId). i.application) rt in
     let id : same_id (request_id_of q.body) (request_id_of d.body) ≡ true =
     ap (λ (o : Option ℕ). same_id o (request_id_of d.body)) (sym pi ∙ kp.request) ∙ ap (same_id (Some k.request)) (sym ri ∙ jr.request) ∙ e2.0 in
     and_from (same_pair q.origin d.origin) (same_id (request_id_of q.body) (request_id_of d.body))
     (and_from (q.origin.site == d.origin.site) (q.origin.application == d.origin.application) (equal_to q.origin.site d.origin.site site)
-      (equal_to q.origin.application d.origin.application application)) id
+    (equal_to q.origin.application d.origin.application application)) id
 
 -- an Acknowledge of another request is not under the key
 pub other_key : (q d p r : Pdu) (n : ℕ) (k : AcknowledgeKey) → p.target ≡ q.origin → request_id_of p.body ≡ request_id_of q.body → r.target ≡ d.origin
@@ -181,12 +181,12 @@ none_taken : (a : Outfit) (ds : List Pdu) → AreSpelled a ds → (q p : Pdu) �
 none_taken a [] spelled q p target id none = none_start a.exercise a p
 none_taken a (d ∷ ds) spelled q p target id none =
     by (is_for_entities (body_kind d.body)) refl (none_taken a ds spelled.1 q p target id (first_none q d ds none).0) where
-  by : (b : Bool) → is_for_entities (body_kind d.body) ≡ b → request_taken_up a.exercise a.station.address p (play a ds) ≡ None → request_taken_up a.exercise a.station.address p (play a (d ∷ ds)) ≡ None
-  by true e rest =
-      ap (request_taken_up a.exercise a.station.address p) (play_more a d ds true e)
-      ∙ taken_get a.exercise a p d 0 0 (pdu_text d) (pdu_text (answer a (known a ds) d 0)) (play a ds) (spelled.0 e).0
-        (other_not_asked a q d p target id (first_none q d ds none).1) rest
-  by false e rest = ap (request_taken_up a.exercise a.station.address p) (play_more a d ds false e) ∙ rest
+      by : (b : Bool) → is_for_entities (body_kind d.body) ≡ b → request_taken_up a.exercise a.station.address p (play a ds) ≡ None → request_taken_up a.exercise a.station.address p (play a (d ∷ ds)) ≡ None
+      by true e rest =
+          ap (request_taken_up a.exercise a.station.address p) (play_more a d ds true e)
+          ∙ taken_get a.exercise a p d 0 0 (pdu_text d) (pdu_text (answer a (known a ds) d 0)) (play a ds) (spelled.0 e).0
+          (other_not_asked a q d p target id (first_none q d ds none).1) rest
+      by false e rest = ap (request_taken_up a.exercise a.station.address p) (play_more a d ds false e) ∙ rest
 
 -- nor is there an Acknowledge under its key
 none_acked : (a : Outfit) (ds : List Pdu) → AreSpelled a ds → AreFor a ds → (q p : Pdu) (n : ℕ) (k : AcknowledgeKey) → p.target ≡ q.origin
@@ -195,14 +195,14 @@ none_acked : (a : Outfit) (ds : List Pdu) → AreSpelled a ds → AreFor a ds �
 none_acked a [] spelled are q p n k target id key none = acked_start a.exercise n a k
 none_acked a (d ∷ ds) spelled are q p n k target id key none =
     by (is_for_entities (body_kind d.body)) refl (none_acked a ds spelled.1 are.1 q p n k target id key (first_none q d ds none).0) where
-  by : (b : Bool) → is_for_entities (body_kind d.body) ≡ b → was_acknowledged a.exercise n k (play a ds) ≡ false → was_acknowledged a.exercise n k (play a (d ∷ ds)) ≡ false
-  by true e rest =
-      let r = answer a (known a ds) d 0 in
-      let is = is_answer a (known a ds) d 0 are.0 in
-      ap (was_acknowledged a.exercise n k) (play_more a d ds true e)
-      ∙ acked_send a.exercise n k r 0 0 (pdu_text d) (pdu_text r) (play a ds) (spelled.0 e).1
-      (other_key q d p r n k target id is.target is.id key (first_none q d ds none).1) rest
-  by false e rest = ap (was_acknowledged a.exercise n k) (play_more a d ds false e) ∙ rest
+      by : (b : Bool) → is_for_entities (body_kind d.body) ≡ b → was_acknowledged a.exercise n k (play a ds) ≡ false → was_acknowledged a.exercise n k (play a (d ∷ ds)) ≡ false
+      by true e rest =
+          let r = answer a (known a ds) d 0 in
+          let is = is_answer a (known a ds) d 0 are.0 in
+          ap (was_acknowledged a.exercise n k) (play_more a d ds true e)
+          ∙ acked_send a.exercise n k r 0 0 (pdu_text d) (pdu_text r) (play a ds) (spelled.0 e).1
+          (other_key q d p r n k target id is.target is.id key (first_none q d ds none).1) rest
+      by false e rest = ap (was_acknowledged a.exercise n k) (play_more a d ds false e) ∙ rest
 
 -- The states after one more request.
 
@@ -210,12 +210,12 @@ pub is_asked_by : (a : Outfit) (y : ℕ → EntityState) (q p : Pdu) (request : 
     → is_asked a.station.address p q ≡ true
 is_asked_by a y q p request own is id =
     and_from (is_request_body q.body) (is_addressed q.target a.station.address &&
-      (same_id (request_id_of p.body) (request_id_of q.body) && same_pair q.origin p.target)) own.request
+    (same_id (request_id_of p.body) (request_id_of q.body) && same_pair q.origin p.target)) own.request
     (and_from (is_addressed q.target a.station.address) (same_id (request_id_of p.body) (request_id_of q.body) && same_pair q.origin p.target) own.addressed
     (and_from (same_id (request_id_of p.body) (request_id_of q.body)) (same_pair q.origin p.target)
     (ap (λ (o : Option ℕ). same_id o (request_id_of q.body)) (is.id ∙ id) ∙ ap (same_id (Some request)) id ∙ equal_self request)
     (ap (same_pair q.origin) is.target ∙ and_from (q.origin.site == q.origin.site) (q.origin.application == q.origin.application) (equal_self q.origin.site)
-      (equal_self q.origin.application))))
+    (equal_self q.origin.application))))
 
 -- each request has an identifier
 request_id_by : (body : Body) → is_request_body body ≡ true → (n : ℕ) × (request_id_of body ≡ Some n)

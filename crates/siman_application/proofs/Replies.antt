@@ -59,9 +59,9 @@ found_in : {X : Type 0} (P : X → Type 0) (held : ℕ → Option X) → ((id : 
 found_in P held all [] = All-nil P
 found_in {X = X} P held all (id ∷ ids) =
     All-append P (option_to_list (held id)) (found held ids) (one (held id) (all id)) (found_in P held all ids) where
-  one : (o : Option X) → ((x : X) → o ≡ Some x → P x) → All P (option_to_list o)
-  one None h = All-nil P
-  one (Some x) h = All-cons P x [] (h x refl) (All-nil P)
+      one : (o : Option X) → ((x : X) → o ≡ Some x → P x) → All P (option_to_list o)
+      one None h = All-nil P
+      one (Some x) h = All-cons P x [] (h x refl) (All-nil P)
 
 fitting_in : (P : Datum → Type 0) (room : ℕ) (ds : List Datum) → All P ds → All P (fitting room ds)
 fitting_in P room [] all = All-nil P
@@ -189,7 +189,7 @@ answer_in_by a k q stamp own r s (DataQuery request interval ids) h knows =
     data_in a q stamp request (held_records k ids) own r s h.0 (held_in k ids (knows refl))
 answer_in_by a k q stamp own r s (SetData request datums) h knows =
     data_in a q stamp request (held_records (told_of datums k) (ids_of datums)) own r s h.0
-      (held_in (told_of datums k) (ids_of datums) (told_in datums k h.1 (knows refl)))
+    (held_in (told_of datums k) (ids_of datums) (told_in datums k h.1 (knows refl)))
 answer_in_by a k q stamp own r s (DataPdu request datums) h knows = r
 answer_in_by a k q stamp own r s (EventReport event datums) h knows = r
 answer_in_by a k q stamp own r s (Comment datums) h knows = r
@@ -207,7 +207,7 @@ created_size a q stamp request (Some m) = omega arith
 data_fits : (a : Outfit) (q : Pdu) (stamp request : ℕ) (d : DatumLists) → pdu_size (data_answer a q stamp request d) ≤ LARGEST_DATAGRAM
 data_fits a q stamp request d =
     subst (λ (p : Pdu). pdu_size p ≤ LARGEST_DATAGRAM) (sym (cut_is a q stamp request d))
-      (omega (arith, data_size a q stamp request (cut_records d), cut_fits d))
+    (omega (arith, data_size a q stamp request (cut_records d), cut_fits d))
 
 answer_size_by : (a : Outfit) (k : Knowledge) (q : Pdu) (stamp : ℕ) (body : Body) → is_request_body body ≡ true
     → pdu_size (answer_by a k q stamp body) ≤ LARGEST_DATAGRAM
@@ -251,7 +251,7 @@ pub answer_read : (a : Outfit) (k : Knowledge) (q : Pdu) (stamp : ℕ) → IsOut
     → reading (pdu_text (answer a k q stamp)) ≡ Some (answer a k q stamp)
 answer_read a k q stamp own r s mine e =
     text_is_read (answer a k q stamp) (answer_in_by a k q stamp own r s q.body r.body (λ no. let clash : true ≡ false = sym e ∙ no in absurd cc))
-      (answer_size a k q stamp mine)
+    (answer_size a k q stamp mine)
 
 -- Replies.
 
@@ -322,4 +322,4 @@ reply_read a qs q stamp own each r s =
     (λ mine. text_is_read (answer a (known a ds) q stamp) (answer_in_range a ds q stamp own all r s) (answer_size a (known a ds) q stamp mine))
     (λ f e. let found = first_in IsInRange q ds all f e in
     text_is_read (answer a (known a f.before) f.request stamp) (answer_in_range a f.before f.request stamp own found.1 found.0 s)
-      (answer_size a (known a f.before) f.request stamp (for_at a qs q f e)))
+    (answer_size a (known a f.before) f.request stamp (for_at a qs q f e)))

@@ -59,7 +59,7 @@ states_after : (a : Outfit) (q : Pdu) (ds : List Pdu) (stamp : ℕ) → is_for a
     → (e : ℕ) → after (answer a (known a ds) q stamp) q (state_over a ds) e ≡ state_over a (q ∷ ds) e
 states_after a q ds stamp own are spelled none e =
     ap (λ (p : Pdu). after p q (state_over a ds) e) (answer_stamped a (known a ds) q stamp 0 (for_parts a q own).request) ∙ sym
-      (states_go_on a q ds own are spelled none e)
+    (states_go_on a q ds own are spelled none e)
 
 known_more : (a : Outfit) (q : Pdu) (ds : List Pdu) (stamp : ℕ) (es es' : Entities) (d d' : DatumLists) → is_for a q ≡ true → AreFor a ds
     → AreSpelled a (q ∷ ds) → first_under q ds ≡ None
@@ -98,11 +98,11 @@ right_more a table new es es' d d' key q p stamp right own is_key none range is 
       ranges = right.ranges;
       keyed = subst AreKeyed (sym kept) (keyed_last table.entries key one right.keyed is_key);
       answered = subst (AreAnswered a []) (sym vs) (answered_last a [] (values table) one right.answered
-        (record { own = own; answer_is = answer_is ∙ ap (answer a (known a ds) q) (sym stamp_is) }));
+          (record { own = own; answer_is = answer_is ∙ ap (answer a (known a ds) q) (sym stamp_is) }));
       own = subst (AreFor a) (sym rs) (own, right.own);
       spelled = subst (AreSpelled a) (sym rs) spelled;
       known_is = known_more a q ds stamp es es' d d' own right.own spelled none right.known_is (states ∙ ap (λ (r : Pdu). after r q (states_in es)) is)
-        (told es') ∙ ap (known a) (sym rs);
+          (told es') ∙ ap (known a) (sym rs);
     }
 
 -- An answer is stamped again.
@@ -142,7 +142,7 @@ right_stamped a place stamp table new es d right e =
       ranges = right.ranges;
       keyed = subst AreKeyed (sym e) (keyed_stamped place stamp table.entries right.keyed);
       answered = subst (λ (xs : List (RequestKey × KeptRequest)). AreAnswered a [] (values_of xs)) (sym e)
-        (answered_stamped a place stamp [] table.entries right.answered);
+          (answered_stamped a place stamp [] table.entries right.answered);
       own = subst (AreFor a) (sym same) right.own;
       spelled = subst (AreSpelled a) (sym same) right.spelled;
       known_is = right.known_is ∙ ap (known a) (sym same);
@@ -163,9 +163,8 @@ answered_at a ds (j ∷ ks) (suc place) k are at = answered_at a (j.request ∷ 
 -- the answer that is given again
 pub given_again : (a : Outfit) (place stamp : ℕ) (table new : Table) (k : KeptRequest) → AreAnswered a [] (values table)
     → slice_get (values table) place ≡ Some k → new.entries ≡ stamped_at place stamp table.entries
-    
     → option_map (λ (j : KeptRequest). j.answer) (slice_get (values new) place) ≡ Some
-      (answer a (known a (requests_before place (values table))) k.request stamp)
+    (answer a (known a (requests_before place (values table))) k.request stamp)
 given_again a place stamp table new k are at e =
     ap (λ (es : List (RequestKey × KeptRequest)). option_map (λ (j : KeptRequest). j.answer) (slice_get (values_of es) place)) e
     ∙ ap (option_map (λ (j : KeptRequest). j.answer)) (get_stamped place stamp table.entries k at)
@@ -180,7 +179,7 @@ pub given_first : (table new : Table) (key : RequestKey) (one : KeptRequest) →
     → option_map (λ (j : KeptRequest). j.answer) (slice_get (values new) (length (values table))) ≡ Some one.answer
 given_first table new key one e =
     ap (λ (ks : List KeptRequest). option_map (λ (j : KeptRequest). j.answer) (slice_get ks (length (values table))))
-      (ap values_of e ∙ values_last table.entries key one)
+    (ap values_of e ∙ values_last table.entries key one)
     ∙ ap (option_map (λ (j : KeptRequest). j.answer)) (get_last (values table) one)
 
 pub requests_more : (table new : Table) (key : RequestKey) (one : KeptRequest) → new.entries ≡ table.entries ++ (key, one) ∷ []
@@ -276,7 +275,7 @@ pub taken_again : (a : Outfit) (table new : Table) (es : Entities) (d : DatumLis
 taken_again a table new es d q stamp place r right own at is e =
     let k = at.0 in
     let given : r ≡ (if is_same_order q k.request then Some place else None) = is ∙ ap
-      (option_and_then (λ (k : KeptRequest). if is_same_order q k.request then Some place else None)) at.1 in
+    (option_and_then (λ (k : KeptRequest). if is_same_order q k.request then Some place else None)) at.1 in
     subst (Again a table new es d q stamp) (sym given)
     (again_by a table new es d q stamp place k right own at.1 at.2 at.3 (is_same_order q k.request) refl
     (subst (λ (o : Option ℕ). MatchOption o (new.entries ≡ table.entries) (λ i. new.entries ≡ stamped_at i stamp table.entries)) given e))
@@ -299,7 +298,7 @@ pub begun_in_range : (x : ℕ) (s : StationData) (d : DatumLists) (actions : Lis
 begun_in_range x s d actions exercise is datums =
     let address = and_parts (is_address s.address) (is_opening s.opening) is in
     let site = and_parts (nat_le 1 s.address.site) (nat_le s.address.site 65534 &&
-      (nat_le 1 s.address.application && nat_le s.address.application 65534)) address.0 in
+    (nat_le 1 s.address.application && nat_le s.address.application 65534)) address.0 in
     let below = and_parts (nat_le s.address.site 65534) (nat_le 1 s.address.application && nat_le s.address.application 65534) site.1 in
     let application = and_parts (nat_le 1 s.address.application) (nat_le s.address.application 65534) below.1 in
     record { exercise = exercise; site = fits s.address.site below.0; application = fits s.address.application application.1; datums = datums } where

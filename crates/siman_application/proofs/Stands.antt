@@ -61,9 +61,9 @@ none_sent : (x : ℕ) (a : Outfit) (log : History) (p f : Pdu) → request_taken
 unfolding send_cause causes
 none_sent x a log p f taken sender request answers changed impossible =
     no_causes (not (is_from a.station.address p)) (is_request_body p.body && is_reused x p log)
-      (is_answer_body p.body && is_none (request_taken_up x a.station.address p log))
+    (is_answer_body p.body && is_none (request_taken_up x a.station.address p log))
     (is_answer_body p.body && not (option_map_or (is_answer_to p) (request_taken_up x a.station.address p log) false))
-      (is_answer_body p.body && is_changed_answer x p log)
+    (is_answer_body p.body && is_changed_answer x p log)
     (is_answer_body p.body && option_map_or (is_impossible x a.station log p) (request_taken_up x a.station.address p log) false)
     (ap not sender) (false_and (is_request_body p.body) (is_reused x p log) request)
     (and_false (is_answer_body p.body) (is_none (request_taken_up x a.station.address p log)) (ap is_none taken))
@@ -100,21 +100,20 @@ again_unchanged a s stamp b q f ts are own first = by (key_of (answer_at a f sta
       ack_get a.exercise n k s b (log_in a s ts)
       ∙ acks_turns a s ts are f.request (answer_at a f stamp) (goes a (known a f.before) f.request stamp own) n k (key_is (answer_at a f stamp) k e)
       ∙ ap (acked_as a n k) (sym (first_same q f.request (same_key_of q f.request (first_has q (distinct a (taken_in ts)) f first)) (distinct a (taken_in ts)))
-        ∙ first)
+      ∙ first)
       ∙ sym (responds_stamped a f stamp n k own)
 
   by : (o : Option AcknowledgeKey) → key_of (answer_at a f stamp) ≡ o
-      
       → option_map_or (λ k. (responds able (answer_at a f stamp) && was_acknowledged a.exercise unable k (Get s b ∷ log_in a s ts)) ||
-        (responds unable (answer_at a f stamp) && was_acknowledged a.exercise able k (Get s b ∷ log_in a s ts))) o false ≡ false
+      (responds unable (answer_at a f stamp) && was_acknowledged a.exercise able k (Get s b ∷ log_in a s ts))) o false ≡ false
   by None e = refl
   by (Some k) e =
       ap (λ (v : Bool). (responds able (answer_at a f stamp) && v) ||
-        (responds unable (answer_at a f stamp) && was_acknowledged a.exercise able k (Get s b ∷ log_in a s ts))) (acked unable k e)
+      (responds unable (answer_at a f stamp) && was_acknowledged a.exercise able k (Get s b ∷ log_in a s ts))) (acked unable k e)
       ∙ ap (λ (v : Bool). (responds able (answer_at a f stamp) && responds_under unable k (answer_at a f stamp)) ||
-        (responds unable (answer_at a f stamp) && v)) (acked able k e)
+      (responds unable (answer_at a f stamp) && v)) (acked able k e)
       ∙ neither (responds able (answer_at a f stamp)) (responds unable (answer_at a f stamp)) (option_map_or (same_key k) (key_of (answer_at a f stamp)) false)
-        (option_map_or (same_key k) (key_of (answer_at a f stamp)) false)
+      (option_map_or (same_key k) (key_of (answer_at a f stamp)) false)
       (λ r u. let no : responds unable (answer_at a f stamp) ≡ false = exclusive_in (response_of (answer_at a f stamp).body) r in absurd cc)
 
 fresh_unchanged : (a : Outfit) (s stamp : ℕ) (b : List ℕ) (q : Pdu) (ts : List Turn) → AreMeant a true ts → is_for a q ≡ true
@@ -123,20 +122,19 @@ fresh_unchanged : (a : Outfit) (s stamp : ℕ) (b : List ℕ) (q : Pdu) (ts : Li
 unfolding is_changed_answer
 fresh_unchanged a s stamp b q ts are own none = by (key_of (answer a (known a (distinct a (taken_in ts))) q stamp)) refl where
   by : (o : Option AcknowledgeKey) → key_of (answer a (known a (distinct a (taken_in ts))) q stamp) ≡ o
-      
       → option_map_or (λ k.
-        (responds able (answer a (known a (distinct a (taken_in ts))) q stamp) && was_acknowledged a.exercise unable k (Get s b ∷ log_in a s ts))
+      (responds able (answer a (known a (distinct a (taken_in ts))) q stamp) && was_acknowledged a.exercise unable k (Get s b ∷ log_in a s ts))
       || (responds unable (answer a (known a (distinct a (taken_in ts))) q stamp) && was_acknowledged a.exercise able k
-        (Get s b ∷ log_in a s ts))) o false ≡ false
+      (Get s b ∷ log_in a s ts))) o false ≡ false
   by None e = refl
   by (Some k) e =
       ap (λ (v : Bool). (responds able (answer a (known a (distinct a (taken_in ts))) q stamp) && v) ||
-        (responds unable (answer a (known a (distinct a (taken_in ts))) q stamp) && was_acknowledged a.exercise able k (Get s b ∷ log_in a s ts)))
+      (responds unable (answer a (known a (distinct a (taken_in ts))) q stamp) && was_acknowledged a.exercise able k (Get s b ∷ log_in a s ts)))
       (fresh_acks a s stamp unable b q ts are own none k e)
       ∙ ap (λ (v : Bool). (responds able (answer a (known a (distinct a (taken_in ts))) q stamp) && false) ||
-        (responds unable (answer a (known a (distinct a (taken_in ts))) q stamp) && v)) (fresh_acks a s stamp able b q ts are own none k e)
+      (responds unable (answer a (known a (distinct a (taken_in ts))) q stamp) && v)) (fresh_acks a s stamp able b q ts are own none k e)
       ∙ never_both (responds able (answer a (known a (distinct a (taken_in ts))) q stamp))
-        (responds unable (answer a (known a (distinct a (taken_in ts))) q stamp))
+      (responds unable (answer a (known a (distinct a (taken_in ts))) q stamp))
 
 -- what is no change is not impossible
 unchanged_possible : (a : Outfit) (p f : Pdu) (log : History) → is_change a.exercise p log ≡ false
@@ -153,21 +151,21 @@ fresh_possible a s stamp b q f ts own same rest = by (responds able (answer a (k
   by : (v : Bool) → responds able (answer a (known a (distinct a (taken_in ts))) q stamp) ≡ v
       → (is_change a.exercise (answer a (known a (distinct a (taken_in ts))) q stamp) (Get s b ∷ log_in a s ts)
       && is_hopeless (change_of (answer a (known a (distinct a (taken_in ts))) q stamp) f).kind
-        (change_of (answer a (known a (distinct a (taken_in ts))) q stamp) f).scope (state_after a.exercise a.station (Get s b ∷ log_in a s ts))) ≡ false
+      (change_of (answer a (known a (distinct a (taken_in ts))) q stamp) f).scope (state_after a.exercise a.station (Get s b ∷ log_in a s ts))) ≡ false
   by false r =
       false_and (is_change a.exercise (answer a (known a (distinct a (taken_in ts))) q stamp) (Get s b ∷ log_in a s ts))
       (is_hopeless (change_of (answer a (known a (distinct a (taken_in ts))) q stamp) f).kind
-        (change_of (answer a (known a (distinct a (taken_in ts))) q stamp) f).scope (state_after a.exercise a.station (Get s b ∷ log_in a s ts)))
+      (change_of (answer a (known a (distinct a (taken_in ts))) q stamp) f).scope (state_after a.exercise a.station (Get s b ∷ log_in a s ts)))
       (not_change a.exercise (answer a (known a (distinct a (taken_in ts))) q stamp) (Get s b ∷ log_in a s ts)
-        (λ yes. let clash : true ≡ false = sym yes ∙ r in absurd cc))
+      (λ yes. let clash : true ≡ false = sym yes ∙ r in absurd cc))
   by true r =
       and_false (is_change a.exercise (answer a (known a (distinct a (taken_in ts))) q stamp) (Get s b ∷ log_in a s ts))
       (is_hopeless (change_of (answer a (known a (distinct a (taken_in ts))) q stamp) f).kind
-        (change_of (answer a (known a (distinct a (taken_in ts))) q stamp) f).scope (state_after a.exercise a.station (Get s b ∷ log_in a s ts)))
+      (change_of (answer a (known a (distinct a (taken_in ts))) q stamp) f).scope (state_after a.exercise a.station (Get s b ∷ log_in a s ts)))
       (ap (λ (c : Change). is_hopeless c.kind c.scope (state_after a.exercise a.station (Get s b ∷ log_in a s ts)))
-        (change_same (answer a (known a (distinct a (taken_in ts))) q stamp) q f same)
+      (change_same (answer a (known a (distinct a (taken_in ts))) q stamp) q f same)
       ∙ ap (is_hopeless (change_of (answer a (known a (distinct a (taken_in ts))) q stamp) q).kind
-        (change_of (answer a (known a (distinct a (taken_in ts))) q stamp) q).scope)
+      (change_of (answer a (known a (distinct a (taken_in ts))) q stamp) q).scope)
       (λ i e. (received_keeps a.exercise a.station (log_in a s ts) s b e ∙ rest e) i)
       ∙ ((is_answer a (known a (distinct a (taken_in ts))) q stamp own).able_can r).possible)
 
@@ -177,7 +175,7 @@ answer_from : (a : Outfit) (y : ℕ → EntityState) (q p : Pdu) → IsAnswer a 
 answer_from a y q p is =
     and_from (p.origin.site == a.station.address.site) (p.origin.application == a.station.address.application)
     (ap (λ (n : ℕ). n == a.station.address.site) is.site ∙ equal_self a.station.address.site)
-      (ap (λ (n : ℕ). n == a.station.address.application) is.application ∙ equal_self a.station.address.application)
+    (ap (λ (n : ℕ). n == a.station.address.application) is.application ∙ equal_self a.station.address.application)
 
 no_request_by : (r : Role) → is_answer_role r ≡ true → is_request_role r ≡ false
 no_request_by roles.Request e = absurd cc
@@ -196,10 +194,10 @@ stands_same a s stamp b q f ts read text are alike settled first same body =
     let is = is_answer a (known a f.before) f.request stamp kept in
     let found : first_under f.request (distinct a (q ∷ taken_in ts)) ≡ Some f =
     ap (first_under f.request) same ∙ sym (first_same q f.request (same_key_of q f.request (first_has q (distinct a (taken_in ts)) f first))
-      (distinct a (taken_in ts))) ∙ first in
+    (distinct a (taken_in ts))) ∙ first in
     let up = takes_up a s stamp b q f.request p f ts read text are alike settled (goes a (known a f.before) f.request stamp kept) found in
     none_sent a.exercise a (Get s b ∷ log_in a s ts) p up.request up.taken (answer_from a (known a f.before).states f.request p is)
-      (no_request_by (role_of p.body) body)
+    (no_request_by (role_of p.body) body)
     (answers_same p f.request up.request up.same is.answers) (again_unchanged a s stamp b q f ts are kept first)
     (unchanged_possible a p up.request (Get s b ∷ log_in a s ts) (again_no_change a s stamp b q f ts are kept first))
 
@@ -213,7 +211,7 @@ stands_fresh a station s stamp b q ts read text are alike settled own none same 
     let p = answer a (known a ds) q stamp in
     let is = is_answer a (known a ds) q stamp own in
     let up = takes_up a s stamp b q q p (record { request = q; before = ds }) ts read text are alike settled (goes a (known a ds) q stamp own)
-      (first_then a q ds own none same) in
+    (first_then a q ds own none same) in
     none_sent a.exercise a (Get s b ∷ log_in a s ts) p up.request up.taken (answer_from a (known a ds).states q p is) (no_request_by (role_of p.body) body)
     (answers_same p q up.request up.same is.answers) (fresh_unchanged a s stamp b q ts are own none)
     (fresh_possible a s stamp b q up.request ts own up.same (states_turns a station s ts are settled))
@@ -246,7 +244,7 @@ stands_taken a station s stamp later b q ts read text are alike settled (Same f 
       λ r e body. let is : p ≡ r = one_of p r (meaning a.exercise (pdu_text p)) m e in
           subst (λ (w : Pdu). send_cause a.exercise a.station (Get s b ∷ log_in a s ts) w ≡ None) is
           (stands_same a s stamp b q f ts read text (due_later a later q stamp ts p reply_is are) alike settled first same
-            (ap (λ (w : Pdu). is_answer_body w.body) is ∙ body)),
+          (ap (λ (w : Pdu). is_answer_body w.body) is ∙ body)),
       rest,
     )
 stands_taken a station s stamp later b q ts read text are alike settled (Fresh own none reply_is same) rest =
@@ -256,7 +254,7 @@ stands_taken a station s stamp later b q ts read text are alike settled (Fresh o
       λ r e body. let is : p ≡ r = one_of p r (meaning a.exercise (pdu_text p)) m e in
           subst (λ (w : Pdu). send_cause a.exercise a.station (Get s b ∷ log_in a s ts) w ≡ None) is
           (stands_fresh a station s stamp b q ts read text (due_later a later q stamp ts p reply_is are) alike settled own none same
-            (ap (λ (w : Pdu). is_answer_body w.body) is ∙ body)),
+          (ap (λ (w : Pdu). is_answer_body w.body) is ∙ body)),
       rest,
     )
 

@@ -45,8 +45,12 @@ pub same_key_of : (q d : Pdu) → is_under_key q d ≡ true → SameKey q d
 same_key_of q d e =
     let p = and_parts (same_pair q.origin d.origin) (same_id (request_id_of q.body) (request_id_of d.body)) e in
     let r = and_parts (q.origin.site == d.origin.site) (q.origin.application == d.origin.application) p.0 in
-    record { site = equal_of q.origin.site d.origin.site r.0; application = equal_of q.origin.application d.origin.application r.1; id = same_ids_are
-      (request_id_of q.body) (request_id_of d.body) p.1 }
+    record {
+      site = equal_of q.origin.site d.origin.site r.0;
+      application = equal_of q.origin.application d.origin.application r.1;
+      id = same_ids_are
+          (request_id_of q.body) (request_id_of d.body) p.1;
+    }
 
 under_same : (q d r : Pdu) → SameKey q d → is_under_key q r ≡ is_under_key d r
 under_same q d r k =
@@ -117,10 +121,10 @@ meant_for x b q e = by (reading b) e where
 -- what is asked of the station and meant is for it
 asked_parts : (a : Outfit) (p q : Pdu) → is_asked a.station.address p q ≡ true
     → (is_request_body q.body ≡ true) × (is_addressed q.target a.station.address ≡ true) × (same_id (request_id_of p.body) (request_id_of q.body) ≡ true) ×
-      (same_pair q.origin p.target ≡ true)
+    (same_pair q.origin p.target ≡ true)
 asked_parts a p q e =
     let e1 = and_parts (is_request_body q.body) (is_addressed q.target a.station.address &&
-      (same_id (request_id_of p.body) (request_id_of q.body) && same_pair q.origin p.target)) e in
+    (same_id (request_id_of p.body) (request_id_of q.body) && same_pair q.origin p.target)) e in
     let e2 = and_parts (is_addressed q.target a.station.address) (same_id (request_id_of p.body) (request_id_of q.body) && same_pair q.origin p.target) e1.1 in
     let e3 = and_parts (same_id (request_id_of p.body) (request_id_of q.body)) (same_pair q.origin p.target) e2.1 in
     (e1.0, e2.0, e3.0, e3.1)
@@ -144,7 +148,7 @@ under_asked a r p q goes own e =
     let parts = for_parts a q own in
     let u = and_parts (same_pair r.origin q.origin) (same_id (request_id_of r.body) (request_id_of q.body)) e in
     and_from (is_request_body q.body) (is_addressed q.target a.station.address &&
-      (same_id (request_id_of p.body) (request_id_of q.body) && same_pair q.origin p.target)) parts.request
+    (same_id (request_id_of p.body) (request_id_of q.body) && same_pair q.origin p.target)) parts.request
     (and_from (is_addressed q.target a.station.address) (same_id (request_id_of p.body) (request_id_of q.body) && same_pair q.origin p.target) parts.addressed
     (and_from (same_id (request_id_of p.body) (request_id_of q.body)) (same_pair q.origin p.target)
     (ap (λ (o : Option ℕ). same_id o (request_id_of q.body)) goes.id ∙ u.1)
@@ -172,10 +176,10 @@ course_known : (a : Outfit) (ds : List Pdu) (q : Pdu) (stamp : ℕ) (f : Placed)
     → is_same_order q f.request ≡ b → Course a ds q stamp
 course_known a ds q stamp f own e true s =
     Same f own e (reply_own a ds q stamp true own ∙ ap (answer_under a ds q stamp) e ∙ ap (λ (v : Bool). if v then Some (answer_at a f stamp) else None) s)
-      (joins_own a ds q true own (Some f) e)
+    (joins_own a ds q true own (Some f) e)
 course_known a ds q stamp f own e false s =
     Other f own e (reply_own a ds q stamp true own ∙ ap (answer_under a ds q stamp) e ∙ ap (λ (v : Bool). if v then Some (answer_at a f stamp) else None) s)
-      (joins_own a ds q true own (Some f) e)
+    (joins_own a ds q true own (Some f) e)
 
 course_by : (a : Outfit) (ds : List Pdu) (q : Pdu) (stamp : ℕ) (b : Bool) → is_for a q ≡ b → (o : Option Placed) → first_under q ds ≡ o
     → Course a ds q stamp
@@ -218,7 +222,7 @@ TakesUp a r ts (Some g) (Some f) = IsSameOrder f g.request
 -- a get goes on with what was taken up before, or else with what it brings
 pub up_get : (a : Outfit) (p : Pdu) (s : ℕ) (b : List ℕ) (log : History)
     → request_taken_up a.exercise a.station.address p (Get s b ∷ log) ≡ option_or (request_taken_up a.exercise a.station.address p log)
-      (request_brought a.exercise a.station.address p (Get s b))
+    (request_brought a.exercise a.station.address p (Get s b))
 unfolding request_taken_up
 up_get a p s b log = refl
 
@@ -334,24 +338,24 @@ up_taken a r p q s stamp b ds ts u goes e alike (Foreign reply same out) up =
     subst (λ (xs : List Pdu). TakesUp a r ts (first_under r xs) (option_or u (request_brought a.exercise a.station.address p (Get s b)))) (sym same)
     (up_kept a r ts (first_under r ds) u (request_brought a.exercise a.station.address p (Get s b))
     (λ none. brings_none a r p q b (request_brought a.exercise a.station.address p (Get s b)) e (brought_by a r p s b goes)
-      (λ own under. let clash : true ≡ false = sym own ∙ out in absurd cc)) up)
+    (λ own under. let clash : true ≡ false = sym own ∙ out in absurd cc)) up)
 up_taken a r p q s stamp b ds ts u goes e alike (Same f own first reply same) up =
     subst (λ (xs : List Pdu). TakesUp a r ts (first_under r xs) (option_or u (request_brought a.exercise a.station.address p (Get s b)))) (sym same)
     (up_kept a r ts (first_under r ds) u (request_brought a.exercise a.station.address p (Get s b))
     (λ none. brings_none a r p q b (request_brought a.exercise a.station.address p (Get s b)) e (brought_by a r p s b goes)
-      (λ own under. known_key a r q ds f first none under)) up)
+    (λ own under. known_key a r q ds f first none under)) up)
 up_taken a r p q s stamp b ds ts u goes e alike (Other f own first reply same) up =
     subst (λ (xs : List Pdu). TakesUp a r ts (first_under r xs) (option_or u (request_brought a.exercise a.station.address p (Get s b)))) (sym same)
     (up_kept a r ts (first_under r ds) u (request_brought a.exercise a.station.address p (Get s b))
     (λ none. brings_none a r p q b (request_brought a.exercise a.station.address p (Get s b)) e (brought_by a r p s b goes)
-      (λ own under. known_key a r q ds f first none under)) up)
+    (λ own under. known_key a r q ds f first none under)) up)
 up_taken a r p q s stamp b ds ts u goes e alike (Fresh own none reply same) up =
     subst (λ (xs : List Pdu). TakesUp a r ts (first_under r xs) (option_or u (request_brought a.exercise a.station.address p (Get s b)))) (sym same)
     (subst (λ (o : Option Placed). TakesUp a r ts o (option_or u (request_brought a.exercise a.station.address p (Get s b)))) (sym (first_more r q ds))
     (up_fresh a r q ds ts (first_under r ds) u (request_brought a.exercise a.station.address p (Get s b)) (alike own) up (is_under_key r q) refl
     (λ under. brings_it a r p q s b goes e own under)
     (λ under. brings_none a r p q b (request_brought a.exercise a.station.address p (Get s b)) e (brought_by a r p s b goes)
-      (λ own yes. let clash : true ≡ false = sym yes ∙ under in absurd cc))))
+    (λ own yes. let clash : true ≡ false = sym yes ∙ under in absurd cc))))
 
 up_start : (a : Outfit) (r p : Pdu) (s : ℕ) → TakesUp a r [] (first_under r []) (request_taken_up a.exercise a.station.address p (log_in a s []))
 unfolding first_under request_taken_up
@@ -364,28 +368,28 @@ up_turns a s later [] are settled r p goes = up_start a r p s
 up_turns a s later (Tells e y ∷ ts) are settled r p goes =
     subst (TakesUp a r (Tells e y ∷ ts) (first_under r (distinct a (taken_in ts)))) (sym (up_tell a p s e y (log_in a s ts)))
     (up_later a r ts (Tells e y ∷ ts) (λ q alike. alike) (first_under r (distinct a (taken_in ts)))
-      (request_taken_up a.exercise a.station.address p (log_in a s ts)) (up_turns a s later ts are settled r p goes))
+    (request_taken_up a.exercise a.station.address p (log_in a s ts)) (up_turns a s later ts are settled r p goes))
 up_turns a s later (Orders o ∷ ts) are settled r p goes =
     subst (TakesUp a r (Orders o ∷ ts) (first_under r (distinct a (taken_in ts)))) (sym (up_send a p s (pdu_text o) (log_in a s ts)))
     (up_later a r ts (Orders o ∷ ts) (λ q alike. alike) (first_under r (distinct a (taken_in ts)))
-      (request_taken_up a.exercise a.station.address p (log_in a s ts)) (up_turns a s later ts are.1 settled r p goes))
+    (request_taken_up a.exercise a.station.address p (log_in a s ts)) (up_turns a s later ts are.1 settled r p goes))
 up_turns a s later (Passes b ∷ ts) are settled r p goes =
     subst (TakesUp a r (Passes b ∷ ts) (first_under r (distinct a (taken_in ts)))) (sym (up_get a p s b (log_in a s ts)))
     (up_passed a r p b ts (first_under r (distinct a (taken_in ts))) (request_taken_up a.exercise a.station.address p (log_in a s ts))
-      (request_brought a.exercise a.station.address p (Get s b)) (brought_by a r p s b goes)
+    (request_brought a.exercise a.station.address p (Get s b)) (brought_by a r p s b goes)
     (up_turns a s later ts are settled r p goes))
 up_turns a s later (Takes b q stamp ∷ ts) are settled r p goes =
     subst (TakesUp a r (Takes b q stamp ∷ ts) (first_under r (distinct a (q ∷ taken_in ts))))
-      (sym (up_sent a p s (reply a (taken_in ts) q stamp) (Get s b ∷ log_in a s ts) ∙ up_get a p s b (log_in a s ts)))
+    (sym (up_sent a p s (reply a (taken_in ts) q stamp) (Get s b ∷ log_in a s ts) ∙ up_get a p s b (log_in a s ts)))
     (up_later a r ts (Takes b q stamp ∷ ts) (λ q alike. alike) (first_under r (distinct a (q ∷ taken_in ts)))
-      (option_or (request_taken_up a.exercise a.station.address p (log_in a s ts)) (request_brought a.exercise a.station.address p (Get s b)))
+    (option_or (request_taken_up a.exercise a.station.address p (log_in a s ts)) (request_brought a.exercise a.station.address p (Get s b)))
     (up_taken a r p q s stamp b (distinct a (taken_in ts)) ts (request_taken_up a.exercise a.station.address p (log_in a s ts)) goes are.0.read settled.0
-      (course a (distinct a (taken_in ts)) q stamp)
+    (course a (distinct a (taken_in ts)) q stamp)
     (up_turns a s (later || is_due a ts q stamp) ts are.2 settled.1 r p goes)))
 up_turns a s later (Loses b q stamp ∷ ts) are settled r p goes =
     subst (TakesUp a r (Loses b q stamp ∷ ts) (first_under r (distinct a (q ∷ taken_in ts)))) (sym (up_get a p s b (log_in a s ts)))
     (up_later a r ts (Loses b q stamp ∷ ts) (λ q alike. alike) (first_under r (distinct a (q ∷ taken_in ts)))
-      (option_or (request_taken_up a.exercise a.station.address p (log_in a s ts)) (request_brought a.exercise a.station.address p (Get s b)))
+    (option_or (request_taken_up a.exercise a.station.address p (log_in a s ts)) (request_brought a.exercise a.station.address p (Get s b)))
     (up_taken a r p q s stamp b (distinct a (taken_in ts)) ts (request_taken_up a.exercise a.station.address p (log_in a s ts)) goes are.0.read settled.0
-      (course a (distinct a (taken_in ts)) q stamp)
+    (course a (distinct a (taken_in ts)) q stamp)
     (up_turns a s true ts are.2 settled.1 r p goes)))

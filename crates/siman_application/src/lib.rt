@@ -15,11 +15,11 @@ mod entities;
 mod entity_list;
 mod fault;
 mod kept;
-mod law;
+mod laws;
 mod outfit;
 mod records;
 mod taking;
 
 pub use application::Application;
 pub use fault::AppFault;
-pub use law::{own_logs_stand, requests_are_told_once};
+pub use laws::{own_logs_stand, requests_are_told_once};

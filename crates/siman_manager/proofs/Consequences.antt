@@ -29,7 +29,7 @@ pub sends_are_same : (s : Settings) (past : List Call) → AreRequests past → 
     → AllByRecursion (IsSendOf s l.order) (filter (has_id (s.first_id + k)) (given_out s past))
 sends_are_same s past are k l e =
     subst (λ (ps : List Pdu). AllByRecursion (IsSendOf s l.order) ps) (sym (sends_of s past are k ∙ ap sent_as e))
-      (are_sends s l.order (made_as s past are k l e).origin l.sends)
+    (are_sends s l.order (made_as s past are k l e).origin l.sends)
 
 -- Each PDU that is given out is of an order.
 
@@ -60,18 +60,18 @@ pub of_orders : (s : Settings) (past : List Call) → AreRequests past → AllBy
 of_orders s [] are = tt
 of_orders s (Requested order now stamp ∷ past) are =
     subst (λ (n : ℕ). AllByRecursion (IsOfOrder s (one_more (refusal s (count_made s past) order stamp) (count_made s past)))
-      (made_pdu (refusal s n order stamp) (order_pdu s (next_id s n) order stamp) ++ given_out s past))
+    (made_pdu (refusal s n order stamp) (order_pdu s (next_id s n) order stamp) ++ given_out s past))
     (sym (counts s past))
     (made_of_order s (count_made s past) (order_pdu s (next_id s (count_made s past)) order stamp) (refusal s (count_made s past) order stamp)
-      (given_out s past)
+    (given_out s past)
     (id-numbered (next_id s (count_made s past)) order.body are.0) (of_orders s past are.1))
 of_orders s (Came p ∷ past) are = of_orders s past are
 of_orders s (Ticked now stamp ∷ past) are =
     subst (λ (x : Option KeptOrder). AllByRecursion (IsOfOrder s (count_made s past))
-      (option_to_list (option_map (λ (x : KeptOrder). with_stamp stamp x.pdu) x) ++ given_out s past))
+    (option_to_list (option_map (λ (x : KeptOrder). with_stamp stamp x.pdu) x) ++ given_out s past))
     (sym (find-at (is_ready s now) (kept s past)))
     (repeat_of_order s stamp (count_made s past) (kept s past) (given_out s past)
-      (numbered_kept s (kept s past) (life s past) (agrees s past are) (numbers s past are)) (counts s past)
+    (numbered_kept s (kept s past) (life s past) (agrees s past are) (numbers s past are)) (counts s past)
     (first_place (is_ready s now) (kept s past)) (of_orders s past are))
 
 -- How often.
@@ -115,7 +115,7 @@ within_tries s (Came p ∷ past) h k l e =
     within_mapped s _ (life s past k) (λ x. within_came s (settles_order s x.order p) x) (within_tries s past h k) l e
 within_tries s (Ticked now stamp ∷ past) h k l e =
     within_mapped s _ (life s past k) (λ x. within_ticked s now stamp (none_before (λ j. passes (is_ready_at s now) (life s past j)) k) x)
-      (within_tries s past h k) l e
+    (within_tries s past h k) l e
 
 -- A PDU that has an identifier below the first is not given out.
 none_below : (s : Settings) (n id : ℕ) (ps : List Pdu) → id < s.first_id → AllByRecursion (IsOfOrder s n) ps → filter (has_id id) ps ≡ []
@@ -142,7 +142,7 @@ at_most_tries s past h are id = side (nat_le s.first_id id) refl where
       let place : s.first_id + (id - s.first_id) ≡ id = omega arith in
       let at : length (filter (has_id (s.first_id + (id - s.first_id))) (given_out s past)) ≤ s.tries =
       subst (λ (ps : List Pdu). length ps ≤ s.tries) (sym (sends_of s past are (id - s.first_id)))
-        (sent_within s (life s past (id - s.first_id)) (within_tries s past h (id - s.first_id))) in
+      (sent_within s (life s past (id - s.first_id)) (within_tries s past h (id - s.first_id))) in
       subst (λ (i : ℕ). length (filter (has_id i) (given_out s past)) ≤ s.tries) place at
   side false t =
       let low : id < s.first_id = grind (arith, nat_tests) in

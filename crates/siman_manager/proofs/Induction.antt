@@ -47,7 +47,7 @@ pub counts : (s : Settings) (past : List Call) → length (kept s past) ≡ coun
 counts s [] = refl
 counts s (Requested order now stamp ∷ past) =
     length-after_request (refusal s (length (kept s past)) order stamp) s order now stamp (kept s past) ∙ ap (λ (n : ℕ). one_more (refusal s n order stamp) n)
-      (counts s past)
+    (counts s past)
 counts s (Came p ∷ past) = length-after_take s p (kept s past) ∙ counts s past
 counts s (Ticked now stamp ∷ past) = length-changed_through (is_ready s now) (looked_at s now stamp) (kept s past) ∙ counts s past
 
@@ -62,7 +62,7 @@ made_is_order : (s : Settings) (n : ℕ) (order : Order) (stamp : ℕ) → refus
     → IsOrder s n (order_pdu s (next_id s n) order stamp)
 made_is_order s n order stamp e is_request =
     let within : (nat_lt (next_id s n) (2 ^ 32) ≡ true) × (nat_le
-      (pdu_size (order_pdu s (next_id s n) order stamp)) LARGEST_DATAGRAM ≡ true) = both_true _ _ faults.TooLong faults.IdsSpent e in
+    (pdu_size (order_pdu s (next_id s n) order stamp)) LARGEST_DATAGRAM ≡ true) = both_true _ _ faults.TooLong faults.IdsSpent e in
     record {
       id = id-numbered (next_id s n) order.body is_request;
       below = ltb-true (next_id s n) (2 ^ 32) within.0;
@@ -105,7 +105,7 @@ made_orders s n order now stamp None t is_request k o are l e = next (k == n) re
   next true u v =
       let order_is : order_pdu s (next_id s n) order stamp ≡ l.order = some_order _ v in
       subst (λ (p : Pdu). IsOrder s k p) order_is (subst (λ (i : ℕ). IsOrder s i (order_pdu s (next_id s n) order stamp)) (sym (eq-true k n u))
-        (made_is_order s n order stamp t is_request))
+      (made_is_order s n order stamp t is_request))
     where
       some_order : (x : Life) → Some x ≡ Some l → x.order ≡ l.order
       some_order x w = let same : x ≡ l = cc in ap (λ (z : Life). z.order) same
@@ -114,12 +114,12 @@ pub made_as : (s : Settings) (past : List Call) → AreRequests past → (k : �
 made_as s [] are k l e = absurd cc
 made_as s (Requested order now stamp ∷ past) are k l e =
     made_orders s (count_made s past) order now stamp (refusal s (count_made s past) order stamp) refl are.0 k (life s past k)
-      (λ x at. made_as s past are.1 k x at) l e
+    (λ x at. made_as s past are.1 k x at) l e
 made_as s (Came p ∷ past) are k l e =
     order_kept s k _ (life s past k) (λ x. came_same (settles_order s x.order p) x) (λ x at. made_as s past are k x at) l e
 made_as s (Ticked now stamp ∷ past) are k l e =
     order_kept s k _ (life s past k) (λ x. ticked_same s now stamp (none_before (λ j. passes (is_ready_at s now) (life s past j)) k) x)
-      (λ x at. made_as s past are k x at) l e
+    (λ x at. made_as s past are k x at) l e
 
 pub numbers : (s : Settings) (past : List Call) → AreRequests past → NumberedLives s (life s past)
 numbers s past are k l e = (made_as s past are k l e).id
@@ -128,9 +128,8 @@ numbers s past are k l e = (made_as s past are k l e).id
 
 made_agrees : (s : Settings) (order : Order) (now stamp : ℕ) (orders : List KeptOrder) (lives : ℕ → Option Life) → Agree orders lives
     → (r : Option OrderFault)
-    
     → Agree (after_request r s order now stamp orders) (λ k. life_made r (order_pdu s (next_id s (length orders)) order stamp) now stamp (k == length orders)
-      (lives k))
+    (lives k))
 made_agrees s order now stamp orders lives agree (Some fault) k = agree k
 made_agrees s order now stamp orders lives agree None k =
     slice_get-append_one orders (new_order (order_pdu s (next_id s (length orders)) order stamp) now) k ∙ next (k == length orders) where
@@ -143,7 +142,7 @@ pub agrees : (s : Settings) (past : List Call) → AreRequests past → Agree (k
 agrees s [] are = λ k. refl
 agrees s (Requested order now stamp ∷ past) are =
     subst (λ (n : ℕ). Agree (kept s (Requested order now stamp ∷ past))
-      (λ k. life_made (refusal s n order stamp) (order_pdu s (next_id s n) order stamp) now stamp (k == n) (life s past k)))
+    (λ k. life_made (refusal s n order stamp) (order_pdu s (next_id s n) order stamp) now stamp (k == n) (life s past k)))
     (counts s past) (made_agrees s order now stamp (kept s past) (life s past) (agrees s past are.1) (refusal s (length (kept s past)) order stamp))
 agrees s (Came p ∷ past) are = came_agrees s p (kept s past) (life s past) (agrees s past are) (numbers s past are)
 agrees s (Ticked now stamp ∷ past) are = ticked_agrees s now stamp (kept s past) (life s past) (agrees s past are)

@@ -98,9 +98,9 @@ settled_place s p orders numbers id r (Some y) e k =
     slice_get-set_at orders (id - s.first_id) y (settled p y) k known.1 ∙ at_or_beside (k == id - s.first_id) refl known.0 known.1
   where
     at_or_beside : (b : Bool) → (k == id - s.first_id) ≡ b → s.first_id ≤ id → slice_get orders (id - s.first_id) ≡ Some y →
-      (if b then Some (settled p y) else slice_get orders k) ≡ option_map (settled p) (slice_get orders k)
+        (if b then Some (settled p y) else slice_get orders k) ≡ option_map (settled p) (slice_get orders k)
     at_or_beside true t low at = sym (ap (λ (i : ℕ). option_map (settled p) (slice_get orders i)) (eq-true k (id - s.first_id) t) ∙ ap
-      (option_map (settled p)) at)
+        (option_map (settled p)) at)
     at_or_beside false t low at =
         mapped_same (settled p) (slice_get orders k) (λ x here. if_not (is_answer_to p x.pdu) _ x (λ a.
         let place : id ≡ s.first_id + k = answered_id s p orders numbers id k x r here a in
@@ -119,7 +119,7 @@ pub taken_each : (s : Settings) (p : Pdu) (orders : List KeptOrder) → Numbered
     → slice_get (after_take s p orders) k ≡ option_map (λ x. if p.exercise == s.exercise then settled p x else x) (slice_get orders k)
 taken_each s p orders numbers k =
     elim (p.exercise == s.exercise) as (λ b. slice_get (if b then settled_under s p orders (request_id_of p.body) else orders) k ≡ option_map
-      (λ x. if b then settled p x else x) (slice_get orders k))
+    (λ x. if b then settled p x else x) (slice_get orders k))
     [ true ↦ settled_by_id s p orders numbers (request_id_of p.body) refl k | false ↦ mapped_same (λ x. x) (slice_get orders k) (λ x e. refl) ]
 
 -- The kept orders and the lives, step by step.
@@ -151,13 +151,13 @@ pub came_agrees : (s : Settings) (p : Pdu) (orders : List KeptOrder) (lives : �
     → Agree (after_take s p orders) (λ k. option_map (λ l. if settles_order s l.order p then with_standing standings.Answered l else l) (lives k))
 came_agrees s p orders lives agree numbers k =
     taken_each s p orders (numbered_kept s orders lives agree numbers) k ∙ ap
-      (option_map (λ (x : KeptOrder). if p.exercise == s.exercise then settled p x else x)) (agree k) ∙ each (lives k)
+    (option_map (λ (x : KeptOrder). if p.exercise == s.exercise then settled p x else x)) (agree k) ∙ each (lives k)
   where
     each : (o : Option Life) → option_map (λ (x : KeptOrder). if p.exercise == s.exercise then settled p x else x) (option_map kept_as o)
         ≡ option_map kept_as (option_map (λ (l : Life). if settles_order s l.order p then with_standing standings.Answered l else l) o)
     each None = refl
     each (Some l) = ap (λ z. Some z) (three_tests kept_as (p.exercise == s.exercise) (is_answer_to p l.order) (settles p.body)
-      (with_standing standings.Answered l) l)
+        (with_standing standings.Answered l) l)
 
 -- a tick does to what is kept what it does to the life
 kept_as-ticked : (s : Settings) (now stamp : ℕ) (l : Life) (reached : Bool)
@@ -175,18 +175,17 @@ passes-agree s now None = refl
 passes-agree s now (Some l) = refl
 
 pub ticked_agrees : (s : Settings) (now stamp : ℕ) (orders : List KeptOrder) (lives : ℕ → Option Life) → Agree orders lives
-    
     → Agree (after_tick s now stamp orders) (λ k. option_map
-      (λ l. if none_before (λ j. passes (is_ready_at s now) (lives j)) k then life_ticked s now stamp l else l) (lives k))
+    (λ l. if none_before (λ j. passes (is_ready_at s now) (lives j)) k then life_ticked s now stamp l else l) (lives k))
 ticked_agrees s now stamp orders lives agree k =
     slice_get-changed_through (is_ready s now) (looked_at s now stamp) orders k
     ∙ ap (λ (b : Bool). option_map (λ (x : KeptOrder). if b then looked_at s now stamp x else x) (slice_get orders k))
     (none_before-same (λ j. passes (is_ready s now) (slice_get orders j)) (λ j. passes (is_ready_at s now) (lives j))
-      (λ j. ap (passes (is_ready s now)) (agree j) ∙ passes-agree s now (lives j)) k)
+    (λ j. ap (passes (is_ready s now)) (agree j) ∙ passes-agree s now (lives j)) k)
     ∙ ap (option_map (λ (x : KeptOrder). if none_before (λ j. passes (is_ready_at s now) (lives j)) k then looked_at s now stamp x else x)) (agree k) ∙ each
-      (none_before (λ j. passes (is_ready_at s now) (lives j)) k) (lives k)
+    (none_before (λ j. passes (is_ready_at s now) (lives j)) k) (lives k)
   where
     each : (b : Bool) (o : Option Life) → option_map (λ (x : KeptOrder). if b then looked_at s now stamp x else x) (option_map kept_as o) ≡ option_map kept_as
-      (option_map (λ (l : Life). if b then life_ticked s now stamp l else l) o)
+        (option_map (λ (l : Life). if b then life_ticked s now stamp l else l) o)
     each b None = refl
     each b (Some l) = ap (λ z. Some z) (kept_as-ticked s now stamp l b)

@@ -44,7 +44,7 @@ slice_get-changed_through p f [] k = refl
 slice_get-changed_through p f (x ∷ xs) zero = refl
 slice_get-changed_through p f (x ∷ xs) (suc k) =
     elim (p x) as (λ b. slice_get (if b then xs else changed_through p f xs) k ≡ option_map
-      (λ y. if (if b then false else none_before (λ j. passes p (slice_get xs j)) k) then f y else y) (slice_get xs k))
+    (λ y. if (if b then false else none_before (λ j. passes p (slice_get xs j)) k) then f y else y) (slice_get xs k))
     [ true ↦ sym (option_map-same (slice_get xs k)) | false ↦ slice_get-changed_through p f xs k ]
 
 pub slice_get-set_none : {X : Type 0} (xs : List X) (i : ℕ) (y : X) (k : ℕ) → slice_get xs k ≡ None → slice_get (set xs i y) k ≡ None
@@ -99,9 +99,12 @@ pub reached_first : {X : Type 0} (p : X → Bool) (xs : List X) (k : ℕ)
     → (if none_before (λ j. passes p (slice_get xs j)) k then passes p (slice_get xs k) else false) ≡ is_place k (first_place p xs)
 reached_first p [] k = elim (none_before (λ j. false) k) as (λ b. (if b then false else false) ≡ false) [ true ↦ refl | false ↦ refl ]
 reached_first p (x ∷ xs) zero =
-    elim (p x) as (λ b. b ≡ is_place zero (if b then Some zero else option_map suc (first_place p xs))) [ true ↦ refl | false ↦ sym
-      (is_place-zero (first_place p xs)) ]
+    elim (p x) as (λ b. b ≡ is_place zero (if b then Some zero else option_map suc (first_place p xs))) [
+      | true ↦ refl
+      | false ↦ sym
+          (is_place-zero (first_place p xs))
+    ]
 reached_first p (x ∷ xs) (suc k) =
     elim (p x) as (λ b. (if (if b then false else none_before (λ j. passes p (slice_get xs j)) k) then passes p (slice_get xs k) else false) ≡ is_place (suc k)
-      (if b then Some zero else option_map suc (first_place p xs)))
+    (if b then Some zero else option_map suc (first_place p xs)))
     [ true ↦ sym (suc-eq-zero k) | false ↦ reached_first p xs k ∙ sym (is_place-suc k (first_place p xs)) ]

@@ -41,12 +41,11 @@ grown_none stamp true = refl
 grown_none stamp false = refl
 
 reached_one : (s : Settings) (now : ℕ) (orders : List KeptOrder) (lives : ℕ → Option Life) → Agree orders lives → (k : ℕ)
-    
     → (if none_before (λ j. passes (is_ready_at s now) (lives j)) k then passes (is_ready_at s now) (lives k) else false) ≡ is_place k
-      (first_place (is_ready s now) orders)
+    (first_place (is_ready s now) orders)
 reached_one s now orders lives agree k =
     let each : (j : ℕ) → passes (is_ready s now) (slice_get orders j) ≡ passes (is_ready_at s now) (lives j) = λ j. ap (passes (is_ready s now)) (agree j)
-      ∙ passes-agree s now (lives j) in
+    ∙ passes-agree s now (lives j) in
     sym (ap (λ (b : Bool). if b then passes (is_ready s now) (slice_get orders k) else false) (none_before-same _ _ each k)
     ∙ ap (λ (b : Bool). if none_before (λ j. passes (is_ready_at s now) (lives j)) k then b else false) (each k))
     ∙ reached_first (is_ready s now) orders k
@@ -57,11 +56,10 @@ tick_sends : (s : Settings) (now stamp : ℕ) (reached place : Bool) (o : Option
 tick_sends s now stamp reached place None e = grown_none stamp place
 tick_sends s now stamp reached place (Some l) e = tested reached (is_due_at s now l) (nat_lt (length l.sends) s.tries) place e where
   tested : (reached due fewer place : Bool) → (if reached then (due && fewer) else false) ≡ place
-      
       → sent_as (Some
-        (if reached then
-        (if due then
-        (if fewer then with_send now stamp l else with_standing standings.GivenUp l) else l) else l)) ≡ grown stamp place (Some l) ++ sent_as (Some l)
+      (if reached then
+      (if due then
+      (if fewer then with_send now stamp l else with_standing standings.GivenUp l) else l) else l)) ≡ grown stamp place (Some l) ++ sent_as (Some l)
   tested true true true true u = refl
   tested true true true false u = absurd cc
   tested true true false true u = absurd cc
@@ -88,19 +86,18 @@ none_filtered stamp k j lives true e at = sym (ap (grown stamp true) (ap lives (
 
 tick_filtered : (s : Settings) (stamp k : ℕ) (orders : List KeptOrder) (lives : ℕ → Option Life) → Agree orders lives → NumberedLives s lives
     → (o : Option ℕ)
-    
     → filter (has_id (s.first_id + k)) (option_to_list (option_map (λ (x : KeptOrder). with_stamp stamp x.pdu) (item_at orders o))) ≡ grown stamp (is_place k o)
-      (lives k)
+    (lives k)
 tick_filtered s stamp k orders lives agree numbers None = refl
 tick_filtered s stamp k orders lives agree numbers (Some j) =
     ap (λ (x : Option KeptOrder). filter (has_id (s.first_id + k)) (option_to_list (option_map (λ (x : KeptOrder). with_stamp stamp x.pdu) x))) (agree j) ∙ at
-      (lives j) refl where
+    (lives j) refl where
       at : (o : Option Life) → lives j ≡ o → filter (has_id (s.first_id + k))
-        (option_to_list (option_map (λ (x : KeptOrder). with_stamp stamp x.pdu) (option_map kept_as o))) ≡ grown stamp (k == j) (lives k)
+          (option_to_list (option_map (λ (x : KeptOrder). with_stamp stamp x.pdu) (option_map kept_as o))) ≡ grown stamp (k == j) (lives k)
       at None e = none_filtered stamp k j lives (k == j) refl e
       at (Some l) e =
           ap (λ (b : Bool). cond b (with_stamp stamp l.order ∷ []) []) (has_own_id s j k l.order (numbers j l e)) ∙ one_filtered stamp k j lives l
-            (k == j) refl e
+          (k == j) refl e
 
 -- What a request adds.
 
@@ -111,9 +108,9 @@ made_filtered : (s : Settings) (now stamp n k : ℕ) (p : Pdu) (r : Option Order
 made_filtered s now stamp n k p (Some fault) rest lives q e none h = h
 made_filtered s now stamp n k p None rest lives q e none h =
     ap (λ (b : Bool). cond b (p ∷ filter (has_id (s.first_id + k)) rest) (filter (has_id (s.first_id + k)) rest)) (has_own_id s n k p (e refl)) ∙ next
-      (k == n) refl where
+    (k == n) refl where
       next : (b : Bool) → (k == n) ≡ b → cond b (p ∷ filter (has_id (s.first_id + k)) rest) (filter (has_id (s.first_id + k)) rest) ≡ sent_as
-        (life_made None p now stamp b (lives k))
+          (life_made None p now stamp b (lives k))
       next false t = h
       next true t =
           let empty : filter (has_id (s.first_id + k)) rest ≡ [] = h ∙ ap sent_as (ap lives (eq-true k n t) ∙ none) in
@@ -124,9 +121,9 @@ pub sends_of : (s : Settings) (past : List Call) → AreRequests past → (k : �
 sends_of s [] are k = refl
 sends_of s (Requested order now stamp ∷ past) are k =
     ap (λ (n : ℕ). filter (has_id (s.first_id + k)) (made_pdu (refusal s n order stamp) (order_pdu s (next_id s n) order stamp) ++ given_out s past))
-      (counts s past)
+    (counts s past)
     ∙ made_filtered s now stamp (count_made s past) k (order_pdu s (next_id s (count_made s past)) order stamp) (refusal s (count_made s past) order stamp)
-      (given_out s past) (life s past) refl
+    (given_out s past) (life s past) refl
     (λ e. id-numbered (next_id s (count_made s past)) order.body are.0) (unmade s past (count_made s past) (omega arith)) (sends_of s past are.1 k)
 sends_of s (Came p ∷ past) are k = sends_of s past are k ∙ came (life s past k) where
   came : (o : Option Life) → sent_as o ≡ sent_as (option_map (λ (l : Life). if settles_order s l.order p then with_standing standings.Answered l else l) o)
@@ -136,9 +133,9 @@ sends_of s (Ticked now stamp ∷ past) are k =
     filter-append (has_id (s.first_id + k)) (option_to_list (repeated s now stamp (kept s past))) (given_out s past)
     ∙ ap (λ (ps : List Pdu). ps ++ filter (has_id (s.first_id + k)) (given_out s past))
     (ap (λ (x : Option KeptOrder). filter (has_id (s.first_id + k)) (option_to_list (option_map (λ (x : KeptOrder). with_stamp stamp x.pdu) x)))
-      (find-at (is_ready s now) (kept s past))
+    (find-at (is_ready s now) (kept s past))
     ∙ tick_filtered s stamp k (kept s past) (life s past) (agrees s past are) (numbers s past are) (first_place (is_ready s now) (kept s past)))
     ∙ ap (λ (ps : List Pdu). grown stamp (is_place k (first_place (is_ready s now) (kept s past))) (life s past k) ++ ps) (sends_of s past are k)
     ∙ sym (tick_sends s now stamp (none_before (λ j. passes (is_ready_at s now) (life s past j)) k) (is_place k (first_place (is_ready s now) (kept s past)))
-      (life s past k)
+    (life s past k)
     (reached_one s now (kept s past) (life s past) (agrees s past are) k))

@@ -88,16 +88,16 @@ pub answered_by : (s : Settings) (past : List Call) (k : ℕ) (l : Life) → lif
 answered_by s [] k l e = absurd cc
 answered_by s (Requested order now stamp ∷ past) k l e =
     answered_made s _ now stamp (count_made s past) k (refusal s (count_made s past) order stamp) (life s past k) (came_since s past k) (nothing_came s past k)
-      (answered_by s past k) l e
+    (answered_by s past k) l e
 answered_by s (Came p ∷ past) k l e =
     let from : (x : Life) × (life s past k ≡ Some x) × (l ≡ (if settles_order s x.order p then with_standing standings.Answered x else x)) = mapped_from _
-      (life s past k) l e in
+    (life s past k) l e in
     subst (λ (came : List Pdu). AnsweredBy s came l) (sym
-      (if_true (nat_lt k (count_made s past)) (p ∷ came_since s past k) [] (made_by_then s past k from.0 from.1)))
+    (if_true (nat_lt k (count_made s past)) (p ∷ came_since s past k) [] (made_by_then s past k from.0 from.1)))
     (answered_mapped s (came_since s past k) (p ∷ came_since s past k) _ (life s past k) (answered_came s p (came_since s past k)) (answered_by s past k) l e)
 answered_by s (Ticked now stamp ∷ past) k l e =
     answered_mapped s (came_since s past k) (came_since s past k) _ (life s past k)
-      (answered_ticked s now stamp (none_before (λ j. passes (is_ready_at s now) (life s past j)) k) (came_since s past k)) (answered_by s past k) l e
+    (answered_ticked s now stamp (none_before (λ j. passes (is_ready_at s now) (life s past j)) k) (came_since s past k)) (answered_by s past k) l e
 
 -- By its identifier an order is found.
 
@@ -119,24 +119,27 @@ taken_own s past are p k l e same answer =
 
 pub taken_none : (s : Settings) (past : List Call) → AreRequests past → (p : Pdu) → AnswersNone s past p → taken_as s p (kept s past) ≡ taken.Foreign
 taken_none s past are p none =
-    elim (p.exercise == s.exercise) as (λ b. (if b then taken_under s p (kept s past) (request_id_of p.body) else taken.Foreign) ≡ taken.Foreign) [ true ↦ under
-      (request_id_of p.body) | false ↦ refl ] where
-  not_answered : (id : ℕ) (y : KeptOrder) (o : Option Life) → life s past (id - s.first_id) ≡ o → option_map kept_as o ≡ Some y → judged id p y ≡ taken.Foreign
-  not_answered id y None e u = absurd cc
-  not_answered id y (Some l) e u =
-      let is : kept_as l ≡ y = cc in
-      subst (λ (x : KeptOrder). judged id p x ≡ taken.Foreign) is
-        (ap (λ (b : Bool). if b then taken_after id (settles p.body) l.standing else taken.Foreign) (none (id - s.first_id) l e))
+    elim (p.exercise == s.exercise) as (λ b. (if b then taken_under s p (kept s past) (request_id_of p.body) else taken.Foreign) ≡ taken.Foreign) [
+      | true ↦ under
+          (request_id_of p.body)
+      | false ↦ refl
+    ] where
+      not_answered : (id : ℕ) (y : KeptOrder) (o : Option Life) → life s past (id - s.first_id) ≡ o → option_map kept_as o ≡ Some y → judged id p y ≡ taken.Foreign
+      not_answered id y None e u = absurd cc
+      not_answered id y (Some l) e u =
+          let is : kept_as l ≡ y = cc in
+          subst (λ (x : KeptOrder). judged id p x ≡ taken.Foreign) is
+          (ap (λ (b : Bool). if b then taken_after id (settles p.body) l.standing else taken.Foreign) (none (id - s.first_id) l e))
 
-  kept_one : (id : ℕ) (o : Option KeptOrder) → order_of s (kept s past) id ≡ o → judged_if id p o ≡ taken.Foreign
-  kept_one id None e = refl
-  kept_one id (Some y) e =
-      let known : (s.first_id ≤ id) × (slice_get (kept s past) (id - s.first_id) ≡ Some y) = order_of-low s (kept s past) id y e in
-      not_answered id y (life s past (id - s.first_id)) refl (sym (agrees s past are (id - s.first_id)) ∙ known.1)
+      kept_one : (id : ℕ) (o : Option KeptOrder) → order_of s (kept s past) id ≡ o → judged_if id p o ≡ taken.Foreign
+      kept_one id None e = refl
+      kept_one id (Some y) e =
+          let known : (s.first_id ≤ id) × (slice_get (kept s past) (id - s.first_id) ≡ Some y) = order_of-low s (kept s past) id y e in
+          not_answered id y (life s past (id - s.first_id)) refl (sym (agrees s past are (id - s.first_id)) ∙ known.1)
 
-  under : (r : Option ℕ) → taken_under s p (kept s past) r ≡ taken.Foreign
-  under None = refl
-  under (Some id) = kept_one id (order_of s (kept s past) id) refl
+      under : (r : Option ℕ) → taken_under s p (kept s past) r ≡ taken.Foreign
+      under None = refl
+      under (Some id) = kept_one id (order_of s (kept s past) id) refl
 
 pub taken_elsewhere : (s : Settings) (orders : List KeptOrder) (p : Pdu) → p.exercise ≢ s.exercise → taken_as s p orders ≡ taken.Foreign
 taken_elsewhere s orders p other = side (p.exercise == s.exercise) refl where
@@ -191,7 +194,7 @@ count_by-below p [] = refl
 count_by-below p (x ∷ xs) =
     sum_by-cons (λ x. cond (p x) 1 0) x xs
     ∙ elim (p x) as (λ b. cond b 1 0 + count_by p xs ≡
-      (if b then suc (count_below (λ j. passes p (slice_get xs j)) (length xs)) else count_below (λ j. passes p (slice_get xs j)) (length xs))) [
+    (if b then suc (count_below (λ j. passes p (slice_get xs j)) (length xs)) else count_below (λ j. passes p (slice_get xs j)) (length xs))) [
       | true ↦ (let h : count_by p xs ≡ count_below (λ j. passes p (slice_get xs j)) (length xs) = count_by-below p xs in omega arith)
       | false ↦ (let h : count_by p xs ≡ count_below (λ j. passes p (slice_get xs j)) (length xs) = count_by-below p xs in omega arith)
     ]
@@ -206,4 +209,4 @@ given_up_count s past are =
     count_by-below is_given_up (kept s past)
     ∙ ap (count_below (λ j. passes is_given_up (slice_get (kept s past) j))) (counts s past)
     ∙ count_below-same (λ j. passes is_given_up (slice_get (kept s past) j)) (λ k. passes is_given_up_life (life s past k))
-      (λ j. ap (passes is_given_up) (agrees s past are j) ∙ given_up-agree (life s past j)) (count_made s past)
+    (λ j. ap (passes is_given_up) (agrees s past are j) ∙ given_up-agree (life s past j)) (count_made s past)

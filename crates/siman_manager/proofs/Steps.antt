@@ -61,7 +61,7 @@ pub count-one_more : {X : Type 0} (p : X → Bool) (xs : List X) (i : ℕ) (x : 
 count-one_more p xs i x at =
     let zero_first : 0 + cond (p x) 1 0 ≡ cond (p x) 1 0 = omega arith in
     ap (λ n. count_by p (take n xs)) (add-one i) ∙ ap (count_by p) (take-one_more xs i x at) ∙ sum_by-append (λ z. cond (p z) 1 0) (take i xs) (x ∷ []) ∙ ap
-      (λ n. count_by p (take i xs) + n) zero_first
+    (λ n. count_by p (take i xs) + n) zero_first
 
 pub if_both : {X : Type 0} (a b : Bool) (x y z : X) → (a && b) ≡ true → (if a then (if b then x else y) else z) ≡ x
 if_both true true x y z e = refl

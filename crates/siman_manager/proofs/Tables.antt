@@ -40,7 +40,7 @@ next_number : (id n first i : ℕ) (b : Bool) → (id == first) ≡ b
 next_number id n first i true t rest = let same : id ≡ first = grind (arith, nat_tests) in ((omega arith, omega arith), omega arith)
 next_number id n first i false t rest =
     some_iff (position_from (nat_eq id) (i + 1) (numbers_from (suc first) n)) ((suc first ≤ id) × (id < suc first + n)) ((first ≤ id) × (id < first + suc n))
-      (i + 1 + (id - suc first)) (i + (id - first))
+    (i + 1 + (id - suc first)) (i + (id - first))
     (λ h. let low : suc first ≤ id = h.0 in let high : id < suc first + n = h.1 in (omega arith, omega arith))
     (λ h. let low : first ≤ id = h.0 in let high : id < first + suc n = h.1 in let up : suc first ≤ id = above low in (up, omega arith))
     (λ h. let low : suc first ≤ id = h.0 in omega arith)

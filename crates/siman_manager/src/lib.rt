@@ -9,7 +9,7 @@
 
 mod fault;
 mod kept;
-mod law;
+mod laws;
 mod making;
 mod manager;
 mod order;
@@ -18,6 +18,6 @@ mod settling;
 mod walk;
 
 pub use fault::OrderFault;
-pub use law::orders_are_kept;
+pub use laws::orders_are_kept;
 pub use manager::Manager;
 pub use order::{Order, OrderStatus, Taken};

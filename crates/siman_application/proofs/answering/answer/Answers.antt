@@ -10,11 +10,11 @@ use Rattle.siman_application.proofs.answering.answer.Goals as goal
 pub returns-in-SetData-clause-answer : goal.returns-in-SetData-clause-answer
 returns-in-SetData-clause-answer c =
     subst (λ (b : Body). IfOk c.answer_setting.result
-      (λ outcome. outcome.answer ≡ answer_by c.args.outfit.now (knows c.args.entities.now c.args.held.now) c.args.request.now c.args.stamp b))
+    (λ outcome. outcome.answer ≡ answer_by c.args.outfit.now (knows c.args.entities.now c.args.held.now) c.args.request.now c.args.stamp b))
     (sym c.in-SetData.is) c.answer_setting.ensures.answer
 
 pub returns-in-SetData-clause-datums : goal.returns-in-SetData-clause-datums
 returns-in-SetData-clause-datums c =
     subst (λ (b : Body). IfOk c.answer_setting.result
-      (λ outcome. (xs : Entities) → knows xs (unwrap_or outcome.datums c.args.held.now) ≡ told_of (brought b) (knows xs c.args.held.now)))
+    (λ outcome. (xs : Entities) → knows xs (unwrap_or outcome.datums c.args.held.now) ≡ told_of (brought b) (knows xs c.args.held.now)))
     (sym c.in-SetData.is) c.answer_setting.ensures.datums

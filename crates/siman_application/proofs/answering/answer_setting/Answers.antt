@@ -9,7 +9,7 @@ pub returns-clause-answer : goal.returns-clause-answer
 returns-clause-answer c =
     c.in_ok-answer.ensures
     ∙ ap (λ (ids : IdLists). data_answer c.args.outfit.now c.args.request.now c.args.stamp c.args.id
-      (held_records (knows [] c.in_ok-stored.stored) ids)) c.in_ok-ids.ensures
+    (held_records (knows [] c.in_ok-stored.stored) ids)) c.in_ok-ids.ensures
     ∙ ap (λ (k : Knowledge). data_answer c.args.outfit.now c.args.request.now c.args.stamp c.args.id (held_records k (ids_of c.args.came.now)))
     (knows_stored [] c.args.held.now c.args.came.now c.in_ok-stored.stored c.in_ok-stored.ensures.fixed c.in_ok-stored.ensures.variable)
 

@@ -12,9 +12,9 @@ returns-then-number-eq-ANY_NUMBER c =
 pub returns-then-is_free : goal.returns-then-is_free
 returns-then-is_free c =
     sym (chosen_own c.args.entities.now c.args.number c.requires.opening c.if-entities-ge-MOST_ENTITIES.false c.if-number-eq-ANY_NUMBER.false true
-      (sym c.is_free.ensures ∙ c.if-is_free.true))
+    (sym c.is_free.ensures ∙ c.if-is_free.true))
 
 pub returns : goal.returns
 returns c =
     sym (chosen_own c.args.entities.now c.args.number c.requires.opening c.if-entities-ge-MOST_ENTITIES.false c.if-number-eq-ANY_NUMBER.false false
-      (sym c.is_free.ensures ∙ c.if-is_free.false))
+    (sym c.is_free.ensures ∙ c.if-is_free.false))

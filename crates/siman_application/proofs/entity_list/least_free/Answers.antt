@@ -12,12 +12,12 @@ loop-number-init c = least_start c.args.entities.now c.requires.opening
 pub returns-then-number-least : goal.returns-then-number-least
 returns-then-number-least c =
     least_gap c.args.entities.now c.loop-number.number-index c.loop-number.least _
-      (head_at c.args.entities.now c.loop-number.number-index (0, Absent) c.loop-number-test.true) c.loop-number.invariant c.if-number-least.true
+    (head_at c.args.entities.now c.loop-number.number-index (0, Absent) c.loop-number-test.true) c.loop-number.invariant c.if-number-least.true
 
 pub loop-number-preserved : goal.loop-number-preserved
 loop-number-preserved c =
     least_more c.args.entities.now c.loop-number.number-index c.loop-number.least _
-      (head_at c.args.entities.now c.loop-number.number-index (0, Absent) c.loop-number-test.true) c.loop-number.invariant c.if-number-least.false
+    (head_at c.args.entities.now c.loop-number.number-index (0, Absent) c.loop-number-test.true) c.loop-number.invariant c.if-number-least.false
 
 pub returns : goal.returns
 returns c =

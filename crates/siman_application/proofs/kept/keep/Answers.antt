@@ -6,4 +6,4 @@ pub returns-clause-kept : goal.returns-clause-kept
 returns-clause-kept c =
     on_ok c.insert.result (c.insert.ensures.succeeds c.requires.room) c.insert.ensures.entries
     ∙ inserted_last c.args.request c.args.key _ (λ j k. refl) c.requires.key
-      (record { request = c.args.request; answer = c.args.answer }) c.args.kept.now.entries c.requires.keyed c.requires.first
+    (record { request = c.args.request; answer = c.args.answer }) c.args.kept.now.entries c.requires.keyed c.requires.first

@@ -29,7 +29,7 @@ pub returns-clause-right : goal.returns-clause-right
 returns-clause-right c =
     right_more c.args.outfit.now c.args.kept.now c.keep-place.new.kept c.args.entities.now c.obey.new.self c.args.datums.now c.put_in_place.new.datums c.args.key c.args.pdu.now c.in_ok-outcome.outcome.answer c.args.stamp
     c.requires.right c.requires.own c.requires.key c.requires.first c.numbers_are_in_range.ensures c.in_ok-outcome.ensures.answer
-      (kept c) c.in_ok-obey.ensures.ok
+    (kept c) c.in_ok-obey.ensures.ok
     (λ xs. ap (λ (d : DatumLists). knows xs d) c.put_in_place.ensures ∙ c.in_ok-outcome.ensures.datums xs)
 
 pub returns-clause-came : goal.returns-clause-came
@@ -42,4 +42,4 @@ returns-clause-answer c =
     (c.keep-place.ensures.place ∙ ap (λ (es : List (RequestKey × KeptRequest)). length (values_of es)) c.reserve.ensures.entries)
     ∙ given_first c.args.kept.now c.keep-place.new.kept c.args.key (record { request = c.args.pdu.now; answer = c.in_ok-outcome.outcome.answer }) (kept c)
     ∙ ap (λ (p : Pdu). Some p) (c.in_ok-outcome.ensures.answer ∙ ap
-      (λ (k : Knowledge). answer c.args.outfit.now k c.args.pdu.now c.args.stamp) c.requires.right.known_is)
+    (λ (k : Knowledge). answer c.args.outfit.now k c.args.pdu.now c.args.stamp) c.requires.right.known_is)

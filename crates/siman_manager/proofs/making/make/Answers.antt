@@ -11,7 +11,7 @@ next : (c : goal.Joined-branch-2)
 next c =
     let id : c.in-Some.id ≡ c.args.settings.now.first_id + index_map_len c.args.orders.now = search rules in
     made_next c.args.settings.now.first_id c.in-Some.id c.args.orders.now c.insert.new.self
-      (new_order c.order_pdu-pdu.result c.args.now) c.requires id c.in_ok-insert.ensures.entries
+    (new_order c.order_pdu-pdu.result c.args.now) c.requires id c.in_ok-insert.ensures.entries
 
 pub returns-clause-numbered : goal.returns-clause-numbered
 returns-clause-numbered c = (next c).keys ∙ ap (numbers_from c.args.settings.now.first_id) (sym (next c).len)
@@ -20,10 +20,10 @@ pub returns-clause-made : goal.returns-clause-made
 returns-clause-made c =
     let id : c.in-Some.id ≡ c.args.settings.now.first_id + index_map_len c.args.orders.now = search rules in
     let same : c.in-Some.id ≡ next_id c.args.settings.now (length (values c.args.orders.now)) = id ∙ ap (λ n. c.args.settings.now.first_id + n)
-      (sym (length-values c.args.orders.now)) in
+    (sym (length-values c.args.orders.now)) in
     let pdu : c.order_pdu-pdu.result ≡ order_pdu c.args.settings.now c.in-Some.id c.args.order c.args.stamp = search rules in
     (next c).values ∙ ap (λ (p : Pdu). values c.args.orders.now ++ new_order p c.args.now ∷ [])
-      (pdu ∙ ap (λ (i : ℕ). order_pdu c.args.settings.now i c.args.order c.args.stamp) same)
+    (pdu ∙ ap (λ (i : ℕ). order_pdu c.args.settings.now i c.args.order c.args.stamp) same)
 
 pub returns-clause-len : goal.returns-clause-len
 returns-clause-len c = (next c).len ∙ sym (add-one (index_map_len c.args.orders.now))

@@ -18,7 +18,7 @@ returns-clause-answer c =
     let low : c.args.settings.now.first_id ≤ c.in-Some.id = search rules in
     let at : c.in-Some-place_of.place ≡ c.in-Some.id - c.args.settings.now.first_id = search rules in
     c.judge.ensures.answer ∙ sym (taken_known c.args.settings.now c.args.pdu.now
-      (values c.args.orders.now) c.in-Some.id c.in-Some-place_of.place c.index_mut.result.now same known low at c.index_mut.ensures.value)
+    (values c.args.orders.now) c.in-Some.id c.in-Some-place_of.place c.index_mut.result.now same known low at c.index_mut.ensures.value)
 
 pub returns-clause-after : goal.returns-clause-after
 returns-clause-after c =
@@ -29,4 +29,4 @@ returns-clause-after c =
     values-with_value_at c.args.orders.now c.in-Some-place_of.place c.judge.new.kept
     ∙ ap (set (values c.args.orders.now) c.in-Some-place_of.place) c.judge.ensures.after
     ∙ sym (settled_known c.args.settings.now c.args.pdu.now
-      (values c.args.orders.now) c.in-Some.id c.in-Some-place_of.place c.index_mut.result.now same known low at c.index_mut.ensures.value)
+    (values c.args.orders.now) c.in-Some.id c.in-Some-place_of.place c.index_mut.result.now same known low at c.index_mut.ensures.value)

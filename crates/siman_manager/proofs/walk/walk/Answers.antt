@@ -22,14 +22,14 @@ pub returns-then-look-clause-after : goal.returns-then-look-clause-after
 returns-then-look-clause-after c =
     values-with_value_at c.loop-place.orders c.loop-place.place c.look.new.kept
     ∙ ends_here (is_ready c.args.settings.now c.args.now) (looked_at c.args.settings.now c.args.now c.args.stamp)
-      (values c.loop-place.orders) c.loop-place.place c.index_mut.result.now c.look.new.kept
+    (values c.loop-place.orders) c.loop-place.place c.index_mut.result.now c.look.new.kept
     c.index_mut.ensures.value (sym c.look.ensures.answer ∙ c.if-look.true) c.look.ensures.after
     ∙ c.loop-place.invariant.after
 
 pub returns-then-look-clause-sent : goal.returns-then-look-clause-sent
 returns-then-look-clause-sent c =
     ap (λ xs. option_map (λ (k : KeptOrder). k.pdu) (slice_get xs c.loop-place.place))
-      (values-with_value_at c.loop-place.orders c.loop-place.place c.look.new.kept)
+    (values-with_value_at c.loop-place.orders c.loop-place.place c.look.new.kept)
     ∙ sent_here c.args.settings.now c.args.now c.args.stamp (values c.loop-place.orders) c.loop-place.place c.index_mut.result.now c.look.new.kept
     c.index_mut.ensures.value (sym c.look.ensures.answer ∙ c.if-look.true) c.look.ensures.after
     ∙ c.loop-place.invariant.sent
@@ -44,22 +44,22 @@ loop-place-preserved c = record {
   len = len-written c.loop-place.orders c.loop-place.place c.look.new.kept ∙ c.loop-place.invariant.len;
   after =
       ap (λ i. take i (values (with_value_at c.loop-place.orders c.loop-place.place c.look.new.kept)) ++ changed_through
-        (is_ready c.args.settings.now c.args.now) (looked_at c.args.settings.now c.args.now c.args.stamp)
+      (is_ready c.args.settings.now c.args.now) (looked_at c.args.settings.now c.args.now c.args.stamp)
       (drop i (values (with_value_at c.loop-place.orders c.loop-place.place c.look.new.kept)))) (add-one c.loop-place.place)
       ∙ ap (λ xs. take (suc c.loop-place.place) xs ++ changed_through (is_ready c.args.settings.now c.args.now)
-        (looked_at c.args.settings.now c.args.now c.args.stamp) (drop (suc c.loop-place.place) xs))
+      (looked_at c.args.settings.now c.args.now c.args.stamp) (drop (suc c.loop-place.place) xs))
       (values-with_value_at c.loop-place.orders c.loop-place.place c.look.new.kept)
       ∙ goes_on (is_ready c.args.settings.now c.args.now) (looked_at c.args.settings.now c.args.now c.args.stamp)
-        (values c.loop-place.orders) c.loop-place.place c.index_mut.result.now c.look.new.kept
+      (values c.loop-place.orders) c.loop-place.place c.index_mut.result.now c.look.new.kept
       c.index_mut.ensures.value (sym c.look.ensures.answer ∙ c.if-look.false) c.look.ensures.after
       ∙ c.loop-place.invariant.after;
   sent =
       ap (λ i. repeated c.args.settings.now c.args.now c.args.stamp (drop i (values (with_value_at c.loop-place.orders c.loop-place.place c.look.new.kept))))
-        (add-one c.loop-place.place)
+      (add-one c.loop-place.place)
       ∙ ap (λ xs. repeated c.args.settings.now c.args.now c.args.stamp (drop (suc c.loop-place.place) xs))
-        (values-with_value_at c.loop-place.orders c.loop-place.place c.look.new.kept)
+      (values-with_value_at c.loop-place.orders c.loop-place.place c.look.new.kept)
       ∙ ap (option_map (λ (k : KeptOrder). with_stamp c.args.stamp k.pdu))
-        (finds_on (is_ready c.args.settings.now c.args.now) (values c.loop-place.orders) c.loop-place.place c.index_mut.result.now c.look.new.kept
+      (finds_on (is_ready c.args.settings.now c.args.now) (values c.loop-place.orders) c.loop-place.place c.index_mut.result.now c.look.new.kept
       c.index_mut.ensures.value (sym c.look.ensures.answer ∙ c.if-look.false))
       ∙ c.loop-place.invariant.sent;
 }
@@ -73,7 +73,7 @@ returns-clause-len c = c.loop-place.invariant.len
 pub returns-clause-after : goal.returns-clause-after
 returns-clause-after c =
     sym (at_end (is_ready c.args.settings.now c.args.now) (looked_at c.args.settings.now c.args.now c.args.stamp)
-      (values c.loop-place.orders) c.loop-place.place
+    (values c.loop-place.orders) c.loop-place.place
     (omega (arith, length-values c.loop-place.orders, c.loop-place-test.false, c.len-place-end.ensures.len, c.loop-place.invariant.len)))
     ∙ c.loop-place.invariant.after
 
@@ -81,5 +81,5 @@ pub returns-clause-sent : goal.returns-clause-sent
 returns-clause-sent c =
     sym c.loop-place.invariant.sent
     ∙ ap (option_map (λ (k : KeptOrder). with_stamp c.args.stamp k.pdu))
-      (finds_none (is_ready c.args.settings.now c.args.now) (values c.loop-place.orders) c.loop-place.place
+    (finds_none (is_ready c.args.settings.now c.args.now) (values c.loop-place.orders) c.loop-place.place
     (omega (arith, length-values c.loop-place.orders, c.loop-place-test.false, c.len-place-end.ensures.len, c.loop-place.invariant.len)))

@@ -2,7 +2,7 @@ use Rattle.siman_manager.proofs.Induction.{counts, agrees, made_as}
 use Rattle.siman_manager.proofs.Sends.{sends_of}
 use Rattle.siman_manager.proofs.Consequences.{sends_are_same, of_orders, at_most_tries}
 use Rattle.siman_manager.proofs.Settled.{answered_by, found, taken_none, taken_own, taken_elsewhere, unchanged_unless, given_up_count}
-use Rattle.siman_manager.proofs.law.orders_are_kept.Goals as goal
+use Rattle.siman_manager.proofs.laws.orders_are_kept.Goals as goal
 
 pub returns : goal.returns
 returns c = record {

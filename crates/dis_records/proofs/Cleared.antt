@@ -58,7 +58,7 @@ cleared_end bits last bytes len found =
     let within : at < length (set bytes at new) = omega (arith, length-set bytes at new) in
     let is : get_or bytes at 0 ≡ last = get_or_from_slice_get bytes at last 0 found in
     rw (cleared_is bits bytes len) (slice_get-get_or (set bytes at new) at 0 within ∙ ap (λ (n : ℕ). Some n)
-      (get_or-set_same bytes at new 0 here ∙ ap (λ (n : ℕ). last_cleared bits n) is))
+    (get_or-set_same bytes at new 0 here ∙ ap (λ (n : ℕ). last_cleared bits n) is))
 
 -- Bytes are cleared exactly where their last byte is.
 pub cleared_exactly : (bits last : ℕ) (bytes : List ℕ) → length bytes ≡ bytes_for bits → slice_get bytes (length bytes - 1) ≡ Some last
@@ -76,7 +76,7 @@ first_bits-first_bits bits byte =
     elim (cases_lt bits 8) [
       | inr le ↦ rw (first_bits_whole bits byte le) (first_bits_whole bits byte le)
       | inl lt ↦ rw (first_bits_part bits byte lt, first_bits_part bits (byte / 2 ^ (8 - bits) * 2 ^ (8 - bits)) lt)
-        (ap (λ (n : ℕ). n * 2 ^ (8 - bits)) (shl-shr (byte / 2 ^ (8 - bits)) (8 - bits)))
+          (ap (λ (n : ℕ). n * 2 ^ (8 - bits)) (shl-shr (byte / 2 ^ (8 - bits)) (8 - bits)))
     ]
 
 pub cleared-cleared : (bits : ℕ) (bytes : List ℕ) → cleared bits (cleared bits bytes) ≡ cleared bits bytes

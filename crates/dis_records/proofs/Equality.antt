@@ -23,4 +23,4 @@ datum_decides d e =
     let parts = Decides-and (d.id == e.id) ((d.bits == e.bits) && pointwise ◌==◌ d.bytes e.bytes) (Decides-eqb d.id e.id)
     (Decides-and (d.bits == e.bits) (pointwise ◌==◌ d.bytes e.bytes) (Decides-eqb d.bits e.bits) (bytes_decides d.bytes e.bytes)) in
     Decides-like (same_datum d e) (λ p. same_fields d e p.0 p.1.0 p.1.1)
-      (λ s. (ap (λ (x : Datum). x.id) s, (ap (λ (x : Datum). x.bits) s, ap (λ (x : Datum). x.bytes) s))) parts
+    (λ s. (ap (λ (x : Datum). x.id) s, (ap (λ (x : Datum). x.bits) s, ap (λ (x : Datum). x.bytes) s))) parts

@@ -105,7 +105,7 @@ kind_code-kind_from n e =
     let bounds : (11 ≤ n) × (n ≤ 22) = grind (arith, e) in
     one_of n 11 _ _ refl (λ a. one_of n 12 _ _ refl (λ b. one_of n 13 _ _ refl (λ c. one_of n 14 _ _ refl (λ d. one_of n 15 _ _ refl (λ f. one_of n 16 _ _ refl
     (λ g. one_of n 17 _ _ refl
-      (λ h. one_of n 18 _ _ refl (λ i. one_of n 19 _ _ refl (λ j. one_of n 20 _ _ refl (λ k. one_of n 21 _ _ refl (λ l. omega arith)))))))))))
+    (λ h. one_of n 18 _ _ refl (λ i. one_of n 19 _ _ refl (λ j. one_of n 20 _ _ refl (λ k. one_of n 21 _ _ refl (λ l. omega arith)))))))))))
 
 pub header_reads : (b : List ℕ) → header_refusal b ≡ None → IsHeader (header_at b) b
 header_reads b e =

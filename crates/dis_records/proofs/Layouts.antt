@@ -93,14 +93,14 @@ size-variable_layout d = omega arith
 
 pub variable_stand : (n at : ℕ) (b : List ℕ)
     → StandAt (variable_layouts (map canonical (variable_at n at b))) at b ×
-      (size (variable_layouts (map canonical (variable_at n at b))) ≡ total (variable_sizes n at b))
+    (size (variable_layouts (map canonical (variable_at n at b))) ≡ total (variable_sizes n at b))
 unfolding variable_at variable_sizes value_at
 variable_stand zero at b = (tt, refl)
 variable_stand (suc n) at b =
     let bits = number_at w32 (at + 4) b in
     let others = variable_stand n (at + padded bits) b in
     let value : cleared bits (take (bytes_for bits) (drop (at + 8) b)) ≡ cleared bits
-      (take (bytes_for bits) (drop (at + 4 + 4) b)) = let e : at + 8 ≡ at + 4 + 4 = omega arith in rw e refl in
+    (take (bytes_for bits) (drop (at + 4 + 4) b)) = let e : at + 8 ≡ at + 4 + 4 = omega arith in rw e refl in
     ((refl, (refl, (value, (tt, subst (λ (k : ℕ). StandAt (variable_layouts (map canonical (variable_at n (at + padded bits) b))) k b) (sym (after at bits)) others.0)))), omega (arith, others.1))
 
 variable_same : (d : Datum) (id bits : ℕ) (bytes : List ℕ) (ds es : List Datum) → d.id ≡ id → d.bits ≡ bits → d.bytes ≡ bytes → ds ≡ es
@@ -116,6 +116,8 @@ variable_is (d ∷ ds) at b stand =
     let bits_is : d.bits ≡ bits = stand.1.0 in
     let here : at + 4 + 4 + bytes_for d.bits + (padded d.bits - 8 - bytes_for d.bits) ≡ at + padded bits = rw (← bits_is) (after at d.bits) in
     let others = variable_is ds (at + padded bits) b (subst (λ (k : ℕ). StandAt (variable_layouts ds) k b) here stand.1.1.1.1) in
-    let value : d.bytes ≡ cleared bits (take (bytes_for bits) (drop (at + 8) b)) = let e : at + 8 ≡ at + 4 + 4 = omega arith in rw (e, ← bits_is) stand.1.1.0 in
-    (variable_same d (number_at w32 at b) bits (cleared bits (take (bytes_for bits) (drop (at + 8) b))) ds
-      (map canonical (variable_at (length ds) (at + padded bits) b)) stand.0 bits_is value others.0, omega (arith, others.1, bits_is))
+    let value : d.bytes ≡ cleared bits (take (bytes_for bits) (drop (at + 8) b)) = let e : at + 8 ≡ at + 4 + 4 = omega arith in rw (e, ← bits_is) stand.1.1.0 in (
+      variable_same d (number_at w32 at b) bits (cleared bits (take (bytes_for bits) (drop (at + 8) b))) ds
+          (map canonical (variable_at (length ds) (at + padded bits) b)) stand.0 bits_is value others.0,
+      omega (arith, others.1, bits_is),
+    )

@@ -29,8 +29,12 @@ unfolding variable_at
 variable_none left at b none = rw none refl
 
 pub variable_more : (left at : ℕ) (b : List ℕ) → 0 < left
-    → variable_at left at b ≡ record { id = number_at w32 at b; bits = number_at w32 (at + 4) b; bytes = take (bytes_for (number_at w32 (at + 4) b))
-      (drop (at + 8) b) } ∷ variable_at (left - 1) (at + padded (number_at w32 (at + 4) b)) b
+    → variable_at left at b ≡ record {
+      id = number_at w32 at b;
+      bits = number_at w32 (at + 4) b;
+      bytes = take (bytes_for (number_at w32 (at + 4) b))
+          (drop (at + 8) b);
+    } ∷ variable_at (left - 1) (at + padded (number_at w32 (at + 4) b)) b
 unfolding variable_at
 variable_more zero at b lt = absurd (omega arith)
 variable_more (suc n) at b lt = let e : suc n - 1 ≡ n = omega arith in rw e refl

@@ -33,7 +33,7 @@ text_stands (f ∷ fs) front back fits =
     let others = text_stands fs (front ++ field_text f) back fits.1 in (
       subst (λ (b : List ℕ). StandsAt f (length front) b) here (field_stands f front (text fs ++ back) fits.0),
       subst (λ (k : ℕ). StandAt fs k (front ++ ((field_text f ++ text fs) ++ back))) place
-        (subst (λ (b : List ℕ). StandAt fs (length (front ++ field_text f)) b) there others),
+          (subst (λ (b : List ℕ). StandAt fs (length (front ++ field_text f)) b) there others),
     )
 
 pub length-text : (fs : List Field) → Fit fs → length (text fs) ≡ size fs
@@ -43,8 +43,11 @@ length-text (f ∷ fs) fits = omega (arith, length-append (field_text f) (text f
 -- the text of fields that fit spells them
 pub text_spells : (fs : List Field) → Fit fs → Spell fs (text fs)
 text_spells fs fits =
-    record { stand = let e : text fs ++ [] ≡ text fs = append-nil (text fs) in subst (λ (b : List ℕ). StandAt fs 0 b) e
-      (text_stands fs [] [] fits); whole = length-text fs fits }
+    record {
+      stand = let e : text fs ++ [] ≡ text fs = append-nil (text fs) in subst (λ (b : List ℕ). StandAt fs 0 b) e
+          (text_stands fs [] [] fits);
+      whole = length-text fs fits;
+    }
 
 pub fits16 : (n : ℕ) → n < 2 ^ 16 → FieldFits (Number w16 n)
 fits16 n lt = (refl, from_be_bytes-to_be_bytes_2 n lt)
@@ -63,4 +66,4 @@ pub number_at-append : (w : Width) (at : ℕ) (front back : List ℕ) → at + b
 unfolding number_at
 number_at-append w at front back le =
     ap (λ (bs : List ℕ). from_be_bytes w bs) (ap (λ (bs : List ℕ). take (byte_len w) bs) (drop-append-le at front back (omega arith)) ∙ take-append-le
-      (byte_len w) (drop at front) back (omega (arith, length-drop at front)))
+    (byte_len w) (drop at front) back (omega (arith, length-drop at front)))

@@ -1,7 +1,6 @@
 -- The kept orders agree with the lives over every list of calls, and each order is as it was made.
-use Rattle.std.proofs.Common.{◌≡◌, ℕ, suc, ◌-◌, ◌^◌, ◌<◌, ◌≤◌, List, [], ◌∷◌, length, refl, ap, sym, ◌∙◌, subst, arith, length-append, length-set}
+use Rattle.std.proofs.Common.{◌≡◌, ℕ, suc, ◌-◌, ◌^◌, List, [], ◌∷◌, length, refl, ap, sym, ◌∙◌, subst, length-append, length-set}
 use Rattle.std.specs.Prelude.{Bool, true, false, ◌==◌, nat_le, nat_lt, slice_get, Option, Some, None, option_map, IsTrue, if◌then◌else◌}
-use Rattle.std.proofs.lemmas.Bool.Decides.{nat_tests}
 use Rattle.std.proofs.lemmas.Bool.{leb-true, ltb-true}
 use Rattle.dis_records.specs.declared.header.TheConstants.{LARGEST_DATAGRAM}
 use Rattle.siman_pdus.specs.declared.pdu.Pdu.{Pdu}

@@ -48,7 +48,7 @@ datums_stand counts b =
     let first : counts + 8 ≡ counts + 4 + 4 = omega arith in
     let second : start ≡ counts + 8 + size (fixed_layouts fixed) = omega (arith, fixed_size) in
     let both = join (fixed_layouts fixed) (variable_layouts variable) (counts + 8) b (fixed_stand m (counts + 8) b)
-      (subst (λ (k : ℕ). StandAt (variable_layouts variable) k b) second records.0) in (
+    (subst (λ (k : ℕ). StandAt (variable_layouts variable) k b) second records.0) in (
       (fixed_count, (variable_count, subst (λ (k : ℕ). StandAt (fixed_layouts fixed ++ variable_layouts variable) k b) first both)),
       omega (arith, size-append (fixed_layouts fixed) (variable_layouts variable), fixed_size, records.1, total-datum_sizes counts b),
     )
@@ -68,7 +68,7 @@ datums_again d counts b stand =
     let variable_count : length d.variable ≡ n = stand.1.0 in
     let first : counts + 4 + 4 ≡ counts + 8 = omega arith in
     let both = split (fixed_layouts d.fixed) (variable_layouts d.variable) (counts + 8) b
-      (subst (λ (k : ℕ). StandAt (fixed_layouts d.fixed ++ variable_layouts d.variable) k b) first stand.1.1) in
+    (subst (λ (k : ℕ). StandAt (fixed_layouts d.fixed ++ variable_layouts d.variable) k b) first stand.1.1) in
     let fixed_size : size (fixed_layouts d.fixed) ≡ 8 * m = omega (arith, size-fixed_layouts d.fixed, fixed_count) in
     let second : counts + 8 + size (fixed_layouts d.fixed) ≡ variable_start counts b = omega (arith, fixed_size) in
     let fixed = fixed_is d.fixed (counts + 8) b both.0 in
@@ -77,7 +77,7 @@ datums_again d counts b stand =
           (fixed ∙ ap (λ (k : ℕ). fixed_at k (counts + 8) b) fixed_count)
           (variable.0 ∙ ap (λ (k : ℕ). map canonical (variable_at k (variable_start counts b) b)) variable_count),
       let sizes : total (variable_sizes (length d.variable) (variable_start counts b) b) ≡ total (variable_sizes n (variable_start counts b) b) = ap
-        (λ (k : ℕ). total (variable_sizes k (variable_start counts b) b)) variable_count in
+          (λ (k : ℕ). total (variable_sizes k (variable_start counts b) b)) variable_count in
           omega (arith, size-append (fixed_layouts d.fixed) (variable_layouts d.variable), fixed_size, variable.1, sizes, total-datum_sizes counts b),
     )
 
@@ -113,7 +113,7 @@ id_lists_stand counts b =
     let first : counts + 8 ≡ counts + 4 + 4 = omega arith in
     let second : start ≡ counts + 8 + size (id_layouts fixed) = omega (arith, fixed_size) in
     let both = join (id_layouts fixed) (id_layouts variable) (counts + 8) b (ids_stand m (counts + 8) b)
-      (subst (λ (k : ℕ). StandAt (id_layouts variable) k b) second (ids_stand n start b)) in (
+    (subst (λ (k : ℕ). StandAt (id_layouts variable) k b) second (ids_stand n start b)) in (
       (fixed_count, (variable_count, subst (λ (k : ℕ). StandAt (id_layouts fixed ++ id_layouts variable) k b) first both)),
       omega (arith, size-append (id_layouts fixed) (id_layouts variable), fixed_size, variable_size, total-id_sizes counts b),
     )
@@ -133,7 +133,7 @@ ids_again d counts b stand =
     let variable_count : length d.variable ≡ n = stand.1.0 in
     let first : counts + 4 + 4 ≡ counts + 8 = omega arith in
     let both = split (id_layouts d.fixed) (id_layouts d.variable) (counts + 8) b
-      (subst (λ (k : ℕ). StandAt (id_layouts d.fixed ++ id_layouts d.variable) k b) first stand.1.1) in
+    (subst (λ (k : ℕ). StandAt (id_layouts d.fixed ++ id_layouts d.variable) k b) first stand.1.1) in
     let fixed_size : size (id_layouts d.fixed) ≡ 4 * m = omega (arith, size-id_layouts d.fixed, fixed_count) in
     let variable_size : size (id_layouts d.variable) ≡ 4 * n = omega (arith, size-id_layouts d.variable, variable_count) in
     let second : counts + 8 + size (id_layouts d.fixed) ≡ start = omega (arith, fixed_size) in
@@ -193,7 +193,7 @@ body_again (StartResume real sim request) b stand all =
     record { read = cc; whole = omega arith }
 body_again (StopFreeze real reason behaviour request) b stand all =
     let time = same_time real (number_at w32 24 b)
-      (number_at w32 28 b) stand.0 stand.1.0 in let p = stand.1.1.0 in let q = stand.1.1.1.0 in let r = stand.1.1.1.1.1.0 in
+    (number_at w32 28 b) stand.0 stand.1.0 in let p = stand.1.1.0 in let q = stand.1.1.1.0 in let r = stand.1.1.1.1.1.0 in
     record { read = cc; whole = omega arith }
 body_again (Acknowledge flag response request) b stand all =
     record { read = let p = stand.0 in let q = stand.1.0 in let r = stand.1.1.0 in cc; whole = omega arith }

@@ -99,7 +99,7 @@ variable : (ds : List Datum) → All IsVariableInRange ds → Carry (variable_la
 variable [] h = tt
 variable (d ∷ ds) h =
     Carry-append (variable_layout d) (variable_layouts ds) (variable_one d (All-head IsVariableInRange d ds h))
-      (variable ds (All-tail IsVariableInRange d ds h))
+    (variable ds (All-tail IsVariableInRange d ds h))
 
 abbrev IsId : ℕ → Type 0
 IsId id = id < 2 ^ 32
@@ -110,19 +110,24 @@ identifiers (id ∷ xs) h = (number32 id (All-head IsId id xs h), identifiers xs
 
 datums : (d : DatumLists) → AreDatumsInRange d → size (datums_layout d) ≤ LARGEST_DATAGRAM → Carry (datums_layout d)
 datums d h le =
-    let all : size (fixed_layouts d.fixed ++ variable_layouts d.variable) ≡ size (fixed_layouts d.fixed) + size (variable_layouts d.variable) = size_join _ _ in
-      (
+    let all : size (fixed_layouts d.fixed ++ variable_layouts d.variable) ≡ size (fixed_layouts d.fixed) + size (variable_layouts d.variable) = size_join _ _ in (
       number32 (length d.fixed) (omega (arith, all, size_fixed d.fixed)),
-      (number32 (length d.variable) (omega (arith, all, variable_least d.variable)), Carry-append (fixed_layouts d.fixed) (variable_layouts d.variable)
-        (fixed d.fixed h.0) (variable d.variable h.1)),
+      (
+        number32 (length d.variable) (omega (arith, all, variable_least d.variable)),
+        Carry-append (fixed_layouts d.fixed) (variable_layouts d.variable)
+            (fixed d.fixed h.0) (variable d.variable h.1),
+      ),
     )
 
 ids : (d : IdLists) → AreIdsInRange d → size (ids_layout d) ≤ LARGEST_DATAGRAM → Carry (ids_layout d)
 ids d h le =
     let all : size (id_layouts d.fixed ++ id_layouts d.variable) ≡ size (id_layouts d.fixed) + size (id_layouts d.variable) = size_join _ _ in (
       number32 (length d.fixed) (omega (arith, all, size_ids d.fixed)),
-      (number32 (length d.variable) (omega (arith, all, size_ids d.variable)), Carry-append (id_layouts d.fixed) (id_layouts d.variable)
-        (identifiers d.fixed h.0) (identifiers d.variable h.1)),
+      (
+        number32 (length d.variable) (omega (arith, all, size_ids d.variable)),
+        Carry-append (id_layouts d.fixed) (id_layouts d.variable)
+            (identifiers d.fixed h.0) (identifiers d.variable h.1),
+      ),
     )
 
 -- ---- bodies

@@ -84,7 +84,7 @@ cleared_bytes bits [] h = All-nil IsByte
 cleared_bytes bits (byte ∷ xs) h =
     let small : byte < 2 ^ 8 = All-head IsByte byte xs h in
     All-cons IsByte (first_bits bits byte) (cleared (bits - 8) xs) (omega (arith, first_bits_least bits byte, small))
-      (cleared_bytes (bits - 8) xs (All-tail IsByte byte xs h))
+    (cleared_bytes (bits - 8) xs (All-tail IsByte byte xs h))
 
 -- a datum with its unused bits zero
 canonical_in_range : (d : Datum) → d.id < 2 ^ 32 → d.bits < 2 ^ 32 → All IsByte d.bytes → length d.bytes ≡ bytes_for d.bits
@@ -107,7 +107,7 @@ module _ (b : List ℕ) (bytes : AreBytes b) where
       let small = AreBytes-take (bytes_for bits) (drop (at + 8) b) (AreBytes-drop (at + 8) b bytes) in
       All-cons IsVariableInRange _ (map canonical (variable_at n (at + padded bits) b))
       (canonical_in_range (record { id = number_at w32 at b; bits = bits; bytes = value }) (below32 at b bytes) (below32 (at + 4) b bytes)
-        (All-from_get_or IsByte value 0 (λ i lt. small i)) len)
+      (All-from_get_or IsByte value 0 (λ i lt. small i)) len)
       (variable_in_range n (at + padded bits) (omega arith))
 
 -- ---- bodies
@@ -122,9 +122,11 @@ module _ (b : List ℕ) (bytes : AreBytes b) where
 
   id_lists_in_range : (counts : ℕ) → AreIdsInRange (id_lists_at counts b)
   unfolding id_lists_at
-  id_lists_in_range counts =
-      (ids_in_range b bytes (number_at w32 counts b) (counts + 8), ids_in_range b bytes (number_at w32 (counts + 4) b)
-        (counts + 8 + 4 * number_at w32 counts b))
+  id_lists_in_range counts = (
+    ids_in_range b bytes (number_at w32 counts b) (counts + 8),
+    ids_in_range b bytes (number_at w32 (counts + 4) b)
+        (counts + 8 + 4 * number_at w32 counts b),
+  )
 
   body_in_range : (kind : Kind) → IsWhole kind b → IsBodyInRange (body_at kind b)
   unfolding body_at

@@ -43,10 +43,10 @@ body_same (CreateEntity m) (CreateEntity n) e = let p = (Decides-eqb m n).0 e in
 body_same (RemoveEntity m) (RemoveEntity n) e = let p = (Decides-eqb m n).0 e in cc
 body_same (StartResume r s m) (StartResume r' s' n) e =
     let p = (Decides-and (same_time r r') (same_time s s' && (m == n)) (time_decides r r')
-      (Decides-and (same_time s s') (m == n) (time_decides s s') (Decides-eqb m n))).0 e in cc
+    (Decides-and (same_time s s') (m == n) (time_decides s s') (Decides-eqb m n))).0 e in cc
 body_same (StopFreeze r s t m) (StopFreeze r' s' t' n) e =
     let p = (Decides-and (same_time r r') ((s == s') && ((t == t') && (m == n))) (time_decides r r')
-      (number_and s s' _ _ (number_and t t' _ _ (Decides-eqb m n)))).0 e in cc
+    (number_and s s' _ _ (number_and t t' _ _ (Decides-eqb m n)))).0 e in cc
 body_same (Acknowledge f r m) (Acknowledge f' r' n) e = let p = (number_and f f' _ _ (number_and r r' _ _ (Decides-eqb m n))).0 e in cc
 body_same (ActionRequest m a d) (ActionRequest n a' d') e = let p = (number_and m n _ _ (number_and a a' _ _ (datums_decide d d'))).0 e in cc
 body_same (ActionResponse m a d) (ActionResponse n a' d') e = let p = (number_and m n _ _ (number_and a a' _ _ (datums_decide d d'))).0 e in cc
@@ -62,10 +62,10 @@ body_itself (CreateEntity m) = (Decides-eqb m m).1 refl
 body_itself (RemoveEntity m) = (Decides-eqb m m).1 refl
 body_itself (StartResume r s m) =
     (Decides-and (same_time r r) (same_time s s && (m == m)) (time_decides r r) (Decides-and (same_time s s) (m == m) (time_decides s s) (Decides-eqb m m))).1
-      (refl, (refl, refl))
+    (refl, (refl, refl))
 body_itself (StopFreeze r s t m) =
     (Decides-and (same_time r r) ((s == s) && ((t == t) && (m == m))) (time_decides r r) (number_and s s _ _ (number_and t t _ _ (Decides-eqb m m)))).1
-      (refl, (refl, (refl, refl)))
+    (refl, (refl, (refl, refl)))
 body_itself (Acknowledge f r m) = (number_and f f _ _ (number_and r r _ _ (Decides-eqb m m))).1 (refl, (refl, refl))
 body_itself (ActionRequest m a d) = (number_and m m _ _ (number_and a a _ _ (datums_decide d d))).1 (refl, (refl, refl))
 body_itself (ActionResponse m a d) = (number_and m m _ _ (number_and a a _ _ (datums_decide d d))).1 (refl, (refl, refl))

@@ -11,12 +11,12 @@ whole_of b kind other e whole = subst (λ (k : Kind). IsWhole k b) e whole
 pub read_datums-requires : goal.read_datums-requires
 read_datums-requires c =
     let whole = whole_of c.args.bytes.now c.args.kind kinds.ActionRequest c.in-ActionRequest.is c.requires in datums_fit 32 c.args.bytes.now
-      (omega (arith, whole))
+    (omega (arith, whole))
 
 pub read_datums-requires-in-ActionResponse : goal.read_datums-requires-in-ActionResponse
 read_datums-requires-in-ActionResponse c =
     let whole = whole_of c.args.bytes.now c.args.kind kinds.ActionResponse c.in-ActionResponse.is c.requires in datums_fit 32 c.args.bytes.now
-      (omega (arith, whole))
+    (omega (arith, whole))
 
 pub read_datums-requires-in-SetData : goal.read_datums-requires-in-SetData
 read_datums-requires-in-SetData c =

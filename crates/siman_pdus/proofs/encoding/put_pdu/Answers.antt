@@ -12,7 +12,6 @@ use Rattle.siman_pdus.proofs.encoding.put_pdu.Goals as goal
 
 -- the header with the kind of the body and the size of the text
 own_header : (p : Pdu) (kind : Kind) (length : ℕ) (old new : Vec ℕ Global) → kind ≡ body_kind p.body → length ≡ pdu_size p
-    
     → Puts (header_layout (record { version = p.version; exercise = p.exercise; kind = kind; stamp = p.stamp; length = length; status = p.status })) old new
     → Puts (header_layout (header_of p (pdu_size p))) old new
 own_header p kind length old new same own puts = rw (← same, ← own) puts

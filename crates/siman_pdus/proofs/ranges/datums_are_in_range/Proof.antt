@@ -40,7 +40,7 @@ datums_are_in_range_spec 𝓤 𝓛 𝓜 𝓡 wired =
     split ! $ split ! $ move ! (2 ∷ []) $ split ! $
     -- what the reference tells
     use1 𝓛 (given (known.Fact a.0) (‵ Lent)) (fact_use 𝓤 (known.Fact a.0) ((known.owned a.0 vs).go _ 𝓤 𝓛) (guard_i 𝓤 (known.Fact a.0) (sem 𝓛 Lent))) $ learn !
-      (λ told.
+    (λ told.
     -- [the reference; the token of its lifetime]
     keep ! (0 ∷ 2 ∷ []) $ enter ! _ _ _ _ _ $ alloc_all ! (λ l. pass_all ! refl ((tt, tt), tt) $
     sets ! (of_opd ! (unit_lit !)) refl (tt, tt) $

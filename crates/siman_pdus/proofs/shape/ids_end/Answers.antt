@@ -14,7 +14,7 @@ returns-in_err-fixed c =
     let fault = c.in_err-fixed.field-0.0 in
     let p = err_from_is_err_and c.from_residual.result c.from_residual.ensures.1 in
     let fixed : ends (counts + 8) (replicate n 4) (length b) ≡ Err fault = subst
-      (λ (k : ℕ). ends (counts + 8) (replicate k 4) (length b) ≡ Err fault) c.u32_at.ensures (sym c.in_err-fixed.ensures.ends) in
+    (λ (k : ℕ). ends (counts + 8) (replicate k 4) (length b) ≡ Err fault) c.u32_at.ensures (sym c.in_err-fixed.ensures.ends) in
     let sizes = replicate (number_at w32 (counts + 4) b) 4 in
     rw (p.1, p.2) (sym (ends-append (counts + 8) (replicate n 4) sizes (length b) ∙ ap (λ r. continued r sizes (length b)) fixed))
 
@@ -26,8 +26,8 @@ returns c =
     let end = counts + 8 + 4 * n in
     let end_is : c.in_ok-fixed.fixed ≡ end = omega (arith, c.in_ok-fixed.ensures.within.0, c.u32_at.ensures) in
     let fixed : ends (counts + 8) (replicate n 4) (length b) ≡ Ok end = subst
-      (λ (k : ℕ). ends (counts + 8) (replicate k 4) (length b) ≡ Ok end) c.u32_at.ensures (sym c.in_ok-fixed.ensures.ends ∙ ap (λ k. Ok k) end_is) in
+    (λ (k : ℕ). ends (counts + 8) (replicate k 4) (length b) ≡ Ok end) c.u32_at.ensures (sym c.in_ok-fixed.ensures.ends ∙ ap (λ k. Ok k) end_is) in
     let sizes = replicate (number_at w32 (counts + 4) b) 4 in
     let others : c.parts_end-2.result ≡ ends end sizes (length b) = c.parts_end-2.ensures.ends ∙ ap
-      (λ (k : ℕ). ends k (replicate c.u32_at-2.result 4) (length b)) end_is ∙ ap (λ (k : ℕ). ends end (replicate k 4) (length b)) c.u32_at-2.ensures in
+    (λ (k : ℕ). ends k (replicate c.u32_at-2.result 4) (length b)) end_is ∙ ap (λ (k : ℕ). ends end (replicate k 4) (length b)) c.u32_at-2.ensures in
     others ∙ sym (ends-append (counts + 8) (replicate n 4) sizes (length b) ∙ ap (λ r. continued r sizes (length b)) fixed)

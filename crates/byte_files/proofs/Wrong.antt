@@ -116,6 +116,11 @@ refuses_read same h = record { rightly = λ i d t ready e. h.rightly i d t ready
 pub refuses_behind : {X F : Type 0} {Right : F → Type 0} {first : Input} {s t : List ℕ} {f : Input → Result X F} → s ≡ t → Refuses Right first s f → Refuses Right first t f
 refuses_behind {Right = Right} {first = first} {f = f} same h = subst (λ u. Refuses Right first u f) same h
 
+-- the same with the front of the text apart
+pub refuses_on : {X Y F : Type 0} {Right : F → Type 0} {first : Input} (a b : List ℕ) {f : Input → Result (X × Input) F} {s : X → List ℕ} {P : X → Type 0} {g : X → Input → Result Y F}
+    → Agrees f s P → Refuses Right first (a ++ b) f → ((x : X) → P x → Refuses Right first (a ++ (b ++ s x)) (g x)) → Refuses Right first (a ++ b) (λ i. f i >>= λ x. g x.0 x.1)
+refuses_on a b {s = s} c h k = refuses_then c h (λ x p. refuses_behind (sym (append_assoc a b (s x))) (k x p))
+
 pub refuses_mark : {X F : Type 0} {Right : F → Type 0} {first : Input} {before : List ℕ} {m : Input → Result Input F} {s : List ℕ} {g : Input → Result X F}
     → IsMark m s → Refuses Right first before m → Refuses Right first (before ++ s) g → Refuses Right first before (λ i. m i >>= g)
 refuses_mark {m = m} {g = g} mark h k = refuses_read (λ i. bind_twice (m i) (λ j. Ok (tt, j)) (λ x. g x.1)) (refuses_then mark.agrees (refuses_last (λ j. (tt, j)) h) (λ u good. k))
@@ -169,6 +174,11 @@ reach_read same h = record { stops = λ limit rest d within e. h.stops limit res
 
 pub reach_behind : {X Y F : Type 0} {whole : Input → Result Y F} {s t : List ℕ} {f : Input → Result X F} → s ≡ t → Reaches whole s f → Reaches whole t f
 reach_behind {whole = whole} {f = f} same h = subst (λ u. Reaches whole u f) same h
+
+-- the same with the front of the text apart
+pub reach_on : {X Y Z F : Type 0} {whole : Input → Result Z F} (b c : List ℕ) {f : Input → Result (X × Input) F} {s : X → List ℕ} {P : X → Type 0}
+    → Agrees f s P → (x : X) → P x → (g : X × Input → Result Y F) → Reaches whole (b ++ c) (λ i. f i >>= g) → Reaches whole (b ++ (c ++ s x)) (λ i. g (x, i))
+reach_on b c {s = s} a x good g h = reach_behind (append_assoc b c (s x)) (reach_next a x good g h)
 
 pub reach_mark : {X Y F : Type 0} {whole : Input → Result Y F} {before : List ℕ} {m : Input → Result Input F} {s : List ℕ} → IsMark m s → (g : Input → Result X F) → Reaches whole before (λ i. m i >>= g) → Reaches whole (before ++ s) g
 reach_mark {m = m} mark g h = reach_next mark.agrees tt tt _ (reach_read (λ i. sym (bind_twice (m i) (λ j. Ok (tt, j)) (λ x. g x.1))) h)

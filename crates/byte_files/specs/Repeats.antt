@@ -11,6 +11,10 @@ times_at handed one (suc left) s i = do
   xs ← times_at handed one left (handed x.0) x.1
   Ok (x.0 ∷ xs.0, xs.1)
 
+-- so many, each read the same
+abbrev pub many_at : {X F : Type 0} → (Input → Result (X × Input) F) → (left : ℕ) → Input → Result (List X × Input) F
+many_at one left i = times_at {S = Unit {0}} (λ x. tt) (λ u. one) left tt i
+
 -- what the last of a list hands on, or else what was handed to the first
 abbrev pub handed_on : {S X : Type 0} → (X → S) → S → List X → S
 handed_on handed s [] = s

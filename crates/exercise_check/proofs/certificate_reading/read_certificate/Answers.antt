@@ -1,11 +1,11 @@
-use Rattle.std.proofs.Common.{◌≡◌, ◌+◌, ◌*◌, ℕ, List, Option, Some, None, Result, Ok, Err, subst}
+use Rattle.std.proofs.Common.{◌≡◌, ◌+◌, ◌*◌, ℕ, List, Option, Some, None, Result, Ok, Err, subst, arith}
 use Rattle.std.specs.Prelude.{IfSome, IfOk, OnOk}
 use Rattle.byte_files.specs.Fields.{Input, known, AreBytes}
-use Rattle.byte_files.proofs.Offered.{at_start}
+use Rattle.byte_files.proofs.Offered.{at_start, front}
 use Rattle.exercise_check.specs.declared.certificate.Certificate.{Certificate}
 use Rattle.exercise_check.specs.declared.certificate_fault.CertificateFault.{CertificateFault}
 use Rattle.exercise_check.specs.Certificate.{certificate_text, steps_of, Answers, whole_at, certificate_at}
-use Rattle.exercise_check.proofs.Texts.{whole_takes}
+use Rattle.exercise_check.proofs.Agreement.{whole_agrees}
 use Rattle.exercise_check.proofs.certificate_reading.read_certificate.Goals as goal
 
 -- What was read, where only bytes were taken, is the text of the certificate.
@@ -13,7 +13,7 @@ text_read : (n most : ℕ) (o : Option (List ℕ)) (result : Result Certificate 
     → IfSome o (λ bytes. IfOk result (λ c. bytes ≡ certificate_text c.steps.items))
 text_read n most None result read taken = tt
 text_read n most (Some bytes) (Err e) read taken = tt
-text_read n most (Some bytes) (Ok c) read taken = (whole_takes n (record { limit = most; at = 0; bytes = bytes }) c.steps.items taken read).text
+text_read n most (Some bytes) (Ok c) read taken = ((whole_agrees n).takes (front most 0 bytes) c.steps.items (taken, omega arith) read).0
 
 pub returns-clause-read : goal.returns-clause-read
 unfolding certificate_at

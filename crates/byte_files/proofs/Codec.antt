@@ -7,11 +7,7 @@ use Rattle.std.proofs.lemmas.Bool.{eqb-true}
 use Rattle.std.proofs.lemmas.List.{nil_from_length, length-append}
 use Rattle.byte_files.specs.Fields.{Input, IsBytes, Names, ◌>>=◌, judged, field_at, number_at, number_where, ended}
 use Rattle.byte_files.specs.Repeats.{times_at, until_at}
-use Rattle.byte_files.proofs.Fields.{bind_ok, judged_ok, ok_is, front, Takes, takes_nothing, takes_then, Reads, reads_nothing, reads_then, reads_last, IsWide, field_takes, field_reads, number_takes, number_reads, byte_takes, byte_reads}
-
--- a reading of a value
-abbrev pub Reading : (X F : Type 0) → Type 0
-Reading X F = Input → Result (X × Input) F
+use Rattle.byte_files.proofs.Fields.{bind_ok, judged_ok, ok_is, front, Takes, takes_nothing, takes_then, Reading, Reads, reads_nothing, reads_then, reads_last, IsWide, field_takes, field_reads, number_takes, number_reads, byte_takes, byte_reads}
 
 -- Bytes are left, within the limit.
 abbrev pub IsReady : Input → Type 0
@@ -150,7 +146,8 @@ judged_mark {X = X} {f = f} {s = s} test fault x a good passes only = record { a
 pub mark_agrees : {X F : Type 0} {m : Input → Result Input F} {s : List ℕ} {g : Reading X F} {t : X → List ℕ} {P : X → Type 0}
     → IsMark m s → Agrees g t P → Agrees (λ i. m i >>= g) (λ x. s ++ t x) P
 mark_agrees {m = m} {g = g} mark a =
-    agrees_read (agrees_as (then_agrees mark.agrees (λ x. tt) (λ u h. a) (λ u x h q. refl)) (λ x good. refl) (λ x good. good.1) (λ x good. (tt, good))) (bind_marked m g)
+    let both = then_agrees mark.agrees (λ x. tt) (λ u h. a) (λ u x h q. refl) in
+    agrees_read (agrees_as both (λ x good. refl) (λ x good. good.1) (λ x good. (tt, good))) (bind_marked m g)
 
 -- ---- so many
 
@@ -182,10 +179,13 @@ module _ {S X F : Type 0} {handed : X → S} {one : S → Reading X F} {text : X
       reads_then (one s) (λ y i. others (handed y) i >>= λ ys. Ok (y ∷ ys.0, ys.1)) (text x) (flat_map text xs) x (x ∷ xs) ((a s).reads x p.0)
       (reads_last (others (handed x)) (λ ys. x ∷ ys) (flat_map text xs) xs (times_reads (handed x) xs p.1))
 
-  times_takes : (n : ℕ) (s : S) (i : Input) (xs : List X × Input) → IsReady i → times_at handed one n s i ≡ Ok xs → Takes i (flat_map text xs.0) xs.1 × ((length xs.0 ≡ n) × All s xs.0)
+  -- So many were read.
+  abbrev AreTaken : ℕ → S → Input → List X × Input → Type 0
+  AreTaken n s i xs = Takes i (flat_map text xs.0) xs.1 × ((length xs.0 ≡ n) × All s xs.0)
+
+  times_takes : (n : ℕ) (s : S) (i : Input) (xs : List X × Input) → IsReady i → times_at handed one n s i ≡ Ok xs → AreTaken n s i xs
   unfolding times_at
-  times_takes zero s i xs ready e =
-      subst (λ (y : List X × Input). Takes i (flat_map text y.0) y.1 × ((length y.0 ≡ 0) × All s y.0)) (ok_is ([], i) xs e) (takes_nothing i ready.1, (refl, each.none s))
+  times_takes zero s i xs ready e = subst (AreTaken 0 s i) (ok_is ([], i) xs e) (takes_nothing i ready.1, (refl, each.none s))
   times_takes (suc n) s i xs ready e =
       let others = times_at handed one n in
       let x = bind_ok (one s i) (λ x. others (handed x.0) x.1 >>= λ ys. Ok (x.0 ∷ ys.0, ys.1)) xs e in
@@ -193,7 +193,7 @@ module _ {S X F : Type 0} {handed : X → S} {one : S → Reading X F} {text : X
       let p = (a s).takes i x.0 ready x.1 in
       let q = times_takes n (handed x.0.0) x.0.1 ys.0 (ready_behind p.0 ready) ys.1 in
       let made : List X × Input = (x.0.0 ∷ ys.0.0, ys.0.1) in
-      subst (λ (y : List X × Input). Takes i (flat_map text y.0) y.1 × ((length y.0 ≡ suc n) × All s y.0)) (ok_is made xs ys.2)
+      subst (AreTaken (suc n) s i) (ok_is made xs ys.2)
       (takes_then i x.0.1 ys.0.1 (text x.0.0) (flat_map text ys.0.0) p.0 q.0, (ap suc q.1.0, each.more s x.0.0 ys.0.0 p.1 q.1.1))
 
   pub times_agrees : (n : ℕ) (s : S) → Agrees (times_at handed one n s) (flat_map text) (λ xs. (length xs ≡ n) × All s xs)

@@ -8,8 +8,8 @@ use Rattle.std.proofs.lemmas.List.{length-append}
 use Rattle.byte_files.specs.Fields.{Input, Names, ◌>>=◌, judged, field_at, number_at, number_where, ended}
 use Rattle.byte_files.specs.Repeats.{times_at, handed_on, until_at}
 use Rattle.byte_files.specs.Rows.{Row, unless, any, number, number_in, fault_at}
-use Rattle.byte_files.proofs.Fields.{bind_err, ok_err, front, Takes, takes_then}
-use Rattle.byte_files.proofs.Codec.{Reading, IsReady, ready_behind, Agrees, bind_twice, bind_marked, IsMark, IsEach, IsOfEach, next_text, IsNext}
+use Rattle.byte_files.proofs.Fields.{bind_err, ok_err, front, Takes, takes_then, Reading}
+use Rattle.byte_files.proofs.Codec.{IsReady, ready_behind, Agrees, bind_twice, bind_marked, IsMark, IsEach, IsOfEach, next_text, IsNext}
 
 -- ---- a field that is wrong
 
@@ -98,11 +98,16 @@ module _ {F : Type 0} (names : Names F) where
 pub record Refuses {X F : Type 0} (Right : F → Type 0) (first : Input) (before : List ℕ) (read : Input → Result X F) : Type 0 where
   pub rightly : (i : Input) (d : F) → Takes first before i → IsReady i → read i ≡ Err d → Right d
 
+-- what stands behind one more
+split : {X : Type 0} (text : X → List ℕ) (before : List ℕ) (x : X) (xs : List X) → before ++ flat_map text (x ∷ xs) ≡ (before ++ text x) ++ flat_map text xs
+split text before x xs = sym (append_assoc before (text x) (flat_map text xs))
+
 module _ {F : Type 0} {R : F → Type 0} {o : Input} where
   pub refuses_never : {X : Type 0} {before : List ℕ} (made : Input → X) → Refuses R o before (λ i. Ok (made i))
   refuses_never made = record { rightly = λ i d t ready e. absurd (ok_err _ _ d refl e) }
 
-  pub refuses_last : {X Y : Type 0} {before : List ℕ} {f : Input → Result X F} (made : X → Y) → Refuses R o before f → Refuses R o before (λ i. f i >>= λ x. Ok (made x))
+  pub refuses_last : {X Y : Type 0} {before : List ℕ} {f : Input → Result X F} (made : X → Y)
+      → Refuses R o before f → Refuses R o before (λ i. f i >>= λ x. Ok (made x))
   refuses_last {f = f} made h = record { rightly = λ i d t ready e. elim (bind_err (f i) (λ x. Ok (made x)) d e) [
       | inl x ↦ h.rightly i d t ready x
       | inr x ↦ absurd (ok_err _ _ d refl x.2)
@@ -132,29 +137,29 @@ module _ {F : Type 0} {R : F → Type 0} {o : Input} where
       → IsMark m s → Refuses R o before m → Refuses R o (before ++ s) g → Refuses R o before (λ i. m i >>= g)
   refuses_mark {m = m} {g = g} mark h k = refuses_read (bind_marked m g) (refuses_then mark.agrees (refuses_last (λ j. (tt, j)) h) (λ u good. k))
 
-  pub refuses_times : {S X : Type 0} {handed : X → S} {one : S → Reading X F} {text : X → List ℕ} {Good : S → X → Type 0} {All : S → List X → Type 0} {before : List ℕ}
-      → IsEach handed Good All → ((s : S) → Agrees (one s) text (Good s)) → (n : ℕ) (s : S)
-      → ((xs : List X) → All s xs → length xs < n → Refuses R o (before ++ flat_map text xs) (one (handed_on handed s xs))) → Refuses R o before (times_at handed one n s)
+  pub refuses_times : {S X : Type 0} {handed : X → S} {one : S → Reading X F} {text : X → List ℕ} {Good : S → X → Type 0} {All : S → List X → Type 0}
+      {before : List ℕ} → IsEach handed Good All → ((s : S) → Agrees (one s) text (Good s)) → (n : ℕ) (s : S)
+      → ((xs : List X) → All s xs → length xs < n → Refuses R o (before ++ flat_map text xs) (one (handed_on handed s xs)))
+      → Refuses R o before (times_at handed one n s)
   unfolding times_at
   refuses_times each a zero s h = refuses_never (λ i. ([], i))
-  refuses_times {X = X} {text = text} {before = before} each a (suc n) s h =
-      let split : (x : X) (xs : List X) → before ++ flat_map text (x ∷ xs) ≡ (before ++ text x) ++ flat_map text xs = λ x xs. sym (append_assoc before (text x) (flat_map text xs)) in
+  refuses_times {text = text} {before = before} each a (suc n) s h =
       refuses_then (a s) (refuses_behind (append-nil before) (h [] (each.none s) (omega arith)))
-      (λ x p. refuses_last (λ xs. (x ∷ xs.0, xs.1)) (refuses_times each a n _ (λ xs all few. refuses_behind (split x xs) (h (x ∷ xs) (each.more s x xs p all) (omega arith)))))
+      (λ x p. refuses_last (λ xs. (x ∷ xs.0, xs.1)) (refuses_times each a n _
+      (λ xs all few. refuses_behind (split text before x xs) (h (x ∷ xs) (each.more s x xs p all) (omega arith)))))
 
-  pub refuses_until : {X : Type 0} {next : Reading (Option X) F} {last : Input → Result Input F} (text : X → List ℕ) {mark : List ℕ} {Good : X → Type 0} {All : List X → Type 0} {before : List ℕ}
-      → IsOfEach Good All → Agrees next (next_text text mark) (IsNext Good) → (n : ℕ)
-      → ((xs : List X) → All xs → length xs < n → Refuses R o (before ++ flat_map text xs) next) → ((xs : List X) → All xs → length xs ≡ n → Refuses R o (before ++ flat_map text xs) last)
-      → Refuses R o before (until_at next last n)
+  pub refuses_until : {X : Type 0} {next : Reading (Option X) F} {last : Input → Result Input F} (text : X → List ℕ) {mark : List ℕ} {Good : X → Type 0}
+      {All : List X → Type 0} {before : List ℕ} → IsOfEach Good All → Agrees next (next_text text mark) (IsNext Good) → (n : ℕ)
+      → ((xs : List X) → All xs → length xs < n → Refuses R o (before ++ flat_map text xs) next)
+      → ((xs : List X) → All xs → length xs ≡ n → Refuses R o (before ++ flat_map text xs) last) → Refuses R o before (until_at next last n)
   unfolding until_at
   refuses_until text {before = before} each a zero h k = refuses_last (λ rest. ([], rest)) (refuses_behind (append-nil before) (k [] (each.none tt) refl))
-  refuses_until {X = X} text {before = before} each a (suc n) h k =
-      let split : (x : X) (xs : List X) → before ++ flat_map text (x ∷ xs) ≡ (before ++ text x) ++ flat_map text xs = λ x xs. sym (append_assoc before (text x) (flat_map text xs)) in
+  refuses_until text {before = before} each a (suc n) h k =
       refuses_then a (refuses_behind (append-nil before) (h [] (each.none tt) (omega arith))) (elim [
         | None ↦ λ p. refuses_never (λ i. ([], i))
         | Some x ↦ λ p. refuses_last (λ xs. (x ∷ xs.0, xs.1)) (refuses_until text each a n
-            (λ xs all few. refuses_behind (split x xs) (h (x ∷ xs) (each.more tt x xs p all) (omega arith)))
-            (λ xs all full. refuses_behind (split x xs) (k (x ∷ xs) (each.more tt x xs p all) (ap suc full))))
+            (λ xs all few. refuses_behind (split text before x xs) (h (x ∷ xs) (each.more tt x xs p all) (omega arith)))
+            (λ xs all full. refuses_behind (split text before x xs) (k (x ∷ xs) (each.more tt x xs p all) (ap suc full))))
       ])
 
 -- ---- a reading tells of each field that is wrong
@@ -190,7 +195,8 @@ module _ {W F : Type 0} {w : Input → Result W F} where
       → Agrees f s P → (x : X) → P x → (g : X × Input → Result Y F) → Reaches w (b ++ c) (λ i. f i >>= g) → Reaches w (b ++ (c ++ s x)) (λ i. g (x, i))
   reach_on b c {s = s} a x good g h = reach_behind (append_assoc b c (s x)) (reach_next a x good g h)
 
-  pub reach_mark : {X : Type 0} {before : List ℕ} {m : Input → Result Input F} {s : List ℕ} → IsMark m s → (g : Input → Result X F) → Reaches w before (λ i. m i >>= g) → Reaches w (before ++ s) g
+  pub reach_mark : {X : Type 0} {before : List ℕ} {m : Input → Result Input F} {s : List ℕ}
+      → IsMark m s → (g : Input → Result X F) → Reaches w before (λ i. m i >>= g) → Reaches w (before ++ s) g
   reach_mark {m = m} mark g h = reach_next mark.agrees tt tt _ (reach_read (λ i. sym (bind_marked m g i)) h)
 
   pub reach_times : {S X : Type 0} {before : List ℕ} {handed : X → S} {one : S → Reading X F} {text : X → List ℕ} {Good : S → X → Type 0} {All : S → List X → Type 0}
@@ -204,9 +210,9 @@ module _ {W F : Type 0} {w : Input → Result W F} where
       reach_behind (append_assoc before (text x) (flat_map text xs))
       (reach_times each a n (handed x) xs p.1 (omega arith) (reach_first (times_at handed one n (handed x)) _ (reach_next (a s) x p.0 _ h)))
 
-  pub reach_until : {X : Type 0} {next : Reading (Option X) F} (last : Input → Result Input F) (text : X → List ℕ) {mark : List ℕ} {Good : X → Type 0} {All : List X → Type 0}
-      → IsOfEach Good All → Agrees next (next_text text mark) (IsNext Good) → (n k : ℕ) (xs : List X) {before : List ℕ} → All xs → n ≡ length xs + k
-      → Reaches w before (until_at next last n) → Reaches w (before ++ flat_map text xs) (until_at next last k)
+  pub reach_until : {X : Type 0} {next : Reading (Option X) F} (last : Input → Result Input F) (text : X → List ℕ) {mark : List ℕ} {Good : X → Type 0}
+      {All : List X → Type 0} → IsOfEach Good All → Agrees next (next_text text mark) (IsNext Good) → (n k : ℕ) (xs : List X) {before : List ℕ}
+      → All xs → n ≡ length xs + k → Reaches w before (until_at next last n) → Reaches w (before ++ flat_map text xs) (until_at next last k)
   unfolding until_at
   reach_until {next = next} last text each a n k [] {before = before} all size h =
       reach_behind (sym (append-nil before)) (subst (λ m. Reaches w before (until_at next last m)) (size ∙ omega arith) h)
@@ -217,10 +223,12 @@ module _ {W F : Type 0} {w : Input → Result W F} where
       (reach_until last text each a n k xs p.1 (omega arith) (reach_first (until_at next last n) _ (reach_next a (Some x) p.0 _ h)))
 
   -- where one more may come, and where none may
-  pub reach_more : {X : Type 0} {before : List ℕ} (next : Reading (Option X) F) (last : Input → Result Input F) (k : ℕ) → Reaches w before (until_at next last (suc k)) → Reaches w before next
+  pub reach_more : {X : Type 0} {before : List ℕ} (next : Reading (Option X) F) (last : Input → Result Input F) (k : ℕ)
+      → Reaches w before (until_at next last (suc k)) → Reaches w before next
   unfolding until_at
   reach_more next last k h = reach_first next _ h
 
-  pub reach_last : {X : Type 0} {before : List ℕ} (next : Reading (Option X) F) (last : Input → Result Input F) → Reaches w before (until_at next last zero) → Reaches w before last
+  pub reach_last : {X : Type 0} {before : List ℕ} (next : Reading (Option X) F) (last : Input → Result Input F)
+      → Reaches w before (until_at next last zero) → Reaches w before last
   unfolding until_at
   reach_last next last h = reach_first last _ h

@@ -21,7 +21,8 @@ handed_on handed s [] = s
 handed_on handed s (x ∷ xs) = handed_on handed (handed x) xs
 
 -- at most so many, up to a mark of the end; where no more may stand, the mark alone
-unfoldable pub until_at : {X F : Type 0} → (next : Input → Result (Option X × Input) F) → (last : Input → Result Input F) → (left : ℕ) → Input → Result (List X × Input) F
+unfoldable pub until_at : {X F : Type 0} → (next : Input → Result (Option X × Input) F) → (last : Input → Result Input F) → (left : ℕ) → Input
+    → Result (List X × Input) F
 until_at next last zero i = do
   rest ← last i
   Ok ([], rest)

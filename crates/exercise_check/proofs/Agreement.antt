@@ -27,7 +27,8 @@ count_agrees limit = tested_agrees four_bytes (λ n. nat_le n limit) faults.Over
 pub step_agrees : Agrees step_at step_text (λ s. is_step s ≡ true)
 unfolding step_at
 step_agrees =
-    agrees_as (then_agrees four_bytes (λ s. s.place) (λ p h. last_agrees four_bytes (λ l. record { place = p; link = l }) (λ s. s.link) (λ l g. refl)) (λ p s h q. sym (ap (λ s. s.place) q.1)))
+    agrees_as (then_agrees four_bytes (λ s. s.place)
+    (λ p h. last_agrees four_bytes (λ l. record { place = p; link = l }) (λ s. s.link) (λ l g. refl)) (λ p s h q. sym (ap (λ s. s.place) q.1)))
     (λ s h. refl) (λ s h. and_from _ _ (lt-ltb _ _ h.0) (lt-ltb _ _ h.1.0))
     (λ s h. let p = and_parts (nat_lt s.place 4294967296) (nat_lt s.link 4294967296) h in (ltb-true _ _ p.0, (ltb-true _ _ p.1, refl)))
 

@@ -19,7 +19,8 @@ unless_is true c d e = absurd cc
 unless_is false c d e = (refl, cc)
 
 -- within the limit, a field is not wholly there, or else it is judged
-short_or_judged : {X : Type 0} (over short : Bool) (s t : CertificateFormatFault) (fault : Option CertificateFormatFault) (d : CertificateFormatFault) → over ≡ false → cond over (Some s) (cond short (Some t) fault) ≡ Some d
+short_or_judged : {X : Type 0} (over short : Bool) (s t : CertificateFormatFault) (fault : Option CertificateFormatFault) (d : CertificateFormatFault)
+    → over ≡ false → cond over (Some s) (cond short (Some t) fault) ≡ Some d
     → (short ≡ true → t ≡ d → X) → (short ≡ false → fault ≡ Some d → X) → X
 short_or_judged true short s t fault d fits e f g = absurd cc
 short_or_judged false true s t fault d fits e f g = f refl cc
@@ -35,7 +36,9 @@ magic_row = record { width = 8; fault = λ at left. unless (bytes_eq (take 8 lef
 
 magic_told : IsTold names magic_at magic_row
 unfolding magic_at magic_row
-magic_told = field_told names magic_row (λ i b. judged (bytes_eq b.0 (codes "DSCT0001")) (faults.Magic i.at) b.1) (λ i j. judged_told (bytes_eq (take 8 i.bytes) (codes "DSCT0001")) (faults.Magic i.at) j)
+magic_told =
+    field_told names magic_row (λ i b. judged (bytes_eq b.0 (codes "DSCT0001")) (faults.Magic i.at) b.1)
+    (λ i j. judged_told (bytes_eq (take 8 i.bytes) (codes "DSCT0001")) (faults.Magic i.at) j)
 
 module _ (limit : ℕ) (bytes : List ℕ) where
   abbrev start : Input
@@ -46,9 +49,11 @@ module _ (limit : ℕ) (bytes : List ℕ) where
   IsRight before f = Refuses (IsRefused limit bytes) start before f
 
   -- a field within the limit: it is not wholly there, and the steps that are counted need it, or else it is judged
-  field_right : {Y : Type 0} {f : Input → Result Y CertificateFormatFault} {before : List ℕ} (row : Row CertificateFormatFault) → IsTold names f row → length before + row.width ≤ 12 + 8 * limit
+  field_right : {Y : Type 0} {f : Input → Result Y CertificateFormatFault} {before : List ℕ} (row : Row CertificateFormatFault)
+      → IsTold names f row → length before + row.width ≤ 12 + 8 * limit
       → ((i : Input) → Takes start before i → length before + row.width ≤ 12 + 8 * count_of bytes)
-      → ((i : Input) (d : CertificateFormatFault) → Takes start before i → row.width ≤ length i.bytes → row.fault i.at i.bytes ≡ Some d → IsRefused limit bytes d) → IsRight before f
+      → ((i : Input) (d : CertificateFormatFault) → Takes start before i → row.width ≤ length i.bytes → row.fault i.at i.bytes ≡ Some d → IsRefused limit bytes d)
+      → IsRight before f
   field_right {before = before} row told within needed judged = record { rightly = λ i d t ready e.
     let size : length bytes ≡ length before + length i.bytes = ap length t.parts ∙ length-append before i.bytes in
     let fits : ltb i.limit (i.at + row.width) ≡ false = le-ltb _ _ (omega (arith, t.at, t.limit)) in
@@ -88,7 +93,8 @@ module _ (limit : ℕ) (bytes : List ℕ) where
     let size : length (head_text n ++ before) ≡ 12 + 8 * length ss = length-append (head_text n) before ∙ ap (λ k. 12 + k) (length-steps ss) in
     refuses_then four_bytes (any_right (any_told names w32) (omega arith) (λ i t. omega (arith, count_is n before i few t)))
     (λ p h.
-    let both : length ((head_text n ++ before) ++ to_be_bytes w32 p) ≡ (12 + 8 * length ss) + 4 = length-append (head_text n ++ before) (to_be_bytes w32 p) ∙ ap (λ k. k + 4) size in
+    let both : length ((head_text n ++ before) ++ to_be_bytes w32 p) ≡ (12 + 8 * length ss) + 4 =
+    length-append (head_text n ++ before) (to_be_bytes w32 p) ∙ ap (λ k. k + 4) size in
     refuses_last (λ l. (record { place = p; link = l.0 }, l.1)) (any_right (any_told names w32) (omega arith)
     (λ i t. omega (arith, count_is n (before ++ to_be_bytes w32 p) i few (subst (λ u. Takes start u i) (append_assoc (head_text n) before (to_be_bytes w32 p)) t)))))
 
@@ -102,7 +108,8 @@ module _ (limit : ℕ) (bytes : List ℕ) where
     subst (IsRefused limit bytes) g.1 (more, (steps, ap (take j.at) t.parts ∙ take_at text j.bytes j.at place, few)) }
 
   -- the same behind the number of the steps
-  counted : (n : ℕ) (steps : List Step) → length steps ≡ n → IsRight (certificate_text steps) (ended steps) → IsRight (head_text n ++ flat_map step_text steps) (ended steps)
+  counted : (n : ℕ) (steps : List Step) → length steps ≡ n → IsRight (certificate_text steps) (ended steps)
+      → IsRight (head_text n ++ flat_map step_text steps) (ended steps)
   counted n steps size h = subst (λ k. IsRight (head_text k ++ flat_map step_text steps) (ended steps)) size h
 
   -- bytes that are refused are refused rightly

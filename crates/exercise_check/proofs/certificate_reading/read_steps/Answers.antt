@@ -13,7 +13,8 @@ returns-in_err-step-clause-steps g c =
     let p = err_from_is_err_and c.from_residual.result c.from_residual.ensures.1 in
     let n = c.args.count in
     let i = c.loop.counter in
-    rw (p.1, p.2) (times_stop (λ s. tt) (λ u. step_at) n i tt (told c.in_err-step.field-0.0) _ _ c.loop.steps.items (steps_at n) c.loop-test.true c.in_err-step.ensures.step c.loop.invariant.read)
+    rw (p.1, p.2) (times_stop (λ s. tt) (λ u. step_at) n i tt (told c.in_err-step.field-0.0) _ _ c.loop.steps.items (steps_at n)
+    c.loop-test.true c.in_err-step.ensures.step c.loop.invariant.read)
 
 pub loop-preserved : goal.loop-preserved
 loop-preserved g c =
@@ -22,7 +23,8 @@ loop-preserved g c =
     let i = c.loop.counter in
     rw c.in_ok-push.ensures.items (record {
       taken = λ h. c.loop.invariant.taken (c.in_ok-step.ensures.taken h);
-      read = times_on (λ s. tt) (λ u. step_at) n i tt told same s _ _ c.read_step.new.source c.loop.steps.items (steps_at n) c.loop-test.true c.in_ok-step.ensures.step c.loop.invariant.read;
+      read = times_on (λ s. tt) (λ u. step_at) n i tt told same s _ _ c.read_step.new.source c.loop.steps.items (steps_at n)
+      c.loop-test.true c.in_ok-step.ensures.step c.loop.invariant.read;
       each = all_pushed is_step c.loop.steps.items s c.loop.invariant.each c.in_ok-step.ensures.numbers;
       count = grind (arith, common_steps);
     })

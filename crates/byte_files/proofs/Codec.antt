@@ -1,11 +1,13 @@
 -- Reading a thing and its text, in one place with the laws that tie them.
 use Rattle.std.proofs.Common.{◌≡◌, ℕ, zero, suc, ◌+◌, ◌<◌, ◌≤◌, Bool, true, eqb, List, [], ◌∷◌, ◌++◌, length, Option, Some, None, Result, Ok, Err, refl, sym, ap, subst, ◌∙◌, append_assoc, append-nil, arith}
+use Rattle.std.specs.Prelude.{IfSome, IfOk, OnOk}
 use Rattle.std.specs.Option.{option_map_or}
 use Rattle.std.specs.List.{flat_map}
 use Rattle.std.specs.Int.{Width, w8, to_be_bytes}
 use Rattle.std.proofs.lemmas.Bool.{eqb-true}
 use Rattle.std.proofs.lemmas.List.{nil_from_length, length-append}
-use Rattle.byte_files.specs.Fields.{Input, IsBytes, Names, ◌>>=◌, judged, field_at, number_at, number_where, ended}
+use Rattle.byte_files.specs.Fields as fields
+use Rattle.byte_files.specs.Fields.{Input, known, AreBytes, IsBytes, Names, ◌>>=◌, judged, field_at, number_at, number_where, ended}
 use Rattle.byte_files.specs.Repeats.{times_at, until_at}
 use Rattle.byte_files.proofs.Fields.{bind_ok, judged_ok, ok_is, front, Takes, takes_nothing, takes_then, Reading, Reads, reads_nothing, reads_then, reads_last, IsWide, field_takes, field_reads, number_takes, number_reads, byte_takes, byte_reads}
 
@@ -321,3 +323,26 @@ mark_whole {m = m} {g = g} mark a =
       reads = λ x good limit at within. sym (bind_marked m g _) ∙ both.reads x (tt, good) limit at within;
       takes = λ i x ready e. let p = both.takes i x ready (bind_marked m g i ∙ e) in (p.0, p.1, p.2.1);
     }
+
+-- ---- what a function answered that read the whole of some bytes
+
+module _ {X A E F : Type 0} {read : Input → Result X F} {s : X → List ℕ} {P : X → Type 0} (w : IsWhole read s P) (told : E → Option F) (view : A → X) (limit : ℕ) where
+  -- what reading gives, where only bytes were taken
+  abbrev Answered : Result A E → Option Input → Type 0
+  Answered r source = IfSome source (λ i. fields.Answers told view r (read i)) × OnOk r (AreBytes source)
+
+  known_text : (o : Option (List ℕ)) (r : Result A E) → Answered r (known limit 0 o) → IfSome o (λ bytes. IfOk r (λ a. bytes ≡ s (view a)))
+  known_text None r h = tt
+  known_text (Some bytes) (Err e) h = tt
+  known_text (Some bytes) (Ok a) h = (w.takes (front limit 0 bytes) (view a) (h.1, omega arith) h.0).0
+
+  known_within : (o : Option (List ℕ)) (r : Result A E) → Answered r (known limit 0 o) → IfSome o (λ bytes. OnOk r (length bytes ≤ limit))
+  known_within None r h = tt
+  known_within (Some bytes) (Err e) h = tt
+  known_within (Some bytes) (Ok a) h = let p = w.takes (front limit 0 bytes) (view a) (h.1, omega arith) h.0 in omega (arith, p.1)
+
+  pub whole_text : (o : Option (List ℕ)) (source : Option Input) (r : Result A E) → source ≡ known limit 0 o → Answered r source → IfSome o (λ bytes. IfOk r (λ a. bytes ≡ s (view a)))
+  whole_text o source r same h = known_text o r (subst (Answered r) same h)
+
+  pub whole_within : (o : Option (List ℕ)) (source : Option Input) (r : Result A E) → source ≡ known limit 0 o → Answered r source → IfSome o (λ bytes. OnOk r (length bytes ≤ limit))
+  whole_within o source r same h = known_within o r (subst (Answered r) same h)

@@ -59,10 +59,10 @@ module _ {X F : Type 0} {f : Reading X F} {s : X → List ℕ} {P : X → Type 0
   tested_agrees test fault = record {
     reads = λ x good limit at rest within. rw (a.reads x good.0 limit at rest within, good.1) refl;
     takes = λ i y ready e.
-      let x = bind_ok (f i) (λ x. judged (test x.0) (fault i.at) x) y e in
-      let g = judged_ok (test x.0.0) (fault i.at) x.0 y x.2 in
-      let p = a.takes i x.0 ready x.1 in
-      subst (λ z. Takes i (s z.0) z.1 × (P z.0 × (test z.0 ≡ true))) g.1 (p.0, (p.1, g.0));
+        let x = bind_ok (f i) (λ x. judged (test x.0) (fault i.at) x) y e in
+        let g = judged_ok (test x.0.0) (fault i.at) x.0 y x.2 in
+        let p = a.takes i x.0 ready x.1 in
+        subst (λ z. Takes i (s z.0) z.1 × (P z.0 × (test z.0 ≡ true))) g.1 (p.0, (p.1, g.0));
   }
 
   -- a value that is made of the one that is read, and from which that one comes back
@@ -71,11 +71,11 @@ module _ {X F : Type 0} {f : Reading X F} {s : X → List ℕ} {P : X → Type 0
   last_agrees {Y = Y} made back again = record {
     reads = λ y good. subst (Reads (λ i. f i >>= λ x. Ok (made x.0, x.1)) (s (back y))) good.1 (reads_last f made (s (back y)) (back y) (a.reads (back y) good.0));
     takes = λ i y ready e.
-      let x = bind_ok (f i) (λ x. Ok (made x.0, x.1)) y e in
-      let p = a.takes i x.0 ready x.1 in
-      let is : x.0.0 ≡ back (made x.0.0) = sym (again x.0.0 p.1) in
-      subst (λ (z : Y × Input). Takes i (s (back z.0)) z.1 × (P (back z.0) × (made (back z.0) ≡ z.0))) (ok_is (made x.0.0, x.0.1) y x.2)
-      (subst (λ z. Takes i (s z) x.0.1 × (P z × (made z ≡ made x.0.0))) is (p.0, (p.1, refl)));
+        let x = bind_ok (f i) (λ x. Ok (made x.0, x.1)) y e in
+        let p = a.takes i x.0 ready x.1 in
+        let is : x.0.0 ≡ back (made x.0.0) = sym (again x.0.0 p.1) in
+        subst (λ (z : Y × Input). Takes i (s (back z.0)) z.1 × (P (back z.0) × (made (back z.0) ≡ z.0))) (ok_is (made x.0.0, x.0.1) y x.2)
+        (subst (λ z. Takes i (s z) x.0.1 × (P z × (made z ≡ made x.0.0))) is (p.0, (p.1, refl)));
   }
 
   -- a value that has the one that is read as a part, which what is read behind may depend on
@@ -84,14 +84,14 @@ module _ {X F : Type 0} {f : Reading X F} {s : X → List ℕ} {P : X → Type 0
       → Agrees (λ i. f i >>= λ x. g x.0 x.1) (λ y. s (part y) ++ t (part y) y) (λ y. P (part y) × Q (part y) y)
   then_agrees {g = g} {t = t} {Q = Q} part b is = record {
     reads = λ y good.
-      let x = part y in
-      reads_then f g (s x) (t x y) x y (a.reads x good.0) ((b x good.0).reads y good.1);
+        let x = part y in
+        reads_then f g (s x) (t x y) x y (a.reads x good.0) ((b x good.0).reads y good.1);
     takes = λ i y ready e.
-      let x = bind_ok (f i) (λ x. g x.0 x.1) y e in
-      let p = a.takes i x.0 ready x.1 in
-      let q = (b x.0.0 p.1).takes x.0.1 y (ready_behind p.0 ready) x.2 in
-      subst (λ z. Takes i (s z ++ t z y.0) y.1 × (P z × Q z y.0)) (sym (is x.0.0 y.0 p.1 q.1))
-      (takes_then i x.0.1 y.1 (s x.0.0) (t x.0.0 y.0) p.0 q.0, (p.1, q.1));
+        let x = bind_ok (f i) (λ x. g x.0 x.1) y e in
+        let p = a.takes i x.0 ready x.1 in
+        let q = (b x.0.0 p.1).takes x.0.1 y (ready_behind p.0 ready) x.2 in
+        subst (λ z. Takes i (s z ++ t z y.0) y.1 × (P z × Q z y.0)) (sym (is x.0.0 y.0 p.1 q.1))
+        (takes_then i x.0.1 y.1 (s x.0.0) (t x.0.0 y.0) p.0 q.0, (p.1, q.1));
   }
 
   -- the same of other words for the text and for what is good, and for the reading
@@ -134,16 +134,18 @@ pub record IsMark {F : Type 0} (mark : Input → Result Input F) (text : List �
 -- a value of which one alone passes a test
 pub judged_mark : {X F : Type 0} {f : Reading X F} {s : X → List ℕ} {P : X → Type 0} (test : X → Bool) (fault : ℕ → F) (x : X) → Agrees f s P → P x → test x ≡ true
     → ((y : X) → P y → test y ≡ true → y ≡ x) → IsMark (λ i. f i >>= λ y. judged (test y.0) (fault i.at) y.1) (s x)
-judged_mark {X = X} {f = f} {s = s} test fault x a good passes only = record { agrees = record {
-  reads = λ u h limit at rest within. rw (a.reads x good limit at rest within, passes) refl;
-  takes = λ i z ready e.
-    let j = bind_ok (f i >>= λ y. judged (test y.0) (fault i.at) y.1) (λ j. Ok (tt, j)) z e in
-    let y = bind_ok (f i) (λ y. judged (test y.0) (fault i.at) y.1) j.0 j.1 in
-    let g = judged_ok (test y.0.0) (fault i.at) y.0.1 j.0 y.2 in
-    let p = a.takes i y.0 ready y.1 in
-    let t : Takes i (s x) y.0.1 = subst (λ (x : X). Takes i (s x) y.0.1) (only y.0.0 p.1 g.0) p.0 in
-    (subst (Takes i (s x)) (g.1 ∙ ap (λ (y : Unit {0} × Input). y.1) (ok_is (tt, j.0) z j.2)) t, tt);
-} }
+judged_mark {X = X} {f = f} {s = s} test fault x a good passes only = record {
+  agrees = record {
+    reads = λ u h limit at rest within. rw (a.reads x good limit at rest within, passes) refl;
+    takes = λ i z ready e.
+        let j = bind_ok (f i >>= λ y. judged (test y.0) (fault i.at) y.1) (λ j. Ok (tt, j)) z e in
+        let y = bind_ok (f i) (λ y. judged (test y.0) (fault i.at) y.1) j.0 j.1 in
+        let g = judged_ok (test y.0.0) (fault i.at) y.0.1 j.0 y.2 in
+        let p = a.takes i y.0 ready y.1 in
+        let t : Takes i (s x) y.0.1 = subst (λ (x : X). Takes i (s x) y.0.1) (only y.0.0 p.1 g.0) p.0 in
+        (subst (Takes i (s x)) (g.1 ∙ ap (λ (y : Unit {0} × Input). y.1) (ok_is (tt, j.0) z j.2)) t, tt);
+  };
+}
 
 pub mark_agrees : {X F : Type 0} {m : Input → Result Input F} {s : List ℕ} {g : Reading X F} {t : X → List ℕ} {P : X → Type 0}
     → IsMark m s → Agrees g t P → Agrees (λ i. m i >>= g) (λ x. s ++ t x) P
@@ -274,9 +276,9 @@ pub end_whole : {X F : Type 0} (fault : ℕ → F) (x : X) → IsWhole (ended fa
 end_whole fault x = record {
   reads = λ y same limit at within. ap (λ z. Ok z) same;
   takes = λ i y ready e.
-    let g = judged_ok (eqb (length i.bytes) 0) (fault i.at) x y e in
-    let none : length i.bytes ≡ 0 = eqb-true _ _ g.0 in
-    (nil_from_length i.bytes none, omega (arith, ready.1), g.1);
+      let g = judged_ok (eqb (length i.bytes) 0) (fault i.at) x y e in
+      let none : length i.bytes ≡ 0 = eqb-true _ _ g.0 in
+      (nil_from_length i.bytes none, omega (arith, ready.1), g.1);
 }
 
 pub then_whole : {X Y F : Type 0} {f : Reading X F} {s : X → List ℕ} {P : X → Type 0} {g : X → Input → Result Y F} {t : X → Y → List ℕ} {Q : X → Y → Type 0}
@@ -284,17 +286,17 @@ pub then_whole : {X Y F : Type 0} {f : Reading X F} {s : X → List ℕ} {P : X 
     → IsWhole (λ i. f i >>= λ x. g x.0 x.1) (λ y. s (part y) ++ t (part y) y) (λ y. P (part y) × Q (part y) y)
 then_whole {f = f} {s = s} {P = P} {g = g} {t = t} {Q = Q} a part b is = record {
   reads = λ y good limit at within.
-    let x = part y in
-    let size : length (s x ++ t x y) ≡ length (s x) + length (t x y) = length-append (s x) (t x y) in
-    ap (λ r. r >>= λ x. g x.0 x.1) (a.reads x good.0 limit at (t x y) (omega arith)) ∙ (b x good.0).reads y good.1 limit (at + length (s x)) (omega arith);
+      let x = part y in
+      let size : length (s x ++ t x y) ≡ length (s x) + length (t x y) = length-append (s x) (t x y) in
+      ap (λ r. r >>= λ x. g x.0 x.1) (a.reads x good.0 limit at (t x y) (omega arith)) ∙ (b x good.0).reads y good.1 limit (at + length (s x)) (omega arith);
   takes = λ i y ready e.
-    let x = bind_ok (f i) (λ x. g x.0 x.1) y e in
-    let p = a.takes i x.0 ready x.1 in
-    let q = (b x.0.0 p.1).takes x.0.1 y (ready_behind p.0 ready) x.2 in
-    let whole : i.bytes ≡ s x.0.0 ++ t x.0.0 y = p.0.parts ∙ ap (λ u. s x.0.0 ++ u) q.0 in
-    let size : length i.bytes ≡ length (s x.0.0) + length x.0.1.bytes = ap length p.0.parts ∙ length-append (s x.0.0) x.0.1.bytes in
-    let within : i.at + length i.bytes ≤ i.limit = omega (arith, p.0.at, p.0.limit, q.1) in
-    subst (λ z. (i.bytes ≡ s z ++ t z y) × (i.at + length i.bytes ≤ i.limit) × (P z × Q z y)) (sym (is x.0.0 y p.1 q.2)) (whole, within, (p.1, q.2));
+      let x = bind_ok (f i) (λ x. g x.0 x.1) y e in
+      let p = a.takes i x.0 ready x.1 in
+      let q = (b x.0.0 p.1).takes x.0.1 y (ready_behind p.0 ready) x.2 in
+      let whole : i.bytes ≡ s x.0.0 ++ t x.0.0 y = p.0.parts ∙ ap (λ u. s x.0.0 ++ u) q.0 in
+      let size : length i.bytes ≡ length (s x.0.0) + length x.0.1.bytes = ap length p.0.parts ∙ length-append (s x.0.0) x.0.1.bytes in
+      let within : i.at + length i.bytes ≤ i.limit = omega (arith, p.0.at, p.0.limit, q.1) in
+      subst (λ z. (i.bytes ≡ s z ++ t z y) × (i.at + length i.bytes ≤ i.limit) × (P z × Q z y)) (sym (is x.0.0 y p.1 q.2)) (whole, within, (p.1, q.2));
 }
 
 module _ {X F : Type 0} {f : Input → Result X F} {s : X → List ℕ} {P : X → Type 0} (a : IsWhole f s P) where
@@ -303,10 +305,10 @@ module _ {X F : Type 0} {f : Input → Result X F} {s : X → List ℕ} {P : X �
   last_whole {Y = Y} made back again = record {
     reads = λ y good limit at within. ap (λ r. r >>= λ x. Ok (made x)) (a.reads (back y) good.0 limit at within) ∙ ap (λ z. Ok z) good.1;
     takes = λ i y ready e.
-      let x = bind_ok (f i) (λ x. Ok (made x)) y e in
-      let p = a.takes i x.0 ready x.1 in
-      let Is : X → Y → Type 0 = λ z y. (i.bytes ≡ s z) × (i.at + length i.bytes ≤ i.limit) × (P z × (made z ≡ y)) in
-      subst (λ z. Is (back z) z) (ok_is (made x.0) y x.2) (subst (λ z. Is z (made x.0)) (sym (again x.0 p.2)) (p.0, p.1, (p.2, refl)));
+        let x = bind_ok (f i) (λ x. Ok (made x)) y e in
+        let p = a.takes i x.0 ready x.1 in
+        let Is : X → Y → Type 0 = λ z y. (i.bytes ≡ s z) × (i.at + length i.bytes ≤ i.limit) × (P z × (made z ≡ y)) in
+        subst (λ z. Is (back z) z) (ok_is (made x.0) y x.2) (subst (λ z. Is z (made x.0)) (sym (again x.0 p.2)) (p.0, p.1, (p.2, refl)));
   }
 
   pub whole_as : {t : X → List ℕ} {Q : X → Type 0} → ((x : X) → P x → s x ≡ t x) → ((x : X) → P x → Q x) → ((x : X) → Q x → P x) → IsWhole f t Q

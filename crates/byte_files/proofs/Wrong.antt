@@ -1,6 +1,5 @@
 -- What is wrong where a reading fails: the field that it tells of stands behind good ones, and a reading tells of each field that is wrong behind good ones.
 use Rattle.std.proofs.Common.{◌≡◌, ℕ, zero, suc, ◌+◌, ◌<◌, ◌≤◌, Bool, true, false, cond, eqb, ltb, List, [], ◌∷◌, ◌++◌, length, take, Option, Some, None, Result, Ok, Err, refl, sym, ap, subst, ◌∙◌, append_assoc, append-nil, inl, inr, arith}
-use Rattle.std.specs.Option.{option_map_or}
 use Rattle.std.specs.List.{flat_map}
 use Rattle.std.specs.Int.{Width, byte_len, from_be_bytes}
 use Rattle.std.proofs.lemmas.Bool.{le-ltb}
@@ -54,8 +53,10 @@ module _ {F : Type 0} (names : Names F) where
   pub field_told : {X : Type 0} (row : Row F) (judge : Input → List ℕ × Input → Result X F)
       → ((i j : Input) → failure (judge i (take row.width i.bytes, j)) ≡ row.fault i.at i.bytes) → IsTold (λ i. field_at names row.width i >>= judge i) row
   unfolding field_at
-  field_told row judge e = record { tells = λ i within.
-    shut (ltb i.limit (i.at + row.width)) (ltb (length i.bytes) row.width) _ _ _ (judge i) (row.fault i.at i.bytes) (e i _) }
+  field_told row judge e = record {
+    tells = λ i within.
+        shut (ltb i.limit (i.at + row.width)) (ltb (length i.bytes) row.width) _ _ _ (judge i) (row.fault i.at i.bytes) (e i _);
+  }
 
   pub bytes_told : (n : ℕ) → IsTold (field_at names n) (any n)
   bytes_told n = told_as (λ i. bind_same (field_at names n i)) (field_told (any n) (λ i b. Ok b) (λ i j. refl))
@@ -87,10 +88,12 @@ module _ {F : Type 0} (names : Names F) where
       (number_told w wrong (λ i n. judged (test n.0) (fault i.at) n >>= judge i) e)
 
   pub end_told : {X : Type 0} (fault : ℕ → F) (x : X) → IsTold (ended fault x) (record { width = 0; fault = λ at left. unless (eqb (length left) 0) (fault at) })
-  end_told fault x = record { tells = λ i within.
-    let over : ltb i.limit (i.at + 0) ≡ false = le-ltb _ _ (omega arith) in
-    let short : ltb (length i.bytes) 0 ≡ false = le-ltb _ _ (omega arith) in
-    rw (over, short) (judged_told (eqb (length i.bytes) 0) (fault i.at) x) }
+  end_told fault x = record {
+    tells = λ i within.
+        let over : ltb i.limit (i.at + 0) ≡ false = le-ltb _ _ (omega arith) in
+        let short : ltb (length i.bytes) 0 ≡ false = le-ltb _ _ (omega arith) in
+        rw (over, short) (judged_told (eqb (length i.bytes) 0) (fault i.at) x);
+  }
 
 -- ---- a reading that fails tells rightly
 
@@ -108,19 +111,23 @@ module _ {F : Type 0} {R : F → Type 0} {o : Input} where
 
   pub refuses_last : {X Y : Type 0} {before : List ℕ} {f : Input → Result X F} (made : X → Y)
       → Refuses R o before f → Refuses R o before (λ i. f i >>= λ x. Ok (made x))
-  refuses_last {f = f} made h = record { rightly = λ i d t ready e. elim (bind_err (f i) (λ x. Ok (made x)) d e) [
+  refuses_last {f = f} made h = record {
+    rightly = λ i d t ready e. elim (bind_err (f i) (λ x. Ok (made x)) d e) [
       | inl x ↦ h.rightly i d t ready x
       | inr x ↦ absurd (ok_err _ _ d refl x.2)
-    ] }
+    ];
+  }
 
   pub refuses_then : {X Y : Type 0} {before : List ℕ} {f : Reading X F} {s : X → List ℕ} {P : X → Type 0} {g : X → Input → Result Y F}
       → Agrees f s P → Refuses R o before f → ((x : X) → P x → Refuses R o (before ++ s x) (g x)) → Refuses R o before (λ i. f i >>= λ x. g x.0 x.1)
-  refuses_then {before = before} {f = f} {s = s} {g = g} a h k = record { rightly = λ i d t ready e. elim (bind_err (f i) (λ x. g x.0 x.1) d e) [
+  refuses_then {before = before} {f = f} {s = s} {g = g} a h k = record {
+    rightly = λ i d t ready e. elim (bind_err (f i) (λ x. g x.0 x.1) d e) [
       | inl x ↦ h.rightly i d t ready x
       | inr x ↦
           let p = a.takes i x.0 ready x.1 in
           (k x.0.0 p.1).rightly x.0.1 d (takes_then o i x.0.1 before (s x.0.0) t p.0) (ready_behind p.0 ready) x.2
-    ] }
+    ];
+  }
 
   pub refuses_read : {X : Type 0} {before : List ℕ} {f g : Input → Result X F} → ((i : Input) → f i ≡ g i) → Refuses R o before f → Refuses R o before g
   refuses_read same h = record { rightly = λ i d t ready e. h.rightly i d t ready (same i ∙ e) }
@@ -167,7 +174,7 @@ module _ {F : Type 0} {R : F → Type 0} {o : Input} where
 -- The whole fails behind a text as a reading does that comes there.
 pub record Reaches {X Y F : Type 0} (whole : Input → Result Y F) (before : List ℕ) (read : Input → Result X F) : Type 0 where
   pub stops : (limit : ℕ) (rest : List ℕ) (d : F) → length before ≤ limit → read (front limit (length before) rest) ≡ Err d
-    → whole (front limit 0 (before ++ rest)) ≡ Err d
+      → whole (front limit 0 (before ++ rest)) ≡ Err d
 
 module _ {W F : Type 0} {w : Input → Result W F} where
   pub reach_start : Reaches w [] w
@@ -184,11 +191,13 @@ module _ {W F : Type 0} {w : Input → Result W F} where
 
   pub reach_next : {X Y : Type 0} {before : List ℕ} {f : Reading X F} {s : X → List ℕ} {P : X → Type 0}
       → Agrees f s P → (x : X) → P x → (g : X × Input → Result Y F) → Reaches w before (λ i. f i >>= g) → Reaches w (before ++ s x) (λ i. g (x, i))
-  reach_next {before = before} {s = s} a x good g h = record { stops = λ limit rest d within e.
-    let size : length before + length (s x) ≡ length (before ++ s x) = sym (length-append before (s x)) in
-    let last = subst (λ n. g (x, front limit n rest) ≡ Err d) (sym size) e in
-    let all = ap (λ r. r >>= g) (a.reads x good limit (length before) rest (omega arith)) ∙ last in
-    ap (λ b. w (front limit 0 b)) (append_assoc before (s x) rest) ∙ h.stops limit (s x ++ rest) d (omega arith) all }
+  reach_next {before = before} {s = s} a x good g h = record {
+    stops = λ limit rest d within e.
+        let size : length before + length (s x) ≡ length (before ++ s x) = sym (length-append before (s x)) in
+        let last = subst (λ n. g (x, front limit n rest) ≡ Err d) (sym size) e in
+        let all = ap (λ r. r >>= g) (a.reads x good limit (length before) rest (omega arith)) ∙ last in
+        ap (λ b. w (front limit 0 b)) (append_assoc before (s x) rest) ∙ h.stops limit (s x ++ rest) d (omega arith) all;
+  }
 
   -- the same with the front of the text apart
   pub reach_on : {X Y : Type 0} (b c : List ℕ) {f : Reading X F} {s : X → List ℕ} {P : X → Type 0}

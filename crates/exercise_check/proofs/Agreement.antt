@@ -9,7 +9,7 @@ use Rattle.byte_files.specs.Fields as fields
 use Rattle.byte_files.proofs.Offered.{Agrees, IsMark, IsOfEach, IsWhole, agrees_as, bytes_same, end_whole, field_agrees, judged_mark, last_agrees, mark_whole, number_agrees, tested_agrees, then_agrees, then_whole, times_agrees, whole_as, wide32}
 use Rattle.exercise_check.specs.declared.certificate.Step.{Step}
 use Rattle.exercise_check.specs.declared.certificate_fault.CertificateFormatFault.TheVariants as faults
-use Rattle.exercise_check.specs.Certificate.{step_text, head_text, certificate_text, is_step, names, number_at, magic_at, count_at, step_at, steps_at, ended, whole_at}
+use Rattle.exercise_check.specs.Certificate.{step_text, head_text, certificate_text, is_step, names, number_at, magic_at, count_at, step_at, steps_at, whole_at}
 
 pub four_bytes : Agrees (number_at w32) (to_be_bytes w32) (λ n. n < 2 ^ 32)
 four_bytes = number_agrees names w32 (2 ^ 32) wide32

@@ -1,4 +1,4 @@
-use Rattle.std.proofs.Common.{◌-◌, ◌+◌, refl, arith}
+use Rattle.std.proofs.Common.{refl, arith}
 use Rattle.std.proofs.lemmas.Grind.{common_steps}
 use Rattle.std.proofs.lemmas.Result.{err_from_is_err_and}
 use Rattle.exercise_model.proofs.Offered.{all_pushed}
@@ -24,7 +24,7 @@ loop-preserved g c =
     rw c.in_ok-push.ensures.items (record {
       taken = λ h. c.loop.invariant.taken (c.in_ok-step.ensures.taken h);
       read = times_on (λ s. tt) (λ u. step_at) n i tt told same s _ _ c.read_step.new.source c.loop.steps.items (steps_at n)
-      c.loop-test.true c.in_ok-step.ensures.step c.loop.invariant.read;
+          c.loop-test.true c.in_ok-step.ensures.step c.loop.invariant.read;
       each = all_pushed is_step c.loop.steps.items s c.loop.invariant.each c.in_ok-step.ensures.numbers;
       count = grind (arith, common_steps);
     })

@@ -1,5 +1,5 @@
-use Rattle.std.proofs.Common.{◌≡◌, ◌+◌, ◌*◌, ◌≤◌, length, arith}
-use Rattle.exercise_check.specs.Certificate.{certificate_text, certificate_at}
+use Rattle.std.proofs.Common.{◌+◌, ◌*◌, arith}
+use Rattle.exercise_check.specs.Certificate.{certificate_at}
 use Rattle.byte_files.proofs.Offered.{front}
 use Rattle.exercise_check.proofs.Agreement.{length-certificate, whole_agrees}
 use Rattle.exercise_check.proofs.laws.text_and_reading_agree.Goals as goal

@@ -3,6 +3,7 @@ use Rattle.std.proofs.Common.{◌≡◌, ℕ, zero, suc, ◌+◌, ◌*◌, ◌^�
 use Rattle.std.specs.Prelude.{nat_le, codes, bytes_eq}
 use Rattle.std.specs.List.{flat_map}
 use Rattle.std.specs.Int.{w32, to_be_bytes, from_be_bytes}
+use Rattle.std.proofs.Math.Nat.{pos_of_ne-zero}
 use Rattle.std.proofs.lemmas.Bool.{ltb-true, ltb-false, leb-true, leb-false, eqb-false, le-ltb}
 use Rattle.std.proofs.lemmas.List.{take_at, length-append}
 use Rattle.byte_files.specs.Fields.{Input, IsBytes, judged}
@@ -25,11 +26,6 @@ short_or_judged : {X : Type 0} (over short : Bool) (s t : CertificateFormatFault
 short_or_judged true short s t fault d fits e f g = absurd cc
 short_or_judged false true s t fault d fits e f g = f refl cc
 short_or_judged false false s t fault d fits e f g = g refl e
-
--- a text that is longer than its front has something behind it
-longer : (rest text whole : ℕ) → (rest ≡ 0 → ⊥) → whole ≡ text + rest → text < whole
-longer zero text whole some size = absurd (some refl)
-longer (suc rest) text whole some size = omega arith
 
 magic_row : Row CertificateFormatFault
 magic_row = record { width = 8; fault = λ at left. unless (bytes_eq (take 8 left) (codes "DSCT0001")) (faults.Magic at) }
@@ -107,7 +103,7 @@ module _ (limit : ℕ) (bytes : List ℕ) where
         let g = judged_err (eqb (length j.bytes) 0) (faults.Trailing j.at) steps d e in
         let size : length bytes ≡ length text + length j.bytes = ap length t.parts ∙ length-append text j.bytes in
         let place : length text ≡ j.at = omega (arith, t.at) in
-        let more : j.at < length bytes = omega (arith, longer (length j.bytes) (length text) (length bytes) (eqb-false (length j.bytes) 0 g.0) size, place) in
+        let more : j.at < length bytes = omega (arith, pos_of_ne-zero (eqb-false (length j.bytes) 0 g.0), size, place) in
         subst (IsRefused limit bytes) g.1 (more, (steps, ap (take j.at) t.parts ∙ take_at text j.bytes j.at place, few));
   }
 

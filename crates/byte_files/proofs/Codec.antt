@@ -1,15 +1,16 @@
--- Reading a thing and its text, in one place with the laws that tie them.
-use Rattle.std.proofs.Common.{◌≡◌, ℕ, zero, suc, ◌+◌, ◌<◌, ◌≤◌, Bool, true, eqb, List, [], ◌∷◌, ◌++◌, length, Option, Some, None, Result, Ok, Err, refl, sym, ap, subst, ◌∙◌, append_assoc, append-nil, arith}
+-- Reading a thing and its text, in one place with the laws that tie them. A format says of each of its parts that reading and text agree, part by part
+-- as it is read: a field, a field that passes a test, one after the other, so many, up to a mark. A further field is a line there.
+use Rattle.std.proofs.Common.{◌≡◌, ℕ, zero, suc, ◌+◌, ◌^◌, ◌<◌, ◌≤◌, Bool, true, eqb, List, [], ◌∷◌, ◌++◌, length, Option, Some, None, Result, Ok, Err, refl, sym, ap, subst, ◌∙◌, append_assoc, append-nil, arith}
 use Rattle.std.specs.Prelude.{IfSome, IfOk, OnOk}
 use Rattle.std.specs.Option.{option_map_or}
 use Rattle.std.specs.List.{flat_map}
-use Rattle.std.specs.Int.{Width, w8, to_be_bytes}
+use Rattle.std.specs.Int.{Width, w8, w16, w32, w64, to_be_bytes}
 use Rattle.std.proofs.lemmas.Bool.{eqb-true}
 use Rattle.std.proofs.lemmas.List.{nil_from_length, length-append}
 use Rattle.byte_files.specs.Fields as fields
 use Rattle.byte_files.specs.Fields.{Input, known, AreBytes, IsBytes, Names, ◌>>=◌, judged, field_at, number_at, number_where, ended}
 use Rattle.byte_files.specs.Repeats.{times_at, until_at}
-use Rattle.byte_files.proofs.Fields.{bind_ok, judged_ok, ok_is, front, Takes, takes_nothing, takes_then, Reading, Reads, reads_nothing, reads_then, reads_last, IsWide, field_takes, field_reads, number_takes, number_reads, byte_takes, byte_reads}
+use Rattle.byte_files.proofs.Fields.{bind_ok, judged_ok, ok_is, front, Takes, takes_nothing, takes_then, Reading, Reads, reads_nothing, reads_then, reads_last, IsWide, wide16, wide32, wide64, field_takes, field_reads, number_takes, number_reads, byte_takes, byte_reads}
 
 -- Bytes are left, within the limit.
 abbrev pub IsReady : Input → Type 0
@@ -112,6 +113,22 @@ pub where_agrees : {F : Type 0} (names : Names F) (w : Width) (test : ℕ → Bo
     → Agrees (number_at names w) s P → ((n : ℕ) → test n ≡ true → P n) → Agrees (number_where names w test fault) s (λ n. test n ≡ true)
 unfolding number_where
 where_agrees names w test fault a fits = agrees_as (tested_agrees a test fault) (λ n h. refl) (λ n h. h.1) (λ n h. (fits n h, h))
+
+module _ {F : Type 0} (names : Names F) where
+  pub two_bytes : Agrees (number_at names w16) (to_be_bytes w16) (λ n. n < 2 ^ 16)
+  two_bytes = number_agrees names w16 (2 ^ 16) wide16
+
+  pub four_bytes : Agrees (number_at names w32) (to_be_bytes w32) (λ n. n < 2 ^ 32)
+  four_bytes = number_agrees names w32 (2 ^ 32) wide32
+
+  pub eight_bytes : Agrees (number_at names w64) (to_be_bytes w64) (λ n. n < 2 ^ 64)
+  eight_bytes = number_agrees names w64 (2 ^ 64) wide64
+
+  pub where8 : (test : ℕ → Bool) (fault : ℕ → F) → ((n : ℕ) → test n ≡ true → n < 256) → Agrees (number_where names w8 test fault) (λ n. n ∷ []) (λ n. test n ≡ true)
+  where8 test fault fits = where_agrees names w8 test fault (byte_agrees names) fits
+
+  pub where16 : (test : ℕ → Bool) (fault : ℕ → F) → ((n : ℕ) → test n ≡ true → n < 2 ^ 16) → Agrees (number_where names w16 test fault) (to_be_bytes w16) (λ n. test n ≡ true)
+  where16 test fault fits = where_agrees names w16 test fault two_bytes fits
 
 -- ---- marks
 

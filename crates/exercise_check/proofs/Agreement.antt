@@ -6,13 +6,10 @@ use Rattle.std.specs.Int.{w32, to_be_bytes}
 use Rattle.std.proofs.lemmas.Bool.{and_parts, and_from, lt-ltb, ltb-true, leb-true, le-leb}
 use Rattle.std.proofs.lemmas.List.{length-append}
 use Rattle.byte_files.specs.Fields as fields
-use Rattle.byte_files.proofs.Offered.{Agrees, IsMark, IsOfEach, IsWhole, agrees_as, bytes_same, end_whole, field_agrees, judged_mark, last_agrees, mark_whole, number_agrees, tested_agrees, then_agrees, then_whole, times_agrees, whole_as, wide32}
+use Rattle.byte_files.proofs.Offered.{Agrees, IsMark, IsOfEach, IsWhole, agrees_as, bytes_same, end_whole, field_agrees, judged_mark, last_agrees, mark_whole, four_bytes, tested_agrees, then_agrees, then_whole, times_agrees, whole_as}
 use Rattle.exercise_check.specs.declared.certificate.Step.{Step}
 use Rattle.exercise_check.specs.declared.certificate_fault.CertificateFormatFault.TheVariants as faults
-use Rattle.exercise_check.specs.Certificate.{step_text, head_text, certificate_text, is_step, names, number_at, magic_at, count_at, step_at, steps_at, whole_at}
-
-pub four_bytes : Agrees (number_at w32) (to_be_bytes w32) (λ n. n < 2 ^ 32)
-four_bytes = number_agrees names w32 (2 ^ 32) wide32
+use Rattle.exercise_check.specs.Certificate.{step_text, head_text, certificate_text, is_step, names, magic_at, count_at, step_at, steps_at, whole_at}
 
 pub magic_mark : IsMark magic_at (codes "DSCT0001")
 unfolding magic_at
@@ -22,13 +19,13 @@ magic_mark =
 
 pub count_agrees : (limit : ℕ) → Agrees (count_at limit) (to_be_bytes w32) (λ n. (n < 2 ^ 32) × (nat_le n limit ≡ true))
 unfolding count_at fields.number_where
-count_agrees limit = tested_agrees four_bytes (λ n. nat_le n limit) faults.OverLimit
+count_agrees limit = tested_agrees (four_bytes names) (λ n. nat_le n limit) faults.OverLimit
 
 pub step_agrees : Agrees step_at step_text (λ s. is_step s ≡ true)
 unfolding step_at
 step_agrees =
-    agrees_as (then_agrees four_bytes (λ s. s.place)
-    (λ p h. last_agrees four_bytes (λ l. record { place = p; link = l }) (λ s. s.link) (λ l g. refl)) (λ p s h q. sym (ap (λ s. s.place) q.1)))
+    agrees_as (then_agrees (four_bytes names) (λ s. s.place)
+    (λ p h. last_agrees (four_bytes names) (λ l. record { place = p; link = l }) (λ s. s.link) (λ l g. refl)) (λ p s h q. sym (ap (λ s. s.place) q.1)))
     (λ s h. refl) (λ s h. and_from _ _ (lt-ltb _ _ h.0) (lt-ltb _ _ h.1.0))
     (λ s h. let p = and_parts (nat_lt s.place 4294967296) (nat_lt s.link 4294967296) h in (ltb-true _ _ p.0, (ltb-true _ _ p.1, refl)))
 

@@ -1,5 +1,5 @@
 -- Bytes that are refused are no certificate within the limit.
-use Rattle.std.proofs.Common.{◌≡◌, ℕ, zero, suc, ◌+◌, ◌*◌, ◌^◌, ◌<◌, ◌≤◌, Bool, true, false, cond, eqb, ltb, List, [], ◌++◌, length, take, Option, Some, Result, Err, refl, sym, ap, subst, ◌∙◌, append_assoc, arith}
+use Rattle.std.proofs.Common.{◌≡◌, ℕ, ◌+◌, ◌*◌, ◌^◌, ◌<◌, ◌≤◌, Bool, true, false, cond, eqb, ltb, List, [], ◌++◌, length, take, Option, Some, Result, Err, refl, sym, ap, subst, ◌∙◌, append_assoc, arith}
 use Rattle.std.specs.Prelude.{nat_le, codes, bytes_eq}
 use Rattle.std.specs.List.{flat_map}
 use Rattle.std.specs.Int.{w32, to_be_bytes, from_be_bytes}
@@ -8,12 +8,12 @@ use Rattle.std.proofs.lemmas.Bool.{ltb-true, ltb-false, leb-true, leb-false, eqb
 use Rattle.std.proofs.lemmas.List.{take_at, length-append}
 use Rattle.byte_files.specs.Fields.{Input, IsBytes, judged}
 use Rattle.byte_files.specs.Rows.{Row, unless, any, number_in}
-use Rattle.byte_files.proofs.Offered.{IsTold, Refuses, Takes, any_told, failure, field_told, front, judged_err, judged_told, refuses_last, refuses_mark, refuses_then, refuses_times, takes_nothing, where_told, wide32}
+use Rattle.byte_files.proofs.Offered.{four_bytes, IsTold, Refuses, Takes, any_told, failure, field_told, front, judged_err, judged_told, refuses_last, refuses_mark, refuses_then, refuses_times, takes_nothing, where_told, wide32}
 use Rattle.exercise_check.specs.declared.certificate.Step.{Step}
 use Rattle.exercise_check.specs.declared.certificate_fault.CertificateFormatFault.{CertificateFormatFault}
 use Rattle.exercise_check.specs.declared.certificate_fault.CertificateFormatFault.TheVariants as faults
 use Rattle.exercise_check.specs.Certificate.{step_text, head_text, certificate_text, names, magic_at, count_at, step_at, ended, whole_at, certificate_at, count_of, IsRefused}
-use Rattle.exercise_check.proofs.Agreement.{four_bytes, magic_mark, count_agrees, step_agrees, step_each, steps_agrees, length-steps}
+use Rattle.exercise_check.proofs.Agreement.{magic_mark, count_agrees, step_agrees, step_each, steps_agrees, length-steps}
 
 unless_is : {F : Type 0} (b : Bool) (c d : F) → unless b c ≡ Some d → (b ≡ false) × (c ≡ d)
 unless_is true c d e = absurd cc
@@ -89,7 +89,7 @@ module _ (limit : ℕ) (bytes : List ℕ) where
   step_right n ss few within more =
       let before = flat_map step_text ss in
       let size : length (head_text n ++ before) ≡ 12 + 8 * length ss = length-append (head_text n) before ∙ ap (λ k. 12 + k) (length-steps ss) in
-      refuses_then four_bytes (any_right (any_told names w32) (omega arith) (λ i t. omega (arith, count_is n before i few t)))
+      refuses_then (four_bytes names) (any_right (any_told names w32) (omega arith) (λ i t. omega (arith, count_is n before i few t)))
       (λ p h.
       let both : length ((head_text n ++ before) ++ to_be_bytes w32 p) ≡ (12 + 8 * length ss) + 4 =
       length-append (head_text n ++ before) (to_be_bytes w32 p) ∙ ap (λ k. k + 4) size in

@@ -1,3 +1,5 @@
+mod Codec
+mod Wrong
 mod Fields
 mod Repeats
 mod Writes

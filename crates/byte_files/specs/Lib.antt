@@ -1,2 +1,4 @@
 pub mod Fields
+pub mod Repeats
+pub mod Rows
 pub mod Writing

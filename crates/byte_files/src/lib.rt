@@ -6,6 +6,9 @@
 //! crates of the formats rest on [`Source`], whose meaning is the input that is still to be read
 //! (`specs/Fields.antt`), on [`fill`], and on [`put`] (`specs/Writing.antt`). Only [`Source::buffered`] takes
 //! memory.
+//!
+//! The laws that tie reading and text are said once, for fields and what is made of them
+//! (`proofs/Codec.antt`), and so is which field is wrong where a reading fails (`proofs/Wrong.antt`).
 #![tactic(auto)]
 
 mod filling;

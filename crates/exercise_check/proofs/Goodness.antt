@@ -3,6 +3,7 @@ use Rattle.std.proofs.Common.{◌≡◌, ℕ, zero, suc, ◌+◌, ◌<◌, ◌�
 use Rattle.std.specs.Prelude.{slice_get, slice_index_or, option_and_then, nat_eq, ◌==◌, if◌then◌else◌}
 use Rattle.std.specs.Option.{option_map_or, option_or}
 use Rattle.std.proofs.Math.Numerals.{add-one}
+use Rattle.std.proofs.Math.Seq.{take-length}
 use Rattle.std.proofs.lemmas.List.{take_more, length_push, take-append-le, get_or_append_left, take_at, get_or_at}
 use Rattle.std.proofs.lemmas.List.Elements.{All-from_get_or}
 use Rattle.std.proofs.lemmas.Bool.{eqb-true, eq-eqb, cases_lt}
@@ -115,10 +116,6 @@ good_push r steps step good last k l =
     ∙ ap (step_cause r steps) (get_or_at steps step [] no_step k here) ∙ last)
     (cases_lt k (length steps))
 
-take_itself : (xs : List Step) → take (length xs) xs ≡ xs
-take_itself [] = refl
-take_itself (x ∷ xs) = ap (λ ys. x ∷ ys) (take_itself xs)
-
 -- what good steps record at each station is a beginning of its log
 pub good_logs : (r : PlainRecording) (steps : List Step) → GoodBelow r steps (length steps) → (s : ℕ) → IsBeginning (log_at s (order_of r steps)) (log_of r s)
-good_logs r steps good s = subst (λ xs. IsBeginning (log_at s (order_of r xs)) (log_of r s)) (take_itself steps) (steps_cover r steps (length steps) (omega arith) good s)
+good_logs r steps good s = subst (λ xs. IsBeginning (log_at s (order_of r xs)) (log_of r s)) (take-length steps) (steps_cover r steps (length steps) (omega arith) good s)

@@ -5,6 +5,6 @@ mod Courses
 mod Links
 mod Explained
 mod Causes
-mod Texts
+mod Agreement
 mod Refusals
 pub mod Offered

@@ -1,5 +1,5 @@
 -- The order that steps name, one step after another.
-use Rattle.std.proofs.Common.{◌≡◌, ℕ, ◌+◌, ◌<◌, ◌≤◌, List, [], ◌∷◌, ◌++◌, length, take, drop, cond, Option, Some, None, Bool, true, false, refl, sym, ap, ◌∙◌, append_assoc, append-nil}
+use Rattle.std.proofs.Common.{◌≡◌, ℕ, ◌+◌, ◌<◌, ◌≤◌, List, [], ◌∷◌, ◌++◌, length, take, drop, cond, Option, Some, None, true, false, refl, sym, ap, ◌∙◌, append_assoc, append-nil}
 use Rattle.std.specs.Prelude.{slice_get, slice_index_or, option_and_then, is_some, nat_eq, ◌==◌, ◌||◌, if◌then◌else◌}
 use Rattle.std.specs.Option.{option_map_or, option_to_list}
 use Rattle.std.specs.List.{list_any}
@@ -7,6 +7,7 @@ use Rattle.std.proofs.Math.Numerals.{add-one}
 use Rattle.std.proofs.Math.Nat.{add-zero}
 use Rattle.std.proofs.lemmas.List.{take_more, drop_more, drop_all}
 use Rattle.std.proofs.lemmas.List.Folds.{list_any-append}
+use Rattle.std.proofs.Math.Bool.{or-false, or-true}
 use Rattle.exercise_model.specs.Entry.{Entry}
 use Rattle.exercise_model.specs.Recording.{PlainRecording}
 use Rattle.exercise_model.specs.History.{Event, History, event_of, station_of, past, log_at}
@@ -16,14 +17,6 @@ use Rattle.exercise_model.proofs.Offered.{past-snoc, past-append, log_before-mor
 use Rattle.exercise_check.specs.declared.certificate.Step.{Step}
 use Rattle.exercise_check.specs.Order.{chosen, order_of, first_sender}
 use Rattle.exercise_check.specs.Goodness.{no_step}
-
-or_false : (b : Bool) → (b || false) ≡ b
-or_false true = refl
-or_false false = refl
-
-or_true : (b : Bool) → (b || true) ≡ true
-or_true true = refl
-or_true false = refl
 
 pub chosen-append : (es : List Entry) (xs ys : List Step) → chosen es (xs ++ ys) ≡ chosen es xs ++ chosen es ys
 unfolding chosen
@@ -104,8 +97,8 @@ is_some-first : (es : List Entry) (b : List ℕ) (step : Step) (o : Option ℕ) 
 unfolding past
 is_some-first es b step o =
     elim (slice_get es step.place) as (λ m. is_some (if option_map_or (λ e. sends b (event_of e)) m false then Some step.place else o) ≡ (is_some o || list_any (sends b) (past (option_to_list m)))) [
-      | None ↦ sym (or_false (is_some o))
-      | Some e ↦ elim (sends b (event_of e)) as (λ t. is_some (if t then Some step.place else o) ≡ (is_some o || (t || false))) [ true ↦ sym (or_true (is_some o)) | false ↦ sym (or_false (is_some o)) ]
+      | None ↦ sym (or-false (is_some o))
+      | Some e ↦ elim (sends b (event_of e)) as (λ t. is_some (if t then Some step.place else o) ≡ (is_some o || (t || false))) [ true ↦ sym (or-true (is_some o)) | false ↦ sym (or-false (is_some o)) ]
     ]
 
 sender_along : (es : List Entry) (b : List ℕ) (steps : List Step) → is_some (first_sender es b steps) ≡ list_any (sends b) (past (chosen es steps))

@@ -1,11 +1,12 @@
 -- Certificates: the text of their file, numbers big-endian, and how it is read field by field (profile).
-use Rattle.std.specs.Prelude.{◌≡◌, ◌≤◌, ◌<◌, ℕ, zero, suc, ◌+◌, ◌*◌, List, [], ◌∷◌, ◌++◌, length, take, drop, Bool, false, ◌&&◌, nat_lt, nat_le, Option, Some, None, Result, Ok, bytes_eq, codes}
+use Rattle.std.specs.Prelude.{◌≡◌, ◌≤◌, ◌<◌, ℕ, ◌+◌, ◌*◌, List, ◌++◌, length, take, drop, Bool, false, ◌&&◌, nat_lt, nat_le, Option, Some, None, Result, Ok, bytes_eq, codes}
 use Rattle.std.specs.List.{flat_map}
 use Rattle.std.specs.Int.{Width, w32, to_be_bytes, from_be_bytes}
 use Rattle.byte_files.specs.declared.source.FieldFault.{FieldFault}
 use Rattle.byte_files.specs.declared.source.FieldFault.TheVariants as fields_faults
 use Rattle.byte_files.specs.Fields.{Input, Names, ◌>>=◌, judged}
 use Rattle.byte_files.specs.Fields as fields
+use Rattle.byte_files.specs.Repeats.{many_at}
 use Rattle.exercise_check.specs.declared.certificate.Step.{Step}
 use Rattle.exercise_check.specs.declared.certificate.Certificate.{Certificate}
 use Rattle.exercise_check.specs.declared.certificate_fault.CertificateFormatFault.{CertificateFormatFault}
@@ -62,12 +63,8 @@ step_at i = do
   Ok (record { place = place.0; link = link.0 }, link.1)
 
 -- so many steps
-unfoldable pub steps_at : ℕ → Input → Result (List Step × Input) CertificateFormatFault
-steps_at zero i = Ok ([], i)
-steps_at (suc left) i = do
-  s ← step_at i
-  ss ← steps_at left s.1
-  Ok (s.0 ∷ ss.0, ss.1)
+abbrev pub steps_at : (left : ℕ) → Input → Result (List Step × Input) CertificateFormatFault
+steps_at left i = many_at step_at left i
 
 -- the end of the bytes
 abbrev pub ended : {A : Type 0} → A → Input → Result A CertificateFormatFault

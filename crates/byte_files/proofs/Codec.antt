@@ -70,7 +70,8 @@ module _ {X F : Type 0} {f : Reading X F} {s : X → List ℕ} {P : X → Type 0
   pub last_agrees : {Y : Type 0} (made : X → Y) (back : Y → X) → ((x : X) → P x → back (made x) ≡ x)
       → Agrees (λ i. f i >>= λ x. Ok (made x.0, x.1)) (λ y. s (back y)) (λ y. P (back y) × (made (back y) ≡ y))
   last_agrees {Y = Y} made back again = record {
-    reads = λ y good. subst (Reads (λ i. f i >>= λ x. Ok (made x.0, x.1)) (s (back y))) good.1 (reads_last f made (s (back y)) (back y) (a.reads (back y) good.0));
+    reads = λ y good. subst (Reads (λ i. f i >>= λ x. Ok (made x.0, x.1)) (s (back y))) good.1
+        (reads_last f made (s (back y)) (back y) (a.reads (back y) good.0));
     takes = λ i y ready e.
         let x = bind_ok (f i) (λ x. Ok (made x.0, x.1)) y e in
         let p = a.takes i x.0 ready x.1 in
@@ -149,7 +150,8 @@ pub record IsMark {F : Type 0} (mark : Input → Result Input F) (text : List �
   pub agrees : Agrees (marked mark) (λ u. text) (λ u. Unit {0})
 
 -- a value of which one alone passes a test
-pub judged_mark : {X F : Type 0} {f : Reading X F} {s : X → List ℕ} {P : X → Type 0} (test : X → Bool) (fault : ℕ → F) (x : X) → Agrees f s P → P x → test x ≡ true
+pub judged_mark : {X F : Type 0} {f : Reading X F} {s : X → List ℕ} {P : X → Type 0} (test : X → Bool) (fault : ℕ → F) (x : X) → Agrees f s P → P x
+    → test x ≡ true
     → ((y : X) → P y → test y ≡ true → y ≡ x) → IsMark (λ i. f i >>= λ y. judged (test y.0) (fault i.at) y.1) (s x)
 judged_mark {X = X} {f = f} {s = s} test fault x a good passes only = record {
   agrees = record {

@@ -102,7 +102,8 @@ pub record Refuses {X F : Type 0} (Right : F → Type 0) (first : Input) (before
   pub rightly : (i : Input) (d : F) → Takes first before i → IsReady i → read i ≡ Err d → Right d
 
 -- what stands behind one more
-split : {X : Type 0} (text : X → List ℕ) (before : List ℕ) (x : X) (xs : List X) → before ++ flat_map text (x ∷ xs) ≡ (before ++ text x) ++ flat_map text xs
+split : {X : Type 0} (text : X → List ℕ) (before : List ℕ) (x : X) (xs : List X)
+    → before ++ flat_map text (x ∷ xs) ≡ (before ++ text x) ++ flat_map text xs
 split text before x xs = sym (append_assoc before (text x) (flat_map text xs))
 
 module _ {F : Type 0} {R : F → Type 0} {o : Input} where

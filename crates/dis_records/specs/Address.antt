@@ -1,5 +1,6 @@
 -- Site and application of a simulation address (IEEE 1278.1-2012, 6.2.79).
-use Rattle.std.specs.Prelude.{ℕ, ◌≡◌, ◌≤◌, ◌<◌, ◌⊎◌}
+use Rattle.std.specs.Prelude.{ℕ, ◌≡◌, ◌<◌, ◌⊎◌, Bool, ◌&&◌, nat_le}
+use Rattle.dis_records.specs.declared.address.TheConstants.{LARGEST_ADDRESS_PART}
 use Rattle.std.specs.Ordering.{nat_cmp, then_cmp, on}
 use Rattle.std.specs.declared.cmp.Ordering.{Ordering}
 
@@ -8,9 +9,13 @@ pub record Pair : Type 0 where
   pub site : ℕ
   pub application : ℕ
 
--- Both name one station: not none (0) and not all (0xFFFF).
-abbrev pub IsStation : Pair → Type 0
-IsStation p = (1 ≤ p.site) × (p.site ≤ 0xFFFE) × (1 ≤ p.application) × (p.application ≤ 0xFFFE)
+-- a site or an application number that names one: not none (0) and not all (0xFFFF)
+abbrev pub is_address_part : ℕ → Bool
+is_address_part n = nat_le 1 n && nat_le n LARGEST_ADDRESS_PART
+
+-- an address: site and application name one each
+abbrev pub is_address : Pair → Bool
+is_address p = is_address_part p.site && is_address_part p.application
 
 -- THE ORDER of addresses: they are compared first by site, then by application
 abbrev pub compared : Pair → Pair → Ordering

@@ -1,11 +1,14 @@
 //! The address of a station: which simulation application of which site.
 
-ghost use Rattle.std.specs.Prelude.{◌≡◌, ◌↔◌};
+ghost use Rattle.std.specs.Prelude.{◌≡◌, ◌↔◌, true};
 ghost use Rattle.std.specs.declared.cmp.Ordering.TheVariants.{Less, Equal};
 ghost use Rattle.std.specs.Option.{SomeIff};
-ghost use Rattle.dis_records.specs.Address.{Pair, IsStation, compared, IsBefore};
+ghost use Rattle.dis_records.specs.Address.{Pair, is_address_part, is_address, compared, IsBefore};
 
 use std::marker::Model;
+
+/// The largest site or application number that names one (profile); 0xFFFF names all.
+pub const LARGEST_ADDRESS_PART: u16 = 0xFFFE;
 
 /// The address of one simulation application: its site and its application number, each in
 /// 1..=0xFFFE (IEEE 1278.1-2012, 6.2.79; the range is this project's profile: 0 names none and
@@ -17,14 +20,22 @@ pub struct Address {
     application: u16,
 }
 
+/// Whether a site or application number names one: it is in 1..=0xFFFE.
+pub fn is_address_part(number: u16) -> bool
+    ensures { result ≡ is_address_part number }
+{
+    number >= 1 && number <= LARGEST_ADDRESS_PART
+}
+
 impl Model for Address {
-    ghost use Rattle.dis_records.specs.Address.{Pair, IsStation};
+    ghost use Rattle.std.specs.Prelude.{◌≡◌, true};
+    ghost use Rattle.dis_records.specs.Address.{Pair, is_address};
 
     ghost Value = { Pair };
 
     ghost view = { λ a. record { site = a.site; application = a.application } };
 
-    ghost invariant = { λ a. IsStation (record { site = a.site; application = a.application }) };
+    ghost invariant = { λ a. is_address (record { site = a.site; application = a.application }) ≡ true };
 
     ghost inverse = { λ p. record { site = p.site; application = p.application } };
 }
@@ -32,9 +43,9 @@ impl Model for Address {
 impl Address {
     /// The address of these two numbers, or `None` where one of them is 0 or 0xFFFF.
     pub fn new(site: u16, application: u16) -> Option<Address>
-        ensures { let pair : Pair = record { site = site; application = application } in SomeIff result (IsStation pair) pair }
+        ensures { let pair : Pair = record { site = site; application = application } in SomeIff result (is_address pair ≡ true) pair }
     {
-        if site < 1 || site > 0xFFFE || application < 1 || application > 0xFFFE {
+        if !is_address_part(site) || !is_address_part(application) {
             return None;
         }
         Some(Address { site, application })
@@ -43,7 +54,7 @@ impl Address {
     /// The site's number, in 1..=0xFFFE.
     pub fn site(&self) -> u16
         ensures site { result ≡ self.now.site }
-        ensures station { IsStation self.now }
+        ensures address { is_address self.now ≡ true }
     {
         self.site
     }
@@ -51,7 +62,7 @@ impl Address {
     /// The application's number at its site, in 1..=0xFFFE.
     pub fn application(&self) -> u16
         ensures application { result ≡ self.now.application }
-        ensures station { IsStation self.now }
+        ensures address { is_address self.now ≡ true }
     {
         self.application
     }

@@ -20,7 +20,7 @@ mod header;
 mod kind;
 pub mod records;
 
-pub use address::{Address, addresses_are_ordered};
+pub use address::{Address, LARGEST_ADDRESS_PART, addresses_are_ordered, is_address_part};
 pub use clock_time::ClockTime;
 pub use datum::{DatumFault, FixedDatum, VariableDatum, VariableView, padded_size};
 pub use entity::{EntityId, Scope, addressed, addresses};

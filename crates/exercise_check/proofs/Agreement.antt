@@ -30,7 +30,8 @@ step_agrees =
     (λ s h. let p = and_parts (nat_lt s.place 4294967296) (nat_lt s.link 4294967296) h in (ltb-true _ _ p.0, (ltb-true _ _ p.1, refl)))
 
 pub step_each : IsOfEach (λ s. is_step s ≡ true) (λ ss. list_all is_step ss ≡ true)
-step_each = record { none = λ u. refl; more = λ u s ss good all. and_from _ _ good all; parts = λ u s ss all. and_parts (is_step s) (list_all is_step ss) all }
+step_each =
+    record { none = λ u. refl; more = λ u s ss good all. and_from _ _ good all; parts = λ u s ss all. and_parts (is_step s) (list_all is_step ss) all }
 
 pub steps_agrees : (n : ℕ) → Agrees (steps_at n) (flat_map step_text) (λ ss. (length ss ≡ n) × (list_all is_step ss ≡ true))
 steps_agrees n = times_agrees step_each (λ u. step_agrees) n tt
@@ -46,7 +47,8 @@ unfolding whole_at
 whole_agrees limit =
     whole_as (mark_whole magic_mark (then_whole (count_agrees limit) length
     (λ n h. then_whole (steps_agrees n) (λ ss. ss) (λ ss g. end_whole faults.Trailing ss) (λ ss x g q. sym q)) (λ n ss h q. q.0.0)))
-    (λ ss h. ap (λ u. head_text (length ss) ++ u) (append-nil (flat_map step_text ss))) (λ ss h. record { few = h.0.0; within = leb-true _ _ h.0.1; each = h.1.0.1 })
+    (λ ss h. ap (λ u. head_text (length ss) ++ u) (append-nil (flat_map step_text ss)))
+    (λ ss h. record { few = h.0.0; within = leb-true _ _ h.0.1; each = h.1.0.1 })
     (λ ss h. ((h.few, le-leb _ _ h.within), ((refl, h.each), refl)))
 
 -- so many steps have a text of eight times as many bytes

@@ -64,7 +64,8 @@ then_other f h (Some p) = h p
 
 event_other : (w : SettingData) (h : History) (v : Event) → Other (cause_of w h v)
 unfolding cause_of is_count
-event_other w h (Send s b) = then_other (send_cause w.exercise (station_in w s) (log_at s h)) (send_other w.exercise (station_in w s) (log_at s h)) (meaning w.exercise b)
+event_other w h (Send s b) =
+    then_other (send_cause w.exercise (station_in w s) (log_at s h)) (send_other w.exercise (station_in w s) (log_at s h)) (meaning w.exercise b)
 event_other w h (Get s b) = then_other (get_cause w h b) (get_other w h b) (meaning w.exercise b)
 event_other w h (Tell s e y) = first_other (tell_rows y (state_after w.exercise (station_in w s) (log_at s h) e)) refl
 
@@ -81,13 +82,18 @@ unfolding step_cause is_count
 step_other r before step =
     elim (slice_get r.entries step.place) as (λ o. Other (option_map_or (λ e. event_cause r before step (event_of e)) o (Some NoSuchRecord))) [
       | None ↦ refl
-      | Some e ↦ elim (is_next r before step.place (event_of e)) as (λ b. Other (cond b (option_or (cause_of r.setting (order_of r before) (event_of e)) (link_cause step.link (link_of r before step.place (event_of e)))) (Some OutOfOrder))) [
-        | true ↦ or_other _ _ (event_other r.setting (order_of r before) (event_of e)) (link_other step.link (link_of r before step.place (event_of e)))
-        | false ↦ refl
-      ]
+      | Some e ↦ elim (is_next r before step.place (event_of e)) as
+          (λ b. Other
+          (cond b (option_or (cause_of r.setting (order_of r before) (event_of e)) (link_cause step.link (link_of r before step.place (event_of e))))
+          (Some OutOfOrder))) [
+            | true ↦ or_other _ _ (event_other r.setting (order_of r before) (event_of e)) (link_other step.link (link_of r before step.place (event_of e)))
+            | false ↦ refl
+          ]
     ]
 
 -- a step's cause is never that of a wrong count
-pub never_count : (r : PlainRecording) (before : List Step) (step : Step) (cause : Cause) → step_cause r before step ≡ Some cause → cause ≢ CountDiffers
+pub never_count : (r : PlainRecording) (before : List Step) (step : Step) (cause : Cause) → step_cause r before step ≡ Some cause
+    → cause ≢ CountDiffers
 unfolding is_count
-never_count r before step cause here same = absurd (cc (sym (ap (λ o. option_map_or is_count o false) (here ∙ ap Some same)) ∙ step_other r before step))
+never_count r before step cause here same =
+    absurd (cc (sym (ap (λ o. option_map_or is_count o false) (here ∙ ap Some same)) ∙ step_other r before step))

@@ -28,26 +28,31 @@ pub received_sent : (w : SettingData) (h : History) (b : List ℕ) (p : Pdu) →
 unfolding get_cause
 received_sent w h b p known sent = rw (known, sent) refl
 
-pub received_unsent : (w : SettingData) (h : History) (b : List ℕ) (p : Pdu) → is_recorded w p ≡ true → was_sent b h ≡ false → get_cause w h b p ≡ Some NeverSent
+pub received_unsent : (w : SettingData) (h : History) (b : List ℕ) (p : Pdu) → is_recorded w p ≡ true → was_sent b h ≡ false
+    → get_cause w h b p ≡ Some NeverSent
 unfolding get_cause
 received_unsent w h b p known sent = rw (known, sent) refl
 
 -- there is a first sender exactly where the datagram was sent
-pub sender_tells : (r : PlainRecording) (b : List ℕ) (steps : List Step) (found : Option ℕ) → found ≡ first_sender r.entries b steps → was_sent b (order_of r steps) ≡ is_some found
+pub sender_tells : (r : PlainRecording) (b : List ℕ) (steps : List Step) (found : Option ℕ) → found ≡ first_sender r.entries b steps
+    → was_sent b (order_of r steps) ≡ is_some found
 sender_tells r b steps found is = sym (is_some-first_sender r b steps) ∙ ap is_some (sym is)
 
 -- the entry of an own event
-pub own_entry : (r : PlainRecording) (s i : ℕ) → is_some (own_event r s i) ≡ true → (e : Entry) × (slice_get r.entries i ≡ Some e) × (station_of (event_of e) ≡ s) × (own_event r s i ≡ Some (event_of e))
+pub own_entry : (r : PlainRecording) (s i : ℕ) → is_some (own_event r s i) ≡ true
+    → (e : Entry) × (slice_get r.entries i ≡ Some e) × (station_of (event_of e) ≡ s) × (own_event r s i ≡ Some (event_of e))
 unfolding own_event
 own_entry r s i =
     let own : Entry → Option Event = λ e. if station_of (event_of e) == s then Some (event_of e) else None in
-    let Found : Type 0 = (e : Entry) × (slice_get r.entries i ≡ Some e) × (station_of (event_of e) ≡ s) × (option_and_then own (slice_get r.entries i) ≡ Some (event_of e)) in
+    let Found : Type 0 = (e : Entry) × (slice_get r.entries i ≡ Some e) × (station_of (event_of e) ≡ s) ×
+    (option_and_then own (slice_get r.entries i) ≡ Some (event_of e)) in
     elim (slice_get r.entries i) as (λ o. slice_get r.entries i ≡ o → is_some (option_and_then own o) ≡ true → Found) [
       | None ↦ λ _ h. absurd (cc)
-      | Some e ↦ λ at. elim (nat_eq (station_of (event_of e)) s) as (λ b. nat_eq (station_of (event_of e)) s ≡ b → is_some (cond b (Some (event_of e)) None) ≡ true → Found) [
-        | false ↦ λ _ h. absurd (cc)
-        | true ↦ λ same _. (e, at, eqb-true _ _ same, ap (option_and_then own) at ∙ ap (λ b. cond b (Some (event_of e)) None) same)
-      ] refl
+      | Some e ↦ λ at. elim (nat_eq (station_of (event_of e)) s) as
+          (λ b. nat_eq (station_of (event_of e)) s ≡ b → is_some (cond b (Some (event_of e)) None) ≡ true → Found) [
+            | false ↦ λ _ h. absurd (cc)
+            | true ↦ λ same _. (e, at, eqb-true _ _ same, ap (option_and_then own) at ∙ ap (λ b. cond b (Some (event_of e)) None) same)
+          ] refl
     ] refl
 
 pub at_entry : {X : Type 0} (o : Option X) (x : X) (P : X → Type 0) → o ≡ Some x → P x → IfSome o P
@@ -56,30 +61,37 @@ at_entry o x P e p = subst (λ o. IfSome o P) (sym e) p
 pub from_entry : {X : Type 0} (o : Option X) (x : X) (P : X → Type 0) → o ≡ Some x → IfSome o P → P x
 from_entry o x P e p = subst (λ o. IfSome o P) e p
 
-pub own_here : (r : PlainRecording) (s : ℕ) (found : Option ℕ) → IfSome found (λ i. is_some (own_event r s i) ≡ true) → IfSome found (λ i. IfSome (slice_get r.entries i) (λ e. station_of (event_of e) ≡ s))
+pub own_here : (r : PlainRecording) (s : ℕ) (found : Option ℕ) → IfSome found (λ i. is_some (own_event r s i) ≡ true)
+    → IfSome found (λ i. IfSome (slice_get r.entries i) (λ e. station_of (event_of e) ≡ s))
 own_here r s None own = tt
 own_here r s (Some i) own = let o = own_entry r s i own in at_entry _ o.0 (λ e. station_of (event_of e) ≡ s) o.1 o.2
 
-pub next_here : (r : PlainRecording) (steps : List Step) (s : ℕ) (found : Option ℕ) → IfSome found (λ i. is_some (own_event r s i) ≡ true) → IfSome found (λ i. length (log_before r s i) ≡ length (log_at s (order_of r steps)))
+pub next_here : (r : PlainRecording) (steps : List Step) (s : ℕ) (found : Option ℕ) → IfSome found (λ i. is_some (own_event r s i) ≡ true)
+    → IfSome found (λ i. length (log_before r s i) ≡ length (log_at s (order_of r steps)))
     → IfSome found (λ i. IfSome (slice_get r.entries i) (λ e. is_next r steps i (event_of e) ≡ true))
 unfolding is_next
 next_here r steps s None own lengths = tt
 next_here r steps s (Some i) own lengths =
     let o = own_entry r s i own in
-    at_entry _ o.0 (λ e. is_next r steps i (event_of e) ≡ true) o.1 (eq-eqb _ _ (subst (λ t. length (log_at t (order_of r steps)) ≡ length (log_before r t i)) (sym o.2) (sym lengths)))
+    at_entry _ o.0 (λ e. is_next r steps i (event_of e) ≡ true) o.1
+    (eq-eqb _ _ (subst (λ t. length (log_at t (order_of r steps)) ≡ length (log_before r t i)) (sym o.2) (sym lengths)))
 
 -- a station is done where its log has no more events
-pub done_here : (r : PlainRecording) (steps : List Step) (s : ℕ) → GoodBelow r steps (length steps) → length (log_before r s (length r.entries)) ≤ length (log_at s (order_of r steps)) → log_at s (order_of r steps) ≡ log_of r s
+pub done_here : (r : PlainRecording) (steps : List Step) (s : ℕ) → GoodBelow r steps (length steps)
+    → length (log_before r s (length r.entries)) ≤ length (log_at s (order_of r steps)) → log_at s (order_of r steps) ≡ log_of r s
 done_here r steps s good le =
     let covers = good_logs r steps good s in
     same_beginnings _ _ (log_of r s) covers ([], refl) (omega (arith, beginning_length _ _ covers, ap length (log_before-all r s)))
 
 -- the next entry can be judged
-pub next_lengths : (r : PlainRecording) (steps : List Step) (i : ℕ) (v : Event) → is_next r steps i v ≡ true → length (log_at (station_of v) (order_of r steps)) ≡ length (log_before r (station_of v) i)
+pub next_lengths : (r : PlainRecording) (steps : List Step) (i : ℕ) (v : Event) → is_next r steps i v ≡ true
+    → length (log_at (station_of v) (order_of r steps)) ≡ length (log_before r (station_of v) i)
 unfolding is_next
 next_lengths r steps i v next = eqb-true _ _ next
 
-pub next_ready : (r : PlainRecording) (steps : List Step) (i : ℕ) → GoodBelow r steps (length steps) → IfSome (slice_get r.entries i) (λ e. is_next r steps i (event_of e) ≡ true) → IfSome (slice_get r.entries i) (λ e. IsReady r steps i (event_of e))
+pub next_ready : (r : PlainRecording) (steps : List Step) (i : ℕ) → GoodBelow r steps (length steps)
+    → IfSome (slice_get r.entries i) (λ e. is_next r steps i (event_of e) ≡ true)
+    → IfSome (slice_get r.entries i) (λ e. IsReady r steps i (event_of e))
 next_ready r steps i good next =
     elim (slice_get r.entries i) as (λ o. IfSome o (λ e. is_next r steps i (event_of e) ≡ true) → IfSome o (λ e. IsReady r steps i (event_of e))) [
       | None ↦ λ _. tt
@@ -87,30 +99,38 @@ next_ready r steps i good next =
     ] next
 
 -- and where it is allowed, it makes a good step
-pub next_good : (r : PlainRecording) (steps : List Step) (i number : ℕ) (e : Entry) → slice_get r.entries i ≡ Some e → is_next r steps i (event_of e) ≡ true → cause_of r.setting (order_of r steps) (event_of e) ≡ None
+pub next_good : (r : PlainRecording) (steps : List Step) (i number : ℕ) (e : Entry) → slice_get r.entries i ≡ Some e
+    → is_next r steps i (event_of e) ≡ true → cause_of r.setting (order_of r steps) (event_of e) ≡ None
     → number ≡ link_number (link_of r steps i (event_of e)) → step_cause r steps (record { place = i; link = number }) ≡ None
 next_good r steps i number e at next allowed link =
-    cause_none r steps (record { place = i; link = number }) e (record { at = at; next = next_lengths r steps i (event_of e) next; allowed = allowed; link = link })
+    cause_none r steps (record { place = i; link = number }) e
+    (record { at = at; next = next_lengths r steps i (event_of e) next; allowed = allowed; link = link })
 
 -- the first cause against a step, by what is found of it
 
-pub missing_cause : (r : PlainRecording) (steps : List Step) (step : Step) → slice_get r.entries step.place ≡ None → step_cause r steps step ≡ Some NoSuchRecord
+pub missing_cause : (r : PlainRecording) (steps : List Step) (step : Step) → slice_get r.entries step.place ≡ None
+    → step_cause r steps step ≡ Some NoSuchRecord
 unfolding step_cause
 missing_cause r steps step none = ap (λ o. option_map_or (λ e. event_cause r steps step (event_of e)) o (Some NoSuchRecord)) none
 
-here_cause : (r : PlainRecording) (steps : List Step) (step : Step) (e : Entry) → slice_get r.entries step.place ≡ Some e → step_cause r steps step ≡ event_cause r steps step (event_of e)
+here_cause : (r : PlainRecording) (steps : List Step) (step : Step) (e : Entry) → slice_get r.entries step.place ≡ Some e
+    → step_cause r steps step ≡ event_cause r steps step (event_of e)
 unfolding step_cause
 here_cause r steps step e at = ap (λ o. option_map_or (λ e. event_cause r steps step (event_of e)) o (Some NoSuchRecord)) at
 
-pub unordered_cause : (r : PlainRecording) (steps : List Step) (step : Step) (e : Entry) → slice_get r.entries step.place ≡ Some e → is_next r steps step.place (event_of e) ≡ false → step_cause r steps step ≡ Some OutOfOrder
+pub unordered_cause : (r : PlainRecording) (steps : List Step) (step : Step) (e : Entry) → slice_get r.entries step.place ≡ Some e
+    → is_next r steps step.place (event_of e) ≡ false → step_cause r steps step ≡ Some OutOfOrder
 unordered_cause r steps step e at next = here_cause r steps step e at ∙ rw next refl
 
-pub barred_cause : (r : PlainRecording) (steps : List Step) (step : Step) (e : Entry) (cause : Cause) → slice_get r.entries step.place ≡ Some e → is_next r steps step.place (event_of e) ≡ true
+pub barred_cause : (r : PlainRecording) (steps : List Step) (step : Step) (e : Entry) (cause : Cause) → slice_get r.entries step.place ≡ Some e
+    → is_next r steps step.place (event_of e) ≡ true
     → cause_of r.setting (order_of r steps) (event_of e) ≡ Some cause → step_cause r steps step ≡ Some cause
 barred_cause r steps step e cause at next is = here_cause r steps step e at ∙ rw (next, is) refl
 
-pub allowed_cause : (r : PlainRecording) (steps : List Step) (step : Step) (e : Entry) (link : Option ℕ) → slice_get r.entries step.place ≡ Some e → is_next r steps step.place (event_of e) ≡ true
-    → cause_of r.setting (order_of r steps) (event_of e) ≡ None → link ≡ link_of r steps step.place (event_of e) → step_cause r steps step ≡ link_cause step.link link
+pub allowed_cause : (r : PlainRecording) (steps : List Step) (step : Step) (e : Entry) (link : Option ℕ) → slice_get r.entries step.place ≡ Some e
+    → is_next r steps step.place (event_of e) ≡ true
+    → cause_of r.setting (order_of r steps) (event_of e) ≡ None → link ≡ link_of r steps step.place (event_of e)
+    → step_cause r steps step ≡ link_cause step.link link
 allowed_cause r steps step e link at next is linked = here_cause r steps step e at ∙ rw (next, is) (ap (link_cause step.link) (sym linked))
 
 -- what going on by a step came to
@@ -121,7 +141,8 @@ entry_within [] i within = absurd (omega arith)
 entry_within (e ∷ entries) zero within = (e, refl)
 entry_within (e ∷ entries) (suc i) within = entry_within entries i (omega arith)
 
-pub disordered : (r : PlainRecording) (steps : List Step) (step : Step) (next : Bool) → step.place < length r.entries → IfSome (slice_get r.entries step.place) (λ e. next ≡ is_next r steps step.place (event_of e)) → next ≡ false
+pub disordered : (r : PlainRecording) (steps : List Step) (step : Step) (next : Bool) → step.place < length r.entries
+    → IfSome (slice_get r.entries step.place) (λ e. next ≡ is_next r steps step.place (event_of e)) → next ≡ false
     → step_cause r steps step ≡ Some OutOfOrder
 disordered r steps step next within is off =
     let e = entry_within r.entries step.place within in
@@ -134,7 +155,8 @@ record Going (old new : CourseData) (place : ℕ) (progress : Progress) : Type 0
   next : is_next old.recording old.steps place (event_of entry) ≡ true
   goes : GoesOn old new place progress entry
 
-going : (old new : CourseData) (place : ℕ) (progress : Progress) → place < length old.recording.entries → IsNext old place → IfSome (slice_get old.recording.entries place) (GoesOn old new place progress) → Going old new place progress
+going : (old new : CourseData) (place : ℕ) (progress : Progress) → place < length old.recording.entries → IsNext old place
+    → IfSome (slice_get old.recording.entries place) (GoesOn old new place progress) → Going old new place progress
 going old new place progress within next goes =
     let e = entry_within old.recording.entries place within in
     record {
@@ -144,21 +166,28 @@ going old new place progress within next goes =
       goes = from_entry _ e.0 (GoesOn old new place progress) e.1 goes;
     }
 
-pub barred_step : (old new : CourseData) (step : Step) (cause : Cause) → step.place < length old.recording.entries → IsNext old step.place → IfSome (slice_get old.recording.entries step.place) (GoesOn old new step.place (Barred cause))
+pub barred_step : (old new : CourseData) (step : Step) (cause : Cause) → step.place < length old.recording.entries → IsNext old step.place
+    → IfSome (slice_get old.recording.entries step.place) (GoesOn old new step.place (Barred cause))
     → (step_cause old.recording old.steps step ≡ Some cause) × (new ≡ old)
 barred_step old new step cause within next goes =
     let g = going old new step.place (Barred cause) within next goes in
     (barred_cause old.recording old.steps step g.entry cause g.at g.next g.goes.cause_is, g.goes.new_is)
 
-pub taken_step : (old new : CourseData) (step : Step) (link : ℕ) → step.place < length old.recording.entries → IsNext old step.place → IfSome (slice_get old.recording.entries step.place) (GoesOn old new step.place (Taken link))
-    → (step_cause old.recording old.steps step ≡ cond (nat_eq step.link link) None (Some BadLink)) × (new ≡ with_step old (record { place = step.place; link = link }))
+pub taken_step : (old new : CourseData) (step : Step) (link : ℕ) → step.place < length old.recording.entries → IsNext old step.place
+    → IfSome (slice_get old.recording.entries step.place) (GoesOn old new step.place (Taken link))
+    → (step_cause old.recording old.steps step ≡ cond (nat_eq step.link link) None (Some BadLink)) ×
+    (new ≡ with_step old (record { place = step.place; link = link }))
 taken_step old new step link within next goes =
-    let g = going old new step.place (Taken link) within next goes in
-    (allowed_cause old.recording old.steps step g.entry (link_of old.recording old.steps step.place (event_of g.entry)) g.at g.next g.goes.allowed refl ∙ ap (λ n. cond (nat_eq step.link n) None (Some BadLink)) (sym g.goes.link_is), g.goes.new_is)
+    let g = going old new step.place (Taken link) within next goes in (
+      allowed_cause old.recording old.steps step g.entry (link_of old.recording old.steps step.place (event_of g.entry)) g.at g.next g.goes.allowed refl ∙ ap
+          (λ n. cond (nat_eq step.link n) None (Some BadLink)) (sym g.goes.link_is),
+      g.goes.new_is,
+    )
 
 -- what a call of `next_entry` that finds nothing says
 pub done_if : (r : PlainRecording) (steps : List Step) (s : ℕ) (found : Option ℕ) → GoodBelow r steps (length steps)
-    → IfNone found (length (log_before r s (length r.entries)) ≤ length (log_at s (order_of r steps))) → IfNone found (log_at s (order_of r steps) ≡ log_of r s)
+    → IfNone found (length (log_before r s (length r.entries)) ≤ length (log_at s (order_of r steps)))
+    → IfNone found (log_at s (order_of r steps) ≡ log_of r s)
 done_if r steps s None good le = done_here r steps s good le
 done_if r steps s (Some i) good le = tt
 
@@ -167,11 +196,15 @@ pub record Allows (r : PlainRecording) (steps : List Step) (place : ℕ) (link :
   pub within : IfSome link (λ e. e < length r.entries)
   pub good : step_cause r steps (record { place = place; link = link_number link }) ≡ None
 
-pub allows : (r : PlainRecording) (steps : List Step) (place : ℕ) (link : Option ℕ) → place < length r.entries → IfSome (slice_get r.entries place) (λ e. is_next r steps place (event_of e) ≡ true)
-    → IfSome (slice_get r.entries place) (λ e. Judges (cause_of r.setting (order_of r steps) (event_of e)) (link_of r steps place (event_of e)) (length r.entries) (Allowed link)) → Allows r steps place link
+pub allows : (r : PlainRecording) (steps : List Step) (place : ℕ) (link : Option ℕ) → place < length r.entries
+    → IfSome (slice_get r.entries place) (λ e. is_next r steps place (event_of e) ≡ true)
+    → IfSome (slice_get r.entries place) (λ e. Judges (cause_of r.setting (order_of r steps) (event_of e)) (link_of r steps place (event_of e))
+    (length r.entries) (Allowed link))
+    → Allows r steps place link
 allows r steps place link within next judged =
     let e = entry_within r.entries place within in
-    let j = from_entry _ e.0 (λ e. Judges (cause_of r.setting (order_of r steps) (event_of e)) (link_of r steps place (event_of e)) (length r.entries) (Allowed link)) e.1 judged in
+    let j = from_entry _ e.0 (λ e. Judges (cause_of r.setting (order_of r steps) (event_of e)) (link_of r steps place (event_of e)) (length r.entries)
+    (Allowed link)) e.1 judged in
     let n = from_entry _ e.0 (λ e. is_next r steps place (event_of e) ≡ true) e.1 next in
     record {
       within = j.2;
@@ -182,10 +215,12 @@ pub small_link : (r : PlainRecording) (link : Option ℕ) → IsRecording r → 
 small_link r None limits within = tt
 small_link r (Some e) limits within = omega (arith, limits.count, within)
 
-pub ordered : (r : PlainRecording) (steps : List Step) (place : ℕ) (next : Bool) → IfSome (slice_get r.entries place) (λ e. next ≡ is_next r steps place (event_of e)) → next ≡ true
+pub ordered : (r : PlainRecording) (steps : List Step) (place : ℕ) (next : Bool)
+    → IfSome (slice_get r.entries place) (λ e. next ≡ is_next r steps place (event_of e)) → next ≡ true
     → IfSome (slice_get r.entries place) (λ e. is_next r steps place (event_of e) ≡ true)
 ordered r steps place next is on =
-    elim (slice_get r.entries place) as (λ o. IfSome o (λ e. next ≡ is_next r steps place (event_of e)) → IfSome o (λ e. is_next r steps place (event_of e) ≡ true)) [
+    elim (slice_get r.entries place) as (λ o. IfSome o (λ e. next ≡ is_next r steps place (event_of e)) → IfSome o
+    (λ e. is_next r steps place (event_of e) ≡ true)) [
       | None ↦ λ _. tt
       | Some e ↦ λ here. sym here ∙ on
     ] is

@@ -17,7 +17,8 @@ use Rattle.exercise_check.proofs.Orders.{order_of-snoc, order_of-none}
 use Rattle.exercise_check.proofs.Goodness.{good_step, steps_cover}
 
 -- what is order_of after one good step more
-order_of_next : (r : PlainRecording) (steps : List Step) (n : ℕ) (e : Entry) → n < length steps → slice_get r.entries (slice_index_or steps n no_step).place ≡ Some e → order_of r (take (suc n) steps) ≡ event_of e ∷ order_of r (take n steps)
+order_of_next : (r : PlainRecording) (steps : List Step) (n : ℕ) (e : Entry) → n < length steps
+    → slice_get r.entries (slice_index_or steps n no_step).place ≡ Some e → order_of r (take (suc n) steps) ≡ event_of e ∷ order_of r (take n steps)
 order_of_next r steps n e within at =
     ap (λ k. order_of r (take k steps)) (sym (add-one n)) ∙ ap (order_of r) (take_more steps n no_step within)
     ∙ order_of-snoc r (take n steps) (slice_index_or steps n no_step)
@@ -32,7 +33,8 @@ pub record IsSound (r : PlainRecording) (h : History) (n : ℕ) : Type 0 where
 sound_none : (r : PlainRecording) → IsSound r (order_of r []) 0
 sound_none r = subst (λ h. IsSound r h 0) (sym (order_of-none r)) (record { run = tt; count = refl; stations = refl })
 
-pub sound_steps : (r : PlainRecording) → IsRecording r → (steps : List Step) (n : ℕ) → n ≤ length steps → GoodBelow r steps n → IsSound r (order_of r (take n steps)) n
+pub sound_steps : (r : PlainRecording) → IsRecording r → (steps : List Step) (n : ℕ) → n ≤ length steps → GoodBelow r steps n
+    → IsSound r (order_of r (take n steps)) n
 sound_steps r limits steps zero le good = sound_none r
 sound_steps r limits steps (suc n) le good =
     let before = sound_steps r limits steps n (omega arith) (λ k l. good k (omega arith)) in
@@ -40,7 +42,8 @@ sound_steps r limits steps (suc n) le good =
     subst (λ h. IsSound r h (suc n)) (sym (order_of_next r steps n here.0 (omega arith) here.1.at)) (record {
       run = (before.run, here.1.allowed);
       count = ap suc before.count;
-      stations = ap (λ b. b && within (length r.setting.stations) (order_of r (take n steps))) (lt-ltb _ _ (entry_station (length r.setting.stations) r.entries _ here.0 limits.each_entry here.1.at)) ∙ before.stations;
+      stations = ap (λ b. b && within (length r.setting.stations) (order_of r (take n steps)))
+          (lt-ltb _ _ (entry_station (length r.setting.stations) r.entries _ here.0 limits.each_entry here.1.at)) ∙ before.stations;
     })
 
 -- good steps record a run that covers prefixes
@@ -52,8 +55,11 @@ good_covers r limits steps good =
       logs = steps_cover r steps (length steps) (omega arith) good;
     })
 
-pub good_sound : (r : PlainRecording) → IsRecording r → (steps : List Step) → GoodBelow r steps (length steps) → IsSound r (order_of r steps) (length steps)
-good_sound r limits steps good = subst (λ xs. IsSound r (order_of r xs) (length steps)) (take_all (length steps) steps (omega arith)) (sound_steps r limits steps (length steps) (omega arith) good)
+pub good_sound : (r : PlainRecording) → IsRecording r → (steps : List Step) → GoodBelow r steps (length steps)
+    → IsSound r (order_of r steps) (length steps)
+good_sound r limits steps good =
+    subst (λ xs. IsSound r (order_of r xs) (length steps)) (take_all (length steps) steps (omega arith))
+    (sound_steps r limits steps (length steps) (omega arith) good)
 
 -- A GOOD CERTIFICATE EXPLAINS
 pub good_explains : (r : PlainRecording) → IsRecording r → (steps : List Step) → IsGood r steps → Explains r (order_of r steps)
@@ -63,7 +69,8 @@ good_explains r limits steps good =
     let covers = good_covers r limits steps good.good in
     record {
       run = covers.run;
-      logs = all_events (length r.setting.stations) (order_of r steps) (past r.entries) sound.stations (past_within r limits) covers.logs (sound.count ∙ good.count ∙ sym (length-past r.entries));
+      logs = all_events (length r.setting.stations) (order_of r steps) (past r.entries) sound.stations (past_within r limits) covers.logs
+          (sound.count ∙ good.count ∙ sym (length-past r.entries));
     }
 
 -- good steps are no more than entries
@@ -72,4 +79,10 @@ unfolding log_of
 good_few r limits steps good =
     let sound = good_sound r limits steps good in
     let covers = good_covers r limits steps good in
-    omega (arith, sound.count, length-past r.entries, fewer_events (length r.setting.stations) (order_of r steps) (past r.entries) sound.stations (past_within r limits) covers.logs)
+    omega (
+      arith,
+      sound.count,
+      length-past r.entries,
+      fewer_events (length r.setting.stations) (order_of r steps) (past r.entries) sound.stations
+          (past_within r limits) covers.logs,
+    )

@@ -21,18 +21,22 @@ use Rattle.exercise_check.specs.Goodness.{no_step}
 pub chosen-append : (es : List Entry) (xs ys : List Step) → chosen es (xs ++ ys) ≡ chosen es xs ++ chosen es ys
 unfolding chosen
 chosen-append es [] ys = refl
-chosen-append es (x ∷ xs) ys = ap (λ zs. option_to_list (slice_get es x.place) ++ zs) (chosen-append es xs ys) ∙ sym (append_assoc (option_to_list (slice_get es x.place)) (chosen es xs) (chosen es ys))
+chosen-append es (x ∷ xs) ys =
+    ap (λ zs. option_to_list (slice_get es x.place) ++ zs) (chosen-append es xs ys) ∙ sym
+    (append_assoc (option_to_list (slice_get es x.place)) (chosen es xs) (chosen es ys))
 
 chosen-one : (es : List Entry) (x : Step) → chosen es (x ∷ []) ≡ option_to_list (slice_get es x.place)
 unfolding chosen
 chosen-one es x = append-nil (option_to_list (slice_get es x.place))
 
 -- one step more
-pub order_of-snoc : (r : PlainRecording) (steps : List Step) (step : Step) → order_of r (steps ++ step ∷ []) ≡ option_map_or (λ e. event_of e ∷ order_of r steps) (slice_get r.entries step.place) (order_of r steps)
+pub order_of-snoc : (r : PlainRecording) (steps : List Step) (step : Step)
+    → order_of r (steps ++ step ∷ []) ≡ option_map_or (λ e. event_of e ∷ order_of r steps) (slice_get r.entries step.place) (order_of r steps)
 unfolding order_of
 order_of-snoc r steps step =
     ap past (chosen-append r.entries steps (step ∷ []) ∙ ap (λ zs. chosen r.entries steps ++ zs) (chosen-one r.entries step))
-    ∙ elim (slice_get r.entries step.place) as (λ o. past (chosen r.entries steps ++ option_to_list o) ≡ option_map_or (λ e. event_of e ∷ past (chosen r.entries steps)) o (past (chosen r.entries steps))) [
+    ∙ elim (slice_get r.entries step.place) as (λ o. past (chosen r.entries steps ++ option_to_list o) ≡ option_map_or
+    (λ e. event_of e ∷ past (chosen r.entries steps)) o (past (chosen r.entries steps))) [
       | None ↦ ap past (append-nil (chosen r.entries steps))
       | Some e ↦ past-snoc (chosen r.entries steps) e
     ]
@@ -46,14 +50,18 @@ unfolding log_at
 log_at-cons s v h = refl
 
 -- the log of a station goes on by its own events
-pub log_at-order_of-snoc : (r : PlainRecording) (s : ℕ) (steps : List Step) (step : Step) → log_at s (order_of r (steps ++ step ∷ [])) ≡ option_map_or (λ v. v ∷ log_at s (order_of r steps)) (own_event r s step.place) (log_at s (order_of r steps))
+pub log_at-order_of-snoc : (r : PlainRecording) (s : ℕ) (steps : List Step) (step : Step)
+    → log_at s (order_of r (steps ++ step ∷ [])) ≡ option_map_or (λ v. v ∷ log_at s (order_of r steps)) (own_event r s step.place) (log_at s (order_of r steps))
 unfolding own_event
 log_at-order_of-snoc r s steps step =
     ap (log_at s) (order_of-snoc r steps step)
-    ∙ elim (slice_get r.entries step.place) as (λ o. log_at s (option_map_or (λ e. event_of e ∷ order_of r steps) o (order_of r steps)) ≡ option_map_or (λ v. v ∷ log_at s (order_of r steps)) (option_and_then (λ e. if station_of (event_of e) == s then Some (event_of e) else None) o) (log_at s (order_of r steps))) [
+    ∙ elim (slice_get r.entries step.place) as (λ o. log_at s (option_map_or (λ e. event_of e ∷ order_of r steps) o (order_of r steps)) ≡ option_map_or
+    (λ v. v ∷ log_at s (order_of r steps)) (option_and_then (λ e. if station_of (event_of e) == s then Some (event_of e) else None) o)
+    (log_at s (order_of r steps))) [
       | None ↦ refl
       | Some e ↦ log_at-cons s (event_of e) (order_of r steps)
-          ∙ elim (nat_eq (station_of (event_of e)) s) as (λ b. cond b (event_of e ∷ log_at s (order_of r steps)) (log_at s (order_of r steps)) ≡ option_map_or (λ v. v ∷ log_at s (order_of r steps)) (cond b (Some (event_of e)) None) (log_at s (order_of r steps))) [ true ↦ refl | false ↦ refl ]
+          ∙ elim (nat_eq (station_of (event_of e)) s) as (λ b. cond b (event_of e ∷ log_at s (order_of r steps)) (log_at s (order_of r steps)) ≡ option_map_or
+          (λ v. v ∷ log_at s (order_of r steps)) (cond b (Some (event_of e)) None) (log_at s (order_of r steps))) [ true ↦ refl | false ↦ refl ]
     ]
 
 pub log_at-order_of-none : (r : PlainRecording) (s : ℕ) → log_at s (order_of r []) ≡ []
@@ -65,7 +73,9 @@ longer None h = sym (add-zero (length h))
 longer (Some v) h = sym (add-one (length h))
 
 -- how many events of a station steps record
-pub length-steps-more : (r : PlainRecording) (s : ℕ) (steps : List Step) (k : ℕ) → k < length steps → length (log_at s (order_of r (take (k + 1) steps))) ≡ length (log_at s (order_of r (take k steps))) + (if is_some (own_event r s (slice_index_or steps k no_step).place) then 1 else 0)
+pub length-steps-more : (r : PlainRecording) (s : ℕ) (steps : List Step) (k : ℕ) → k < length steps
+    → length (log_at s (order_of r (take (k + 1) steps))) ≡ length (log_at s (order_of r (take k steps))) +
+    (if is_some (own_event r s (slice_index_or steps k no_step).place) then 1 else 0)
 length-steps-more r s steps k within =
     ap (λ xs. length (log_at s (order_of r xs))) (take_more steps k no_step within)
     ∙ ap length (log_at-order_of-snoc r s (take k steps) (slice_index_or steps k no_step))
@@ -74,14 +84,18 @@ length-steps-more r s steps k within =
 pub length-steps-none : (r : PlainRecording) (s : ℕ) → length (log_at s (order_of r [])) ≡ 0
 length-steps-none r s = ap length (log_at-order_of-none r s)
 
-pub length-entries-more : (r : PlainRecording) (s i : ℕ) → length (log_before r s (i + 1)) ≡ length (log_before r s i) + (if is_some (own_event r s i) then 1 else 0)
-length-entries-more r s i = ap (λ n. length (log_before r s n)) (add-one i) ∙ ap length (log_before-more r s i) ∙ longer (own_event r s i) (log_before r s i)
+pub length-entries-more : (r : PlainRecording) (s i : ℕ)
+    → length (log_before r s (i + 1)) ≡ length (log_before r s i) + (if is_some (own_event r s i) then 1 else 0)
+length-entries-more r s i =
+    ap (λ n. length (log_before r s n)) (add-one i) ∙ ap length (log_before-more r s i) ∙ longer (own_event r s i) (log_before r s i)
 
 pub length-entries-none : (r : PlainRecording) (s : ℕ) → length (log_before r s 0) ≡ 0
 length-entries-none r s = ap length (log_before-none r s)
 
 -- the first sender among what is left
-pub first_sender-drop : (es : List Entry) (b : List ℕ) (steps : List Step) (k : ℕ) → k < length steps → first_sender es b (drop k steps) ≡ (if option_map_or (λ e. sends b (event_of e)) (slice_get es (slice_index_or steps k no_step).place) false then Some (slice_index_or steps k no_step).place else first_sender es b (drop (k + 1) steps))
+pub first_sender-drop : (es : List Entry) (b : List ℕ) (steps : List Step) (k : ℕ) → k < length steps
+    → first_sender es b (drop k steps) ≡ (if option_map_or (λ e. sends b (event_of e)) (slice_get es (slice_index_or steps k no_step).place) false then Some
+    (slice_index_or steps k no_step).place else first_sender es b (drop (k + 1) steps))
 unfolding first_sender
 first_sender-drop es b steps k within = ap (first_sender es b) (drop_more steps k no_step within)
 
@@ -93,12 +107,19 @@ pub first_sender-none : (es : List Entry) (b : List ℕ) → first_sender es b [
 unfolding first_sender
 first_sender-none es b = refl
 
-is_some-first : (es : List Entry) (b : List ℕ) (step : Step) (o : Option ℕ) → is_some (if option_map_or (λ e. sends b (event_of e)) (slice_get es step.place) false then Some step.place else o) ≡ (is_some o || list_any (sends b) (past (option_to_list (slice_get es step.place))))
+is_some-first : (es : List Entry) (b : List ℕ) (step : Step) (o : Option ℕ)
+    → is_some (if option_map_or (λ e. sends b (event_of e)) (slice_get es step.place) false then Some step.place else o) ≡
+    (is_some o || list_any (sends b) (past (option_to_list (slice_get es step.place))))
 unfolding past
 is_some-first es b step o =
-    elim (slice_get es step.place) as (λ m. is_some (if option_map_or (λ e. sends b (event_of e)) m false then Some step.place else o) ≡ (is_some o || list_any (sends b) (past (option_to_list m)))) [
+    elim (slice_get es step.place) as (λ m. is_some (if option_map_or (λ e. sends b (event_of e)) m false then Some step.place else o) ≡
+    (is_some o || list_any (sends b) (past (option_to_list m)))) [
       | None ↦ sym (or-false (is_some o))
-      | Some e ↦ elim (sends b (event_of e)) as (λ t. is_some (if t then Some step.place else o) ≡ (is_some o || (t || false))) [ true ↦ sym (or-true (is_some o)) | false ↦ sym (or-false (is_some o)) ]
+      | Some e ↦ elim (sends b (event_of e)) as (λ t. is_some (if t then Some step.place else o) ≡ (is_some o || (t || false))) [
+        | true ↦ sym
+            (or-true (is_some o))
+        | false ↦ sym (or-false (is_some o))
+      ]
     ]
 
 sender_along : (es : List Entry) (b : List ℕ) (steps : List Step) → is_some (first_sender es b steps) ≡ list_any (sends b) (past (chosen es steps))
@@ -111,7 +132,8 @@ sender_along es b (step ∷ steps) =
     ∙ ap (list_any (sends b)) (sym (past-append (option_to_list (slice_get es step.place)) (chosen es steps)))
 
 -- there is a first sender where the bytes were sent
-pub is_some-first_sender : (r : PlainRecording) (b : List ℕ) (steps : List Step) → is_some (first_sender r.entries b steps) ≡ was_sent b (order_of r steps)
+pub is_some-first_sender : (r : PlainRecording) (b : List ℕ) (steps : List Step)
+    → is_some (first_sender r.entries b steps) ≡ was_sent b (order_of r steps)
 unfolding was_sent order_of
 is_some-first_sender r b steps = sender_along r.entries b steps
 

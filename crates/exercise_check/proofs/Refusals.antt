@@ -48,7 +48,8 @@ module _ (limit : ℕ) (bytes : List ℕ) where
   field_right : {Y : Type 0} {f : Input → Result Y CertificateFormatFault} {before : List ℕ} (row : Row CertificateFormatFault)
       → IsTold names f row → length before + row.width ≤ 12 + 8 * limit
       → ((i : Input) → Takes start before i → length before + row.width ≤ 12 + 8 * count_of bytes)
-      → ((i : Input) (d : CertificateFormatFault) → Takes start before i → row.width ≤ length i.bytes → row.fault i.at i.bytes ≡ Some d → IsRefused limit bytes d)
+      → ((i : Input)
+      (d : CertificateFormatFault) → Takes start before i → row.width ≤ length i.bytes → row.fault i.at i.bytes ≡ Some d → IsRefused limit bytes d)
       → IsRight before f
   field_right {before = before} row told within needed judged = record {
     rightly = λ i d t ready e.
@@ -94,7 +95,8 @@ module _ (limit : ℕ) (bytes : List ℕ) where
       let both : length ((head_text n ++ before) ++ to_be_bytes w32 p) ≡ (12 + 8 * length ss) + 4 =
       length-append (head_text n ++ before) (to_be_bytes w32 p) ∙ ap (λ k. k + 4) size in
       refuses_last (λ l. (record { place = p; link = l.0 }, l.1)) (any_right (any_told names w32) (omega arith)
-      (λ i t. omega (arith, count_is n (before ++ to_be_bytes w32 p) i few (subst (λ u. Takes start u i) (append_assoc (head_text n) before (to_be_bytes w32 p)) t)))))
+      (λ i t. omega
+      (arith, count_is n (before ++ to_be_bytes w32 p) i few (subst (λ u. Takes start u i) (append_assoc (head_text n) before (to_be_bytes w32 p)) t)))))
 
   end_right : (steps : List Step) → length steps ≤ limit → IsRight (certificate_text steps) (ended steps)
   end_right steps few = record {

@@ -91,7 +91,8 @@ abbrev pub IsRefused : (limit : ℕ) → List ℕ → CertificateFormatFault →
 IsRefused limit bytes (faults.Magic at) = (at ≡ 0) × (8 ≤ length bytes) × (bytes_eq (take 8 bytes) (codes "DSCT0001") ≡ false)
 IsRefused limit bytes (faults.OverLimit at) = (at ≡ 8) × (take 8 bytes ≡ codes "DSCT0001") × (12 ≤ length bytes) × (limit < count_of bytes)
 IsRefused limit bytes (faults.Truncated at) = (at ≡ length bytes) × (length bytes < 12 + 8 * count_of bytes)
-IsRefused limit bytes (faults.Trailing at) = (at < length bytes) × ((steps : List Step) × (take at bytes ≡ certificate_text steps) × (length steps ≤ limit))
+IsRefused limit bytes (faults.Trailing at) =
+    (at < length bytes) × ((steps : List Step) × (take at bytes ≡ certificate_text steps) × (length steps ≤ limit))
 
 -- ---- what a function returned
 

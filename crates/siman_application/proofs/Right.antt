@@ -11,10 +11,12 @@ use Rattle.siman_pdus.specs.Same.{is_same_order}
 use Rattle.siman_pdus.specs.Spelling.{pdu_text}
 use Rattle.dis_records.specs.declared.entity_state.EntityState.TheVariants.{Absent}
 use Rattle.std.proofs.lemmas.Bool.Decides.{nat_tests}
-use Rattle.std.proofs.lemmas.Bool.{and_parts}
+use Rattle.std.proofs.lemmas.Bool.{and_parts, leb-true}
+use Rattle.dis_records.specs.declared.address.TheConstants.{LARGEST_ADDRESS_PART}
+use Rattle.dis_records.specs.Address.{is_address, is_address_part}
 use Rattle.exercise_model.specs.declared.station.TheConstants.{LARGEST_ENTITY}
 use Rattle.exercise_model.specs.State.{entity_state, state_after}
-use Rattle.exercise_model.specs.Station.{StationData, is_address, is_entity, is_opening, is_station, listed_state}
+use Rattle.exercise_model.specs.Station.{StationData, is_entity, is_opening, is_station, listed_state}
 use Rattle.siman_application.specs.Records.{fixed_id, variable_id, last_under}
 use Rattle.siman_application.proofs.Numbers.{absent_up_to, absent_past}
 use Rattle.siman_application.specs.declared.kept.KeptRequest.{KeptRequest}
@@ -297,13 +299,12 @@ pub begun_in_range : (x : ℕ) (s : StationData) (d : DatumLists) (actions : Lis
     → IsOutfitInRange (record { exercise = x; station = s; datums = d; actions = actions })
 begun_in_range x s d actions exercise is datums =
     let address = and_parts (is_address s.address) (is_opening s.opening) is in
-    let site = and_parts (nat_le 1 s.address.site) (nat_le s.address.site 65534 &&
-    (nat_le 1 s.address.application && nat_le s.address.application 65534)) address.0 in
-    let below = and_parts (nat_le s.address.site 65534) (nat_le 1 s.address.application && nat_le s.address.application 65534) site.1 in
-    let application = and_parts (nat_le 1 s.address.application) (nat_le s.address.application 65534) below.1 in
-    record { exercise = exercise; site = fits s.address.site below.0; application = fits s.address.application application.1; datums = datums } where
-      fits : (n : ℕ) → nat_le n 65534 ≡ true → n < 2 ^ 16
-      fits n e = let high : n ≤ 65534 = grind (arith, nat_tests) in omega (arith, high)
+    let parts = and_parts (is_address_part s.address.site) (is_address_part s.address.application) address.0 in
+    record { exercise = exercise; site = fits s.address.site parts.0; application = fits s.address.application parts.1; datums = datums } where
+      fits : (n : ℕ) → is_address_part n ≡ true → n < 2 ^ 16
+      fits n e =
+          let high : nat_le n LARGEST_ADDRESS_PART ≡ true = (and_parts (nat_le 1 n) (nat_le n LARGEST_ADDRESS_PART) e).1 in
+          let low : n ≤ LARGEST_ADDRESS_PART = leb-true n LARGEST_ADDRESS_PART high in omega (arith, low)
 
 start_by : (x : ℕ) (o : StationData) (e : ℕ) → is_opening o.opening ≡ true → (b : Bool) → is_entity e ≡ b
     → listed_state o.opening e ≡ (if b then entity_state x o [] e else Absent)

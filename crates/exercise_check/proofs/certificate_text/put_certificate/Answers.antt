@@ -15,4 +15,5 @@ returns-in_err-put g c =
 pub returns : goal.returns
 returns g c =
     let ss = c.args.steps.now in
-    writes_then c.put_steps.result _ _ _ (head_text (length ss)) (flat_map step_text ss) (subst (Appends _ _) c.head_bytes.ensures c.in_ok-put.ensures) c.put_steps.ensures
+    writes_then c.put_steps.result _ _ _ (head_text (length ss)) (flat_map step_text ss)
+    (subst (Appends _ _) c.head_bytes.ensures c.in_ok-put.ensures) c.put_steps.ensures

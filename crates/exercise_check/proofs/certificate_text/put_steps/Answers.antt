@@ -11,4 +11,5 @@ returns-in_err-put g c =
     let i = c.loop-step.step-index in
     let none : Step = record { place = 0; link = 0 } in
     at_error c.from_residual.result _ _ _ c.from_residual.ensures.0
-    (next_fails step_text _ _ _ xs i none (get_or xs i none) c.loop-step-test.true refl c.loop-step.invariant (subst (WritesPart _ _) c.step_bytes.ensures c.in_err-put.ensures))
+    (next_fails step_text _ _ _ xs i none (get_or xs i none) c.loop-step-test.true refl c.loop-step.invariant
+    (subst (WritesPart _ _) c.step_bytes.ensures c.in_err-put.ensures))

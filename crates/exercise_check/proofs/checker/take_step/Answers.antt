@@ -11,12 +11,14 @@ use Rattle.exercise_check.proofs.checker.take_step.Goals as goal
 pub returns-then-place-entries-clause-cause : goal.returns-then-place-entries-clause-cause
 returns-then-place-entries-clause-cause g c =
     let v = c.args.course.now in
-    sym (missing_cause v.recording v.steps c.args.step (slice_get_past v.recording.entries c.args.step.place (omega (arith, c.if-place-entries.true, c.requires))))
+    sym (missing_cause v.recording v.steps c.args.step
+    (slice_get_past v.recording.entries c.args.step.place (omega (arith, c.if-place-entries.true, c.requires))))
 
 pub returns-then-not-is_next-clause-cause : goal.returns-then-not-is_next-clause-cause
 returns-then-not-is_next-clause-cause g c =
     let v = c.args.course.now in
-    sym (disordered v.recording v.steps c.args.step c.is_next.result (omega (arith, c.if-place-entries.false, c.requires)) c.is_next.ensures c.if-not-is_next.true)
+    sym (disordered v.recording v.steps c.args.step c.is_next.result
+    (omega (arith, c.if-place-entries.false, c.requires)) c.is_next.ensures c.if-not-is_next.true)
 
 pub returns-in-Barred-clause-cause : goal.returns-in-Barred-clause-cause
 returns-in-Barred-clause-cause g c =
@@ -30,7 +32,8 @@ returns-in-Barred-clause-recording g c =
     let v = c.args.course.now in
     let next = ordered v.recording v.steps c.args.step.place c.is_next.result c.is_next.ensures c.if-not-is_next.false in
     let within : c.args.step.place < length v.recording.entries = omega (arith, c.if-place-entries.false, c.requires) in
-    ap (λ (w : CourseData). w.recording) (barred_step v c.go_on.new.self c.args.step c.in-Barred.cause within next (rw c.in-Barred.is at c.in_ok-cause.ensures.judged)).1
+    ap (λ (w : CourseData). w.recording) (barred_step v c.go_on.new.self c.args.step c.in-Barred.cause within next
+    (rw c.in-Barred.is at c.in_ok-cause.ensures.judged)).1
 
 pub returns-in-Taken-clause-good : goal.returns-in-Taken-clause-good
 returns-in-Taken-clause-good g c =
@@ -53,7 +56,8 @@ returns-in-Taken-clause-recording g c =
     let v = c.args.course.now in
     let next = ordered v.recording v.steps c.args.step.place c.is_next.result c.is_next.ensures c.if-not-is_next.false in
     let within : c.args.step.place < length v.recording.entries = omega (arith, c.if-place-entries.false, c.requires) in
-    ap (λ (w : CourseData). w.recording) (taken_step v c.go_on.new.self c.args.step c.in-Taken.link within next (rw c.in-Taken.is at c.in_ok-cause.ensures.judged)).1
+    ap (λ (w : CourseData). w.recording) (taken_step v c.go_on.new.self c.args.step c.in-Taken.link within next
+    (rw c.in-Taken.is at c.in_ok-cause.ensures.judged)).1
 
 pub returns-in-Taken-2-clause-cause : goal.returns-in-Taken-2-clause-cause
 returns-in-Taken-2-clause-cause g c =
@@ -69,4 +73,5 @@ returns-in-Taken-2-clause-recording g c =
     let v = c.args.course.now in
     let next = ordered v.recording v.steps c.args.step.place c.is_next.result c.is_next.ensures c.if-not-is_next.false in
     let within : c.args.step.place < length v.recording.entries = omega (arith, c.if-place-entries.false, c.requires) in
-    ap (λ (w : CourseData). w.recording) (taken_step v c.go_on.new.self c.args.step c.in-Taken.link within next (rw c.in-Taken.is at c.in_ok-cause.ensures.judged)).1
+    ap (λ (w : CourseData). w.recording) (taken_step v c.go_on.new.self c.args.step c.in-Taken.link within next
+    (rw c.in-Taken.is at c.in_ok-cause.ensures.judged)).1

@@ -50,7 +50,8 @@ loop-i-preserved g c =
     let here : cause_at r steps i ≡ None = sym (rw (c.loop-i.invariant.recording, c.loop-i.invariant.taken) at (rw none at c.in_ok-cause.ensures.cause)) in
     record {
       recording = c.take_step.ensures.recording ∙ c.loop-i.invariant.recording;
-      taken = ap (λ (v : CourseData). v.steps) grown ∙ ap (λ (xs : List Step). xs ++ slice_index_or steps i no_step ∷ []) c.loop-i.invariant.taken ∙ sym (take_more steps i no_step within);
+      taken = ap (λ (v : CourseData). v.steps) grown ∙ ap (λ (xs : List Step). xs ++ slice_index_or steps i no_step ∷ []) c.loop-i.invariant.taken ∙ sym
+          (take_more steps i no_step within);
       good = below_more (λ k. cause_at r steps k ≡ None) i c.loop-i.invariant.good here;
     }
 

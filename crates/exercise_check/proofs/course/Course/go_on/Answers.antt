@@ -5,7 +5,8 @@ use Rattle.exercise_check.proofs.Courses.{next_ready, allows, small_link}
 use Rattle.exercise_check.proofs.course.Course.go_on.Goals as goal
 
 pub judge-requires-clause-placed : goal.judge-requires-clause-placed
-judge-requires-clause-placed g c = rw c.deref.ensures.value (are_placed (g.L.ExerciseLog.recording c.self.inside.log.now) c.self.inside.steps.items c.self.invariant.good)
+judge-requires-clause-placed g c =
+    rw c.deref.ensures.value (are_placed (g.L.ExerciseLog.recording c.self.inside.log.now) c.self.inside.steps.items c.self.invariant.good)
 
 pub judge-requires-clause-ready : goal.judge-requires-clause-ready
 judge-requires-clause-ready g c =

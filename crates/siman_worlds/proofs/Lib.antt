@@ -1,2 +1,3 @@
 mod Texts
-mod Openings
+pub mod Openings
+mod Turns

@@ -3,3 +3,5 @@ pub mod Stations
 pub mod Statement
 pub mod Draft
 pub mod Script
+pub mod Recording
+pub mod Turn

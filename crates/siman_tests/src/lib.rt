@@ -32,4 +32,6 @@ mod searches;
 #[cfg(test)]
 mod streams;
 #[cfg(test)]
+mod turns;
+#[cfg(test)]
 mod verdicts;

@@ -26,8 +26,12 @@ mod recordings;
 #[cfg(test)]
 mod records;
 #[cfg(test)]
+mod scripts;
+#[cfg(test)]
 mod searches;
 #[cfg(test)]
 mod streams;
+#[cfg(test)]
+mod turns;
 #[cfg(test)]
 mod verdicts;

@@ -1,0 +1,7 @@
+pub mod Text
+pub mod Stations
+pub mod Statement
+pub mod Draft
+pub mod Script
+pub mod Recording
+pub mod Turn

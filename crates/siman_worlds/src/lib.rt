@@ -1,0 +1,33 @@
+//! Scripts, the text in which the staff of an exercise write a whole exercise down, and the turn of
+//! a station, which is what each of its stations does with a datagram that comes.
+//!
+//! A script says which stations there are, what their managers order, and what the network loses,
+//! copies and swaps. [`read_script`] answers the script that a text spells, or its first refusal by
+//! the order of lines. [`take_turn`] records a datagram, lets the application half answer, records
+//! the answer, and hands the PDU to the manager half, over anything that records ([`Recorder`]). No
+//! file is opened here, no clock read, and nothing sent. The layers above rest on the contracts of
+//! these two: one function of the text (`specs/Script.antt`, `Draft.antt`, `Statement.antt`,
+//! `Text.antt`), and the entries and halves that a turn leaves (`specs/Turn.antt`).
+#![tactic(auto)]
+
+mod act;
+mod draft;
+mod forms;
+mod line_fault;
+mod moves;
+mod part;
+mod recorder;
+mod script;
+mod script_fault;
+mod statement;
+mod station_draft;
+mod text;
+mod turn;
+mod world_station;
+
+pub use act::{Act, Move};
+pub use recorder::Recorder;
+pub use script::{LARGEST_SCRIPT, Script, read_script};
+pub use script_fault::ScriptFault;
+pub use turn::{Node, TurnFault, stamp_of, take_turn};
+pub use world_station::WorldStation;

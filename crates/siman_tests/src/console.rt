@@ -3,8 +3,6 @@
 mod files;
 mod pdus;
 mod program;
-mod reports;
-mod scenes;
 mod shows;
 mod words;
 
@@ -12,8 +10,14 @@ use siman_console::check_command;
 use std::alloc::Global;
 use std::io::Read;
 
+/// A Create Entity of 28 bytes, and its one line.
+pub(crate) const CREATE: &str = "07010B0500000000001C000000010001000000020003000700000001";
+
+pub(crate) const CREATE_TEXT: &str =
+    "create-entity version=7 exercise=1 stamp=0 status=0 from=1:1:0 to=2:3:7 request=1\n";
+
 /// What a command leaves: its status, its text, and what it tells of faults.
-type Left<'a> = (u8, &'a str, &'a str);
+pub(crate) type Left<'a> = (u8, &'a str, &'a str);
 
 /// Whether a command that ended so, with this text and these faults out, leaves this.
 fn leaves(ended: u8, text: &[u8], told: &[u8], left: Left<'_>) -> bool {
@@ -21,7 +25,7 @@ fn leaves(ended: u8, text: &[u8], told: &[u8], left: Left<'_>) -> bool {
 }
 
 /// Whether `check` of the two files leaves this.
-fn is_checked<R: Read + Drop, C: Read + Drop>(
+pub(crate) fn is_checked<R: Read + Drop, C: Read + Drop>(
     alloc: Global,
     recording: R,
     certificate: C,

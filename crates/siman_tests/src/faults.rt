@@ -1,4 +1,4 @@
-//! The texts of faults and causes.
+//! The texts of faults and causes, and the numbers of refusals.
 
 use dis_records::{DatumFault, HeaderFault};
 use exercise_check::{
@@ -82,6 +82,23 @@ fn faults_of_recordings_are_told_by_name(rt: HostRuntime) {
 }
 
 #[test]
+fn faults_of_certificates_are_told_by_name(rt: HostRuntime) {
+    let magic = CertificateFormatFault::Magic(0);
+    let truncated = CertificateFormatFault::Truncated(43);
+    let trailing = CertificateFormatFault::Trailing(44);
+    let over_limit = CertificateFormatFault::OverLimit(8);
+    let rows = [
+        (CertificateFault::Format(magic), "magic at 0"),
+        (CertificateFault::Format(truncated), "truncated at 43"),
+        (CertificateFault::Format(trailing), "trailing at 44"),
+        (CertificateFault::Format(over_limit), "over-limit at 8"),
+        (CertificateFault::Read, "read"),
+        (CertificateFault::Memory, "memory"),
+    ];
+    assert_eq!(rt; first_otherwise(rt.alloc(), &rows), None);
+}
+
+#[test]
 fn faults_of_writers_are_told_by_name(rt: HostRuntime) {
     let rows = [
         (WriterFault::Write, "write"),
@@ -157,7 +174,7 @@ fn faults_of_datagrams_are_told_by_name(rt: HostRuntime) {
 }
 
 #[test]
-fn faults_of_stations_and_certificates_are_told_by_name(rt: HostRuntime) {
+fn faults_of_stations_managers_and_checks_are_told_by_name(rt: HostRuntime) {
     let rows = [
         (AppFault::Memory, "memory"),
         (AppFault::TooMany, "too-many"),
@@ -178,4 +195,29 @@ fn faults_of_stations_and_certificates_are_told_by_name(rt: HostRuntime) {
         (CheckFault::Memory, "memory"),
     ];
     assert_eq!(rt; first_otherwise(rt.alloc(), &rows), None);
+}
+
+/// The first fault that has another number than its own.
+fn first_numbered_otherwise(faults: &[(PduFault, u8)]) -> Option<PduFault> {
+    for (fault, number) in faults {
+        if fault.number() != *number {
+            return Some(*fault);
+        }
+    }
+    None
+}
+
+#[test]
+fn refusals_are_numbered_in_their_order(rt: HostRuntime) {
+    let faults = [
+        (PduFault::Header(HeaderFault::Truncated), 1),
+        (PduFault::Header(HeaderFault::Version(6)), 2),
+        (PduFault::Header(HeaderFault::Family(1)), 3),
+        (PduFault::Header(HeaderFault::Kind(23)), 4),
+        (PduFault::Header(HeaderFault::Long), 5),
+        (PduFault::Header(HeaderFault::LengthField(40)), 6),
+        (PduFault::BodyShort(12), 7),
+        (PduFault::BodyLong(28), 8),
+    ];
+    assert_eq!(rt; first_numbered_otherwise(&faults), None);
 }

@@ -26,6 +26,8 @@ mod recordings;
 #[cfg(test)]
 mod records;
 #[cfg(test)]
+mod scenes;
+#[cfg(test)]
 mod scripts;
 #[cfg(test)]
 mod searches;

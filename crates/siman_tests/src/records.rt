@@ -1,12 +1,8 @@
 //! The records of PDUs: headers, addresses, entities and datums, byte by byte.
 
+use crate::datagrams::CREATE;
 use dis_records::*;
 use std::alloc::Global;
-
-// The head of a Create Entity of 28 bytes, in exercise 1.
-const CREATE: [u8; 28] = [
-    7, 1, 11, 5, 0, 0, 0, 0, 0, 28, 0, 0, 0, 1, 0, 1, 0, 0, 0, 2, 0, 3, 0, 7, 0, 0, 0, 1,
-];
 
 #[test]
 fn headers_are_read_and_written(rt: HostRuntime) {

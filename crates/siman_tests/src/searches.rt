@@ -1,43 +1,20 @@
 //! The search at work, with literal datagrams and certificates.
 
-use self::Done::{Received, Sent, Told};
 use self::Found::{Blocks, Steps};
-use dis_records::{Address, EntityState};
+use crate::datagrams::{NONE, comment};
+use crate::scenes::Done::{Received, Sent, Told};
+use crate::scenes::{ANSWERS, ASKS, Done, GETS, HEARS, add, started};
+use dis_records::EntityState;
 use exercise_audit::{Audit, Block, audit};
 use exercise_check::{NO_LINK, Step, check};
-use exercise_model::{Cause, LogEntry, Recording, Station};
+use exercise_model::{Cause, Recording};
 use std::alloc::Global;
-
-/// A Create Entity 1 of exercise 1, from 1:1:0 to 2:3:7.
-const CREATE: [u8; 28] = [
-    7, 1, 11, 5, 0, 0, 0, 0, 0, 28, 0, 0, 0, 1, 0, 1, 0, 0, 0, 2, 0, 3, 0, 7, 0, 0, 0, 1,
-];
-
-/// The Acknowledge of it, able to comply, from 2:3:7 to 1:1:0.
-const ABLE: [u8; 32] = [
-    7, 1, 15, 5, 0, 0, 0, 0, 0, 32, 0, 0, 0, 2, 0, 3, 0, 7, 0, 1, 0, 1, 0, 0, 0, 1, 0, 1, 0, 0, 0,
-    1,
-];
 
 /// A Comment without records, from 1:1:0 to 2:3:0.
 const FROM_FIRST: [u8; 32] = [
     7, 1, 22, 5, 0, 0, 0, 0, 0, 32, 0, 0, 0, 1, 0, 1, 0, 0, 0, 2, 0, 3, 0, 0, 0, 0, 0, 0, 0, 0, 0,
     0,
 ];
-
-/// A Comment without records, from 2:3:0 to 1:1:0.
-const FROM_SECOND: [u8; 32] = [
-    7, 1, 22, 5, 0, 0, 0, 0, 0, 32, 0, 0, 0, 2, 0, 3, 0, 0, 0, 1, 0, 1, 0, 0, 0, 0, 0, 0, 0, 0, 0,
-    0,
-];
-
-/// What happened at a station of an index.
-#[derive(Clone, Copy)]
-enum Done<'a> {
-    Sent(u16, &'a [u8]),
-    Received(u16, &'a [u8]),
-    Told(u16, u16, EntityState),
-}
 
 /// What a search finds: the steps of a certificate that the checker accepts, or what stands in the
 /// way.
@@ -47,41 +24,11 @@ enum Found<'a> {
     Blocks(&'a [Block]),
 }
 
-/// A recording of exercise 1 with the stations 1:1 and 2:3, where no entity is there, and nothing
-/// yet, if there is memory for it.
-fn nothing(alloc: Global) -> Option<Recording> {
-    let first = Station::new(Address::new(1, 1)?, Vec::new(alloc))?;
-    let second = Station::new(Address::new(2, 3)?, Vec::new(alloc))?;
-    Recording::start(alloc, 1, vec![in alloc; first, second].ok()?).ok()
-}
-
-/// An entry that says what was done, if there is memory for it.
-fn entry(alloc: Global, done: &Done<'_>) -> Option<LogEntry> {
-    Some(match *done {
-        Sent(station, bytes) => LogEntry::Sent {
-            station,
-            stamp: 0,
-            bytes: Vec::from_slice(alloc, bytes).ok()?,
-        },
-        Received(station, bytes) => LogEntry::Received {
-            station,
-            stamp: 0,
-            bytes: Vec::from_slice(alloc, bytes).ok()?,
-        },
-        Told(station, entity, state) => LogEntry::Told {
-            station,
-            entity,
-            state,
-        },
-    })
-}
-
-/// The recording of what the two stations did, in the order of the file, if it may be built.
+/// The recording of what the stations 1:1 and 2:3 did, where no entity is there at first, if it may
+/// be built.
 fn recorded(alloc: Global, done: &[Done<'_>]) -> Option<Recording> {
-    let mut recording = nothing(alloc)?;
-    for done in done {
-        recording.push(entry(alloc, done)?).ok()?;
-    }
+    let mut recording = started(alloc, &[&[], &[]])?;
+    add(alloc, &mut recording, done)?;
     Some(recording)
 }
 
@@ -115,23 +62,19 @@ fn nothing_is_explained_by_nothing(rt: HostRuntime) {
 
 #[test]
 fn entries_in_no_common_order_have_one_certificate(rt: HostRuntime) {
-    let done = [
-        Received(1, &CREATE),
-        Sent(1, &ABLE),
-        Sent(0, &CREATE),
-        Received(0, &ABLE),
-    ];
+    let done = [GETS, ANSWERS, ASKS, HEARS];
     let steps = [step(2, NO_LINK), step(0, 2), step(1, 0), step(3, 1)];
     assert!(rt; finds(rt.alloc(), &done, &Steps(&steps)));
 }
 
 #[test]
 fn stations_that_wait_for_each_other_are_blocked(rt: HostRuntime) {
+    let from_second = comment(NONE);
     let done = [
-        Received(0, &FROM_SECOND),
+        Received(0, &from_second),
         Sent(0, &FROM_FIRST),
         Received(1, &FROM_FIRST),
-        Sent(1, &FROM_SECOND),
+        Sent(1, &from_second),
     ];
     let first = Block {
         station: 0,
@@ -148,7 +91,7 @@ fn stations_that_wait_for_each_other_are_blocked(rt: HostRuntime) {
 
 #[test]
 fn a_station_that_can_go_on_is_not_blocked(rt: HostRuntime) {
-    let done = [Told(1, 7, EntityState::Running), Sent(0, &CREATE)];
+    let done = [Told(1, 7, EntityState::Running), ASKS];
     let told = Block {
         station: 1,
         entry: 0,

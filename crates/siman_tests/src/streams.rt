@@ -1,16 +1,33 @@
 //! Readers and writers that fail.
 
+use std::alloc::Global;
 use std::io;
 use std::io::{ErrorKind, Read, Write};
 
 /// A reader that gives at most `most` bytes a call, and whose call of this number fails, from 1.
 #[derive(Drop)]
 pub(crate) struct FailingReader<'a> {
-    pub(crate) left: &'a [u8],
-    pub(crate) most: usize,
-    pub(crate) calls: u64,
-    pub(crate) fails_at: u64,
-    pub(crate) kind: ErrorKind,
+    left: &'a [u8],
+    most: usize,
+    calls: u64,
+    fails_at: u64,
+    kind: ErrorKind,
+}
+
+/// Such a reader of these bytes.
+pub(crate) fn failing_reader(
+    left: &[u8],
+    most: usize,
+    fails_at: u64,
+    kind: ErrorKind,
+) -> FailingReader<'_> {
+    FailingReader {
+        left,
+        most,
+        calls: 0,
+        fails_at,
+        kind,
+    }
 }
 
 impl Read for FailingReader<'_> {
@@ -32,10 +49,26 @@ impl Read for FailingReader<'_> {
 #[derive(Drop)]
 pub(crate) struct FailingWriter {
     pub(crate) kept: Vec<u8>,
-    pub(crate) most: usize,
-    pub(crate) calls: u64,
-    pub(crate) fails_at: u64,
-    pub(crate) kind: Option<ErrorKind>,
+    most: usize,
+    calls: u64,
+    fails_at: u64,
+    kind: Option<ErrorKind>,
+}
+
+/// Such a writer.
+pub(crate) fn failing_writer(
+    alloc: Global,
+    most: usize,
+    fails_at: u64,
+    kind: Option<ErrorKind>,
+) -> FailingWriter {
+    FailingWriter {
+        kept: Vec::new(alloc),
+        most,
+        calls: 0,
+        fails_at,
+        kind,
+    }
 }
 
 impl Write for FailingWriter {

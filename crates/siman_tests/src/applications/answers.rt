@@ -3,6 +3,7 @@
 use crate::applications::datagrams::*;
 use crate::applications::scenes::Step::{Delivered, Holds, HoldsBits, Stands};
 use crate::applications::scenes::*;
+use crate::datagrams::{ABLE, ANY, CREATE, NONE, acknowledge, create, of, remove, start};
 use dis_records::EntityState::{Absent, Running, Stopped};
 use dis_records::{EntityState, FixedDatum};
 use siman_application::{AppFault, Application};
@@ -131,8 +132,8 @@ fn first_otherwise_in_a_crowd(
 
 #[test]
 fn a_full_station_creates_nothing(rt: HostRuntime) -> Result<(), Fail> {
-    let create = order(11, 0xFF, 0xFE, 1);
-    let unable = acknowledge(0, 1, 2, 1);
+    let create = create(ANY, 1);
+    let unable = acknowledge(NONE, 1, 2, 1);
     let steps: [Step<'_, '_>; 1] = [Delivered(&create, 0, &unable)];
     assert_eq!(rt; first_otherwise_in_a_crowd(rt.alloc(), 4096, &steps)?, None);
     Ok(())
@@ -154,11 +155,9 @@ fn a_station_with_more_entities_is_refused(rt: HostRuntime) -> Result<(), Fail> 
 
 #[test]
 fn another_order_under_a_known_identifier_gets_none(rt: HostRuntime) -> Result<(), Fail> {
-    let create = order(11, 0, 7, 1);
-    let able = acknowledge(7, 1, 1, 1);
-    let other = order(11, 0, 8, 1);
+    let other = create(of(8), 1);
     let steps: [Step<'_, '_>; 3] = [
-        Delivered(&create, 0, &able),
+        Delivered(&CREATE, 0, &ABLE),
         Delivered(&other, 0, &[]),
         Stands(8, Absent),
     ];
@@ -168,12 +167,13 @@ fn another_order_under_a_known_identifier_gets_none(rt: HostRuntime) -> Result<(
 
 #[test]
 fn entities_are_created_and_removed(rt: HostRuntime) -> Result<(), Fail> {
-    let create = order(11, 0xFF, 0xFE, 1);
-    let created = acknowledge(1, 1, 1, 1);
-    let removed = acknowledge(0, 2, 1, 4);
+    let create = create(ANY, 1);
+    let created = acknowledge(of(1), 1, 1, 1);
+    let remove = remove([0xFF; 6], 4);
+    let removed = acknowledge(NONE, 2, 1, 4);
     let steps: [Step<'_, '_>; 5] = [
         Delivered(&create, 0, &created),
-        Delivered(&REMOVAL, 0, &removed),
+        Delivered(&remove, 0, &removed),
         Stands(1, Absent),
         Stands(7, Absent),
         Stands(9, Absent),
@@ -184,10 +184,10 @@ fn entities_are_created_and_removed(rt: HostRuntime) -> Result<(), Fail> {
 
 #[test]
 fn what_is_not_there_is_not_made_or_started(rt: HostRuntime) -> Result<(), Fail> {
-    let create = order(11, 0, 0, 2);
-    let not_created = acknowledge(0, 1, 2, 2);
-    let start = start(8, 3);
-    let not_started = acknowledge(8, 3, 2, 3);
+    let create = create(NONE, 2);
+    let not_created = acknowledge(NONE, 1, 2, 2);
+    let start = start(of(8), 3);
+    let not_started = acknowledge(of(8), 3, 2, 3);
     let steps: [Step<'_, '_>; 4] = [
         Delivered(&create, 0, &not_created),
         Delivered(&start, 0, &not_started),
@@ -209,7 +209,8 @@ fn actions_are_for_entities_that_are_there(rt: HostRuntime) -> Result<(), Fail> 
 
 #[test]
 fn what_is_for_another_station_gets_none(rt: HostRuntime) -> Result<(), Fail> {
-    let steps: [Step<'_, '_>; 1] = [Delivered(&ELSEWHERE, 0, &[])];
+    let elsewhere = create([0, 2, 0, 4, 0, 7], 6);
+    let steps: [Step<'_, '_>; 1] = [Delivered(&elsewhere, 0, &[])];
     assert_eq!(rt; first_otherwise(rt.alloc(), &PEOPLED, &steps)?, None);
     Ok(())
 }

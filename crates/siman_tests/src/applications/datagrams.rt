@@ -1,36 +1,4 @@
-//! Literal datagrams.
-
-/// A Create Entity (11) or Remove Entity (12) from 1:1:0 to 2:3, for the number of these two bytes.
-pub(crate) fn order(kind: u8, high: u8, low: u8, id: u8) -> [u8; 28] {
-    [
-        7, 1, kind, 5, 0, 0, 0, 0, 0, 28, 0, 0, 0, 1, 0, 1, 0, 0, 0, 2, 0, 3, high, low, 0, 0, 0,
-        id,
-    ]
-}
-
-/// A Start/Resume from 1:1:0 to 2:3, for an entity.
-pub(crate) fn start(entity: u8, id: u8) -> [u8; 44] {
-    [
-        7, 1, 13, 5, 0, 0, 0, 0, 0, 44, 0, 0, 0, 1, 0, 1, 0, 0, 0, 2, 0, 3, 0, entity, 0, 0, 0, 0,
-        0, 0, 0, 0, 0, 0, 0, 0, 0, 0, 0, 0, 0, 0, 0, id,
-    ]
-}
-
-/// A Stop/Freeze from 1:1:0 to 2:3, for an entity.
-pub(crate) fn stop(entity: u8, id: u8) -> [u8; 40] {
-    [
-        7, 1, 14, 5, 0, 0, 0, 0, 0, 40, 0, 0, 0, 1, 0, 1, 0, 0, 0, 2, 0, 3, 0, entity, 0, 0, 0, 0,
-        0, 0, 0, 0, 0, 0, 0, 0, 0, 0, 0, id,
-    ]
-}
-
-/// An Acknowledge from 2:3 to 1:1:0.
-pub(crate) fn acknowledge(entity: u8, flag: u8, response: u8, id: u8) -> [u8; 32] {
-    [
-        7, 1, 15, 5, 0, 0, 0, 0, 0, 32, 0, 0, 0, 2, 0, 3, 0, entity, 0, 1, 0, 1, 0, 0, 0, flag, 0,
-        response, 0, 0, 0, id,
-    ]
-}
+//! Literal datagrams of data and actions.
 
 /// Set Data from 1:1:0 to 2:3:0: 10 is so much.
 pub(crate) fn setting(value: u8, id: u8) -> [u8; 48] {
@@ -94,12 +62,6 @@ pub(crate) const VARIABLE_AGAIN: [u8; 56] = [
     0, 0, 0, 0, 0, 0, 0, 0, 1, 0, 0, 0, 5, 0, 0, 0, 40, 0x48, 0x45, 0x4C, 0x4C, 0x4F, 0, 0, 0,
 ];
 
-/// Remove Entity 4 from 1:1:0 to 65535:65535:65535.
-pub(crate) const REMOVAL: [u8; 28] = [
-    7, 1, 12, 5, 0, 0, 0, 0, 0, 28, 0, 0, 0, 1, 0, 1, 0, 0, 255, 255, 255, 255, 255, 255, 0, 0, 0,
-    4,
-];
-
 /// Action Request 5 from 1:1:0 to 2:3:9 for action 8, without datums.
 pub(crate) const ACTION: [u8; 40] = [
     7, 1, 16, 5, 0, 0, 0, 0, 0, 40, 0, 0, 0, 1, 0, 1, 0, 0, 0, 2, 0, 3, 0, 9, 0, 0, 0, 5, 0, 0, 0,
@@ -116,9 +78,4 @@ pub(crate) const COMPLETE: [u8; 40] = [
 pub(crate) const REJECTED: [u8; 40] = [
     7, 1, 17, 5, 0, 0, 0, 0, 0, 40, 0, 0, 0, 2, 0, 3, 0, 9, 0, 1, 0, 1, 0, 0, 0, 0, 0, 5, 0, 0, 0,
     5, 0, 0, 0, 0, 0, 0, 0, 0,
-];
-
-/// Create Entity 6 from 1:1:0 to 2:4:7.
-pub(crate) const ELSEWHERE: [u8; 28] = [
-    7, 1, 11, 5, 0, 0, 0, 0, 0, 28, 0, 0, 0, 1, 0, 1, 0, 0, 0, 2, 0, 4, 0, 7, 0, 0, 0, 6,
 ];

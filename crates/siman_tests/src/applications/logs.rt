@@ -7,8 +7,8 @@ ghost use Rattle.siman_pdus.specs.Role.{is_request_body};
 ghost use Rattle.siman_pdus.specs.Spelling.{pdu_size};
 ghost use Rattle.siman_application.specs.OwnLog.{Orders, Takes, log_in, AnswersStand};
 
-use crate::applications::datagrams::*;
 use crate::applications::scenes::station;
+use crate::datagrams::{CREATE, SEVEN, start};
 use dis_records::EntityState;
 use exercise_model::Station;
 use siman_application::{AppFault, Application, own_logs_stand};
@@ -44,10 +44,9 @@ fn state_of_seven(alloc: Global, order: &[u8], request: &[u8]) -> Result<EntityS
 
 #[test]
 fn an_answer_stands(rt: HostRuntime) -> Result<(), Fail> {
-    let start = start(7, 1);
-    let create = order(11, 0, 7, 1);
+    let start = start(SEVEN, 1);
     assert_eq!(rt;
-        state_of_seven(rt.alloc(), &start, &create)?,
+        state_of_seven(rt.alloc(), &start, &CREATE)?,
         EntityState::Absent
     );
     Ok(())

@@ -1,8 +1,9 @@
 //! Requests that come again.
 
-use crate::applications::datagrams::*;
+use crate::applications::datagrams::setting;
 use crate::applications::scenes::Step::{Holds, Stands};
 use crate::applications::scenes::*;
+use crate::datagrams::{create, of, remove, start, stop};
 use dis_records::EntityState::{Absent, Running, Stopped};
 use dis_records::FixedDatum;
 use siman_application::Application;
@@ -20,11 +21,11 @@ const OPENING: Opening<'static> = Opening {
 /// Delivers the k-th of thirty datagrams: requests for the entities 1 to 7 in turn, and for the
 /// datum 10.
 fn deliver(alloc: Global, application: &mut Application, k: u8, stamp: u32) -> Result<(), Fail> {
-    let entity = 1 + k % 7;
-    let create = order(11, 0, entity, k);
+    let entity = of(1 + k % 7);
+    let create = create(entity, k);
     let start = start(entity, k);
     let setting = setting(k, k);
-    let remove = order(12, 0, entity, k);
+    let remove = remove(entity, k);
     let stop = stop(entity, k);
     let datagram: &[u8] = match k % 10 {
         0 | 1 | 5 | 6 => &create,

@@ -1,6 +1,7 @@
 //! What an application opens with, and what is then delivered to it, step by step.
 
-use dis_records::{Address, EntityState, FixedDatum, VariableDatum};
+use crate::scenes;
+use dis_records::{EntityState, FixedDatum, VariableDatum};
 use exercise_model::Station;
 use siman_application::Application;
 use siman_pdus::{decode, encode};
@@ -33,9 +34,7 @@ pub(crate) enum Step<'d, 'a> {
 
 /// The station 2:3 with these entities.
 pub(crate) fn station(alloc: Global, opening: &[(u16, EntityState)]) -> Result<Station, Fail> {
-    let address = Address::new(2, 3).ok_or("an address")?;
-    let opening = Vec::from_slice(alloc, opening)?;
-    Ok(Station::new(address, opening).ok_or("an opening")?)
+    Ok(scenes::station(alloc, 2, 3, opening).ok_or("a station")?)
 }
 
 /// The variable datums of a table.

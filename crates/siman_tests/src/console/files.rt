@@ -1,11 +1,10 @@
 //! Files that `check` cannot read, and answers that it cannot write.
 
-use super::scenes::Done::{Received, Sent};
-use super::scenes::*;
 use super::{Left, is_checked, leaves};
-use crate::datagrams::*;
-use crate::streams::{FailingReader, FailingWriter};
-use exercise_check::{CertificateFault, CertificateFormatFault};
+use crate::scenes::files::*;
+use crate::scenes::*;
+use crate::streams::{failing_reader, failing_writer};
+use exercise_check::{CertificateFault, CertificateFormatFault, NO_LINK};
 use exercise_recording::{FormatFault, RecordingFault};
 use siman_console::{FilesFault, check_command, check_files};
 use std::alloc::Global;
@@ -14,38 +13,15 @@ use std::io::ErrorKind;
 /// The recording of a Create Entity and its Acknowledge, sent and received, if there is memory for
 /// it.
 fn created(alloc: Global) -> Option<Vec<u8>> {
-    let (create, able) = (create(SEVEN, 1), acknowledge(SEVEN, 1, 1, 1));
-    let done = [
-        Sent(0, &create),
-        Received(1, &create),
-        Sent(1, &able),
-        Received(0, &able),
-    ];
-    recording(alloc, &[ONE, TWO], &done)
+    recording(alloc, &[&[], &[]], &[ASKS, GETS, ANSWERS, HEARS], &[])
 }
 
 /// The steps of the certificate that explains it.
-const EXPLAINED: [(u8, u32); 4] = [(0, N), (1, 0), (2, 1), (3, 2)];
-
-/// What is said of them, 80 bytes.
-const CREATED_TEXT: &str =
-    "yes records=4 others=0\nanswer 2 request 1\nknown 3 change 2\nentity 2:3:7 stopped\n";
+const EXPLAINED: [(u32, u32); 4] = [(0, NO_LINK), (1, 0), (2, 1), (3, 2)];
 
 /// Both files, if there is memory for them.
 fn created_and_explained(alloc: Global) -> Option<(Vec<u8>, Vec<u8>)> {
     Some((created(alloc)?, certificate(alloc, &EXPLAINED)?))
-}
-
-/// What `check` of both leaves is this, if there is memory for them.
-fn explained_leaves(alloc: Global, left: Left<'_>) -> Option<bool> {
-    let (recording, good) = created_and_explained(alloc)?;
-    Some(is_checked(alloc, recording.as_slice(), good.as_slice(), left))
-}
-
-#[test]
-fn a_pair_and_its_change_are_reported(rt: HostRuntime) {
-    let left = (0, CREATED_TEXT, "");
-    assert_eq!(rt; explained_leaves(rt.alloc(), left), Some(true));
 }
 
 /// Two files, and the answer to them.
@@ -71,7 +47,7 @@ fn first_of_answers_otherwise(alloc: Global, text: &str) -> Option<Option<usize>
     let no_certificate = CertificateFault::Format(CertificateFormatFault::Truncated(0));
     let rows: [Answered<'_>; 4] = [
         (&recording, &good, Ok(true)),
-        (&recording, NO_STEPS, Ok(false)),
+        (&recording, NO_STEPS.as_slice(), Ok(false)),
         (&[], &good, Err(FilesFault::Recording(no_recording))),
         (
             &recording,
@@ -104,7 +80,14 @@ fn is_cut(
 /// The first size at which a recording that is cut off is not told as truncated there.
 fn first_recording_otherwise(alloc: Global, recording: &[u8]) -> Option<usize> {
     for size in 0..recording.len() {
-        if is_cut(alloc, "recording", &recording[..size], NO_STEPS, size) != Some(true) {
+        if is_cut(
+            alloc,
+            "recording",
+            &recording[..size],
+            NO_STEPS.as_slice(),
+            size,
+        ) != Some(true)
+        {
             return Some(size);
         }
     }
@@ -114,7 +97,7 @@ fn first_recording_otherwise(alloc: Global, recording: &[u8]) -> Option<usize> {
 /// The number of the first recording, from 0, of which `check` tells something else.
 fn first_recording_told_otherwise(alloc: Global, recordings: &[(&[u8], &str)]) -> Option<usize> {
     for (i, (recording, told)) in recordings.iter().enumerate() {
-        if !is_checked(alloc, *recording, NO_STEPS, (2, "", *told)) {
+        if !is_checked(alloc, *recording, NO_STEPS.as_slice(), (2, "", *told)) {
             return Some(i);
         }
     }
@@ -127,7 +110,7 @@ fn a_damaged_recording_is_told(rt: HostRuntime) {
     longer[..25].copy_from_slice(&ONE_STATION);
     let recordings: [(&[u8], &str); 2] = [
         (&longer, "recording: trailing at 25\n"),
-        (NO_STEPS, "recording: magic at 0\n"),
+        (NO_STEPS.as_slice(), "recording: magic at 0\n"),
     ];
     assert_eq!(rt; first_recording_otherwise(rt.alloc(), &ONE_STATION), None);
     assert_eq!(rt;
@@ -200,24 +183,13 @@ fn of_two_damaged_files_the_recording_is_told(rt: HostRuntime) {
     );
 }
 
-/// A reader whose first call fails, or its second where it has more than ten bytes.
-fn failing(left: &[u8], fails_at: u64) -> FailingReader<'_> {
-    FailingReader {
-        left,
-        most: 10,
-        calls: 0,
-        fails_at,
-        kind: ErrorKind::Other,
-    }
-}
-
-/// Whether it is told of each file that the call of this number to read it fails, from 1, if there
+/// Whether it is told of each file that the call of this number to read ten bytes of it fails, from 1, if there
 /// is memory for them.
 fn unread_are_told(alloc: Global, fails_at: u64) -> Option<bool> {
     let (recording, good) = created_and_explained(alloc)?;
-    let unread = failing(&recording, fails_at);
+    let unread = failing_reader(&recording, 10, fails_at, ErrorKind::Other);
     let recording_told = is_checked(alloc, unread, good.as_slice(), (2, "", "recording: read\n"));
-    let unread = failing(&good, fails_at);
+    let unread = failing_reader(&good, 10, fails_at, ErrorKind::Other);
     let left = (2, "", "certificate: read\n");
     Some(recording_told && is_checked(alloc, recording.as_slice(), unread, left))
 }
@@ -228,21 +200,11 @@ fn files_that_cannot_be_read_are_told(rt: HostRuntime) {
     assert_eq!(rt; unread_are_told(rt.alloc(), 2), Some(true));
 }
 
-/// A writer that takes at most so many bytes a call, and whose call of this number fails, from 1.
-fn unwritten(alloc: Global, most: usize, fails_at: u64) -> FailingWriter {
-    FailingWriter {
-        kept: Vec::new(alloc),
-        most,
-        calls: 0,
-        fails_at,
-        kind: Some(ErrorKind::Other),
-    }
-}
-
-/// Whether `check` of both files leaves this with such a writer, if there is memory for them.
+/// Whether `check` of both files leaves this with a writer that takes at most so many bytes a call,
+/// and whose call of this number fails, from 1, if there is memory for them.
 fn unwritten_leaves(alloc: Global, most: usize, fails_at: u64, left: Left<'_>) -> Option<bool> {
     let (recording, good) = created_and_explained(alloc)?;
-    let mut out = unwritten(alloc, most, fails_at);
+    let mut out = failing_writer(alloc, most, fails_at, Some(ErrorKind::Other));
     let mut told = Vec::new(alloc);
     let ended = check_command(
         alloc,
@@ -285,8 +247,8 @@ fn a_report_that_cannot_be_written_leaves_a_prefix(rt: HostRuntime) {
 /// recording.
 fn unwritten_no_keeps(alloc: Global, most: usize, fails_at: u64, kept: &str) -> Option<bool> {
     let recording = created(alloc)?;
-    let mut out = unwritten(alloc, most, fails_at);
-    let answer = check_files(alloc, recording.as_slice(), NO_STEPS, &mut out);
+    let mut out = failing_writer(alloc, most, fails_at, Some(ErrorKind::Other));
+    let answer = check_files(alloc, recording.as_slice(), NO_STEPS.as_slice(), &mut out);
     Some(answer == Err(FilesFault::Write) && out.kept.as_slice() == kept.as_bytes())
 }
 

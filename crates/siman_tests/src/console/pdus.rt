@@ -1,18 +1,11 @@
 //! Datagrams in hex text, shown or refused.
 
-use super::{Left, leaves};
-use crate::streams::{FailingReader, FailingWriter};
-use dis_records::HeaderFault;
+use super::{CREATE, CREATE_TEXT, Left, leaves};
+use crate::streams::{failing_reader, failing_writer};
 use siman_console::{pdu_command, pdu_from};
-use siman_pdus::PduFault;
 use std::alloc::Global;
+use std::io::ErrorKind::{Interrupted, Other};
 use std::io::{ErrorKind, Read};
-
-/// A Create Entity of 28 bytes, and its one line.
-const CREATE: &str = "07010B0500000000001C000000010001000000020003000700000001";
-
-const CREATE_TEXT: &str =
-    "create-entity version=7 exercise=1 stamp=0 status=0 from=1:1:0 to=2:3:7 request=1\n";
 
 /// A Comment with one variable record, and its two lines.
 const COMMENT: &str =
@@ -162,31 +155,6 @@ fn a_refusal_has_its_number_and_its_place(rt: HostRuntime) {
     assert_eq!(rt; first_shown_otherwise(rt.alloc(), 1, &rows), None);
 }
 
-/// The first fault that has another number than its own.
-fn first_numbered_otherwise(faults: &[(PduFault, u8)]) -> Option<PduFault> {
-    for (fault, number) in faults {
-        if fault.number() != *number {
-            return Some(*fault);
-        }
-    }
-    None
-}
-
-#[test]
-fn refusals_are_numbered_in_their_order(rt: HostRuntime) {
-    let faults = [
-        (PduFault::Header(HeaderFault::Truncated), 1),
-        (PduFault::Header(HeaderFault::Version(6)), 2),
-        (PduFault::Header(HeaderFault::Family(1)), 3),
-        (PduFault::Header(HeaderFault::Kind(23)), 4),
-        (PduFault::Header(HeaderFault::Long), 5),
-        (PduFault::Header(HeaderFault::LengthField(40)), 6),
-        (PduFault::BodyShort(12), 7),
-        (PduFault::BodyLong(28), 8),
-    ];
-    assert_eq!(rt; first_numbered_otherwise(&faults), None);
-}
-
 /// A text, then `00` so many times, and then another text, if there is memory for it.
 fn with_zeros(alloc: Global, before: &str, times: u32, after: &str) -> Option<String> {
     let mut text = String::from_str(alloc, before).ok()?;
@@ -312,13 +280,7 @@ fn create_is_read(
     kind: ErrorKind,
     left: Left<'_>,
 ) -> bool {
-    let reader = FailingReader {
-        left: CREATE.as_bytes(),
-        most,
-        calls: 0,
-        fails_at,
-        kind,
-    };
+    let reader = failing_reader(CREATE.as_bytes(), most, fails_at, kind);
     is_read(alloc, reader, left)
 }
 
@@ -341,9 +303,8 @@ fn first_reader_otherwise(
 fn input_comes_in_pieces_and_reads_are_interrupted(rt: HostRuntime) {
     let readers = [(1, 0), (7, 3), (1000, 1), (1000, 2)];
     let left = (0, CREATE_TEXT, "");
-    let kind = ErrorKind::Interrupted;
     assert_eq!(rt;
-        first_reader_otherwise(rt.alloc(), &readers, kind, left),
+        first_reader_otherwise(rt.alloc(), &readers, Interrupted, left),
         None
     );
 }
@@ -352,9 +313,8 @@ fn input_comes_in_pieces_and_reads_are_interrupted(rt: HostRuntime) {
 fn a_failed_read_is_told_and_nothing_is_out(rt: HostRuntime) {
     let readers = [(10, 1), (10, 2), (1000, 1), (1000, 2)];
     let left = (2, "", "file: -\n");
-    let kind = ErrorKind::Other;
     assert_eq!(rt;
-        first_reader_otherwise(rt.alloc(), &readers, kind, left),
+        first_reader_otherwise(rt.alloc(), &readers, Other, left),
         None
     );
 }
@@ -366,23 +326,14 @@ fn is_begun(ended: u8, out: &[u8], told: &[u8], status: u8, size: usize) -> bool
     ended == status && told == fault.as_bytes() && COMMENT_TEXT.as_bytes().get(..size) == Some(out)
 }
 
-/// Whether a writer that takes so many bytes a call, and whose call of this number fails so, from
-/// 1, gets so many bytes of the Comment's text, with this status.
-fn comment_is_begun(
-    alloc: Global,
-    most: usize,
-    fails_at: u64,
-    kind: ErrorKind,
-    status: u8,
-    size: usize,
-) -> bool {
-    let mut out = FailingWriter {
-        kept: Vec::new(alloc),
-        most,
-        calls: 0,
-        fails_at,
-        kind: Some(kind),
-    };
+/// How many bytes a writer takes a call, the number of its call that fails, from 1, and how, and
+/// how many bytes of the Comment's text it gets, with which status.
+type Begun = (usize, u64, ErrorKind, u8, usize);
+
+/// Whether it goes so with a writer.
+fn comment_is_begun(alloc: Global, begun: Begun) -> bool {
+    let (most, fails_at, kind, status, size) = begun;
+    let mut out = failing_writer(alloc, most, fails_at, Some(kind));
     let mut told = Vec::new(alloc);
     let ended = pdu_command(alloc, COMMENT, &mut out, &mut told);
     is_begun(ended, &out.kept, &told, status, size)
@@ -391,18 +342,17 @@ fn comment_is_begun(
 /// The first size that is not what a writer of one byte a call gets, whose next call fails.
 fn first_size_otherwise(alloc: Global) -> Option<usize> {
     for size in 0..COMMENT_TEXT.len() {
-        if !comment_is_begun(alloc, 1, size as u64 + 1, ErrorKind::Other, 2, size) {
+        if !comment_is_begun(alloc, (1, size as u64 + 1, Other, 2, size)) {
             return Some(size);
         }
     }
     None
 }
 
-/// The number of the first call, from 0, whose failure leaves a writer of 50 bytes a call another
-/// size.
-fn first_fifties_otherwise(alloc: Global, calls: &[(u64, usize)]) -> Option<usize> {
-    for (i, (fails_at, size)) in calls.iter().enumerate() {
-        if !comment_is_begun(alloc, 50, *fails_at, ErrorKind::Other, 2, *size) {
+/// The number of the first writer, from 0, with which it goes otherwise.
+fn first_begun_otherwise(alloc: Global, rows: &[Begun]) -> Option<usize> {
+    for (i, begun) in rows.iter().enumerate() {
+        if !comment_is_begun(alloc, *begun) {
             return Some(i);
         }
     }
@@ -411,26 +361,23 @@ fn first_fifties_otherwise(alloc: Global, calls: &[(u64, usize)]) -> Option<usiz
 
 #[test]
 fn a_failed_write_leaves_a_prefix(rt: HostRuntime) {
-    let fifties = [(1, 0), (2, 50), (3, 100)];
+    let rows: [Begun; 3] = [
+        (50, 1, Other, 2, 0),
+        (50, 2, Other, 2, 50),
+        (50, 3, Other, 2, 100),
+    ];
     assert_eq!(rt; first_size_otherwise(rt.alloc()), None);
-    assert_eq!(rt; first_fifties_otherwise(rt.alloc(), &fifties), None);
-}
-
-/// The number of the first writer, from 0, which takes so many bytes a call and is interrupted at
-/// a call, that does not get the whole text.
-fn first_not_whole(alloc: Global, writers: &[(usize, u64)]) -> Option<usize> {
-    let whole = COMMENT_TEXT.len();
-    for (i, (most, fails_at)) in writers.iter().enumerate() {
-        if !comment_is_begun(alloc, *most, *fails_at, ErrorKind::Interrupted, 0, whole) {
-            return Some(i);
-        }
-    }
-    None
+    assert_eq!(rt; first_begun_otherwise(rt.alloc(), &rows), None);
 }
 
 #[test]
 fn a_writer_may_take_parts_or_be_interrupted_but_not_take_nothing(rt: HostRuntime) {
-    let writers = [(1, 0), (50, 2), (1000, 1)];
-    assert_eq!(rt; first_not_whole(rt.alloc(), &writers), None);
-    assert!(rt; comment_is_begun(rt.alloc(), 0, 0, ErrorKind::Other, 2, 0));
+    let whole = COMMENT_TEXT.len();
+    let rows: [Begun; 4] = [
+        (1, 0, Interrupted, 0, whole),
+        (50, 2, Interrupted, 0, whole),
+        (1000, 1, Interrupted, 0, whole),
+        (0, 0, Other, 2, 0),
+    ];
+    assert_eq!(rt; first_begun_otherwise(rt.alloc(), &rows), None);
 }

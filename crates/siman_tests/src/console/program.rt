@@ -1,7 +1,8 @@
 //! The whole way from the words of a command line to the status, over files in memory.
 
-use super::{Left, leaves};
-use crate::streams::FailingWriter;
+use super::{CREATE, CREATE_TEXT, Left, leaves};
+use crate::scenes::files::{NO_STEPS, ONE_STATION};
+use crate::streams::failing_writer;
 use siman_console::{Outside, run};
 use std::alloc::Global;
 use std::io;
@@ -39,24 +40,10 @@ impl<'a> Outside for Shelf<'a> {
     }
 }
 
-/// Station 2:3 alone, entity 7 stopped, no entries.
-const RECORDING: [u8; 25] = [
-    0x44, 0x53, 0x52, 0x43, 0x30, 0x30, 0x30, 0x31, 0x01, 0x00, 0x01, 0x00, 0x02, 0x00, 0x03, 0x00,
-    0x01, 0x00, 0x07, 0x01, 0x00, 0x00, 0x00, 0x00, 0x00,
-];
-
-/// A certificate of no steps.
-const CERTIFICATE: [u8; 12] = [
-    0x44, 0x53, 0x43, 0x54, 0x30, 0x30, 0x30, 0x31, 0x00, 0x00, 0x00, 0x00,
-];
-
-/// A Create Entity as hex text.
-const CREATE: &str = "07010B0500000000001C000000010001000000020003000700000001";
-
 /// The files that stand there.
 const FILES: [(&str, Result<&[u8], ErrorKind>); 4] = [
-    ("recording", Ok(&RECORDING)),
-    ("certificate", Ok(&CERTIFICATE)),
+    ("recording", Ok(&ONE_STATION)),
+    ("certificate", Ok(&NO_STEPS)),
     ("shut", Err(ErrorKind::PermissionDenied)),
     ("large", Err(ErrorKind::OutOfMemory)),
 ];
@@ -161,12 +148,10 @@ fn files_are_opened_in_the_order_of_the_words(rt: HostRuntime) {
 
 #[test]
 fn datagrams_are_shown_with_no_file(rt: HostRuntime) {
-    let text =
-        "create-entity version=7 exercise=1 stamp=0 status=0 from=1:1:0 to=2:3:7 request=1\n";
     let rows: [(&[&str], &str, Left<'_>); 5] = [
-        (&["siman"], "", (0, text, "")),
-        (&[], "", (0, text, "")),
-        (&["siman", "pdu", CREATE], "", (0, text, "")),
+        (&["siman"], "", (0, CREATE_TEXT, "")),
+        (&[], "", (0, CREATE_TEXT, "")),
+        (&["siman", "pdu", CREATE], "", (0, CREATE_TEXT, "")),
         (
             &["siman", "pdu", "07"],
             "",
@@ -219,13 +204,7 @@ fn tells_a_part(alloc: Global, words: &[&str], fails_at: u64, status: u8, told: 
         asked: Vec::new(alloc),
     };
     let mut out = Vec::new(alloc);
-    let mut errors = FailingWriter {
-        kept: Vec::new(alloc),
-        most: 1,
-        calls: 0,
-        fails_at,
-        kind: None,
-    };
+    let mut errors = failing_writer(alloc, 1, fails_at, None);
     let input: &[u8] = b"";
     let ended = run(alloc, words, &mut shelf, input, &mut out, &mut errors);
     let part = leaves(ended.status, &out, &errors.kept, (status, "", told));

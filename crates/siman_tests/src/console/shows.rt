@@ -1,8 +1,8 @@
 //! Recordings, shown line by line.
 
-use super::scenes::ONE_STATION;
 use super::{Left, leaves};
-use crate::streams::{FailingReader, FailingWriter};
+use crate::scenes::files::ONE_STATION;
+use crate::streams::{failing_reader, failing_writer};
 use siman_console::show_command;
 use std::alloc::Global;
 use std::io::{ErrorKind, Read};
@@ -74,13 +74,7 @@ fn a_damaged_recording_is_told_by_its_first_fault(rt: HostRuntime) {
 
 /// Whether it is told that the call of this number to read ten bytes fails, from 1.
 fn unread_is_told(alloc: Global, fails_at: u64) -> bool {
-    let reader = FailingReader {
-        left: &ONE_STATION,
-        most: 10,
-        calls: 0,
-        fails_at,
-        kind: ErrorKind::Other,
-    };
+    let reader = failing_reader(&ONE_STATION, 10, fails_at, ErrorKind::Other);
     is_shown(alloc, reader, (2, "", "recording: read\n"))
 }
 
@@ -94,13 +88,7 @@ fn a_recording_that_cannot_be_read_is_told(rt: HostRuntime) {
 /// entries fails, from 1, and the start of its text is out, if there is memory for it.
 fn unwritten_is_told(alloc: Global, fails_at: u64) -> Option<bool> {
     let five = hex::decode(alloc, FIVE_ENTRIES).ok()?;
-    let mut out = FailingWriter {
-        kept: Vec::new(alloc),
-        most: 20,
-        calls: 0,
-        fails_at,
-        kind: Some(ErrorKind::Other),
-    };
+    let mut out = failing_writer(alloc, 20, fails_at, Some(ErrorKind::Other));
     let mut told = Vec::new(alloc);
     let ended = show_command(alloc, five.as_slice(), &mut out, &mut told);
     Some(ended == 2 && told.as_slice() == b"output: write\n".as_slice() && is_start(&out.kept))

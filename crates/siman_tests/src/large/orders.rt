@@ -1,14 +1,12 @@
 //! Many requests to one application, and many orders to one manager.
 
-ghost use Rattle.std.specs.Prelude.{IsTrue};
-ghost use Rattle.siman_pdus.specs.Role.{is_request_body};
-
 use super::exchanges::{create, created, data, query};
-use dis_records::{Address, EntityId, Version};
-use exercise_model::Station;
+use crate::managers::{creation, creation_pdu, take};
+use crate::scenes::station;
+use dis_records::Address;
 use siman_application::Application;
-use siman_manager::{Manager, Order, Taken};
-use siman_pdus::{Body, Pdu, decode, encode};
+use siman_manager::{Manager, Taken};
+use siman_pdus::{Pdu, decode, encode};
 use std::alloc::Global;
 
 /// How many requests there are, and how many orders.
@@ -16,7 +14,7 @@ const MANY: u16 = 1000;
 
 /// An application of exercise 1 at 2:3, with nothing.
 fn application(alloc: Global) -> Option<Application> {
-    let station = Station::new(Address::new(2, 3)?, Vec::new(alloc))?;
+    let station = station(alloc, 2, 3, &[])?;
     Application::begin(alloc, 1, &station, &[], Vec::new(alloc), &[]).ok()
 }
 
@@ -75,66 +73,22 @@ fn an_application_answers_many_requests(rt: HostRuntime) {
     assert_eq!(rt; first_answered_otherwise(rt.alloc()), None);
 }
 
-/// Entity 9 of 7:8.
-const STATION: EntityId = EntityId {
-    site: 7,
-    application: 8,
-    entity: 9,
-};
-
-/// The manager's address, with the entity number of its PDUs.
-const MANAGER: EntityId = EntityId {
-    site: 2,
-    application: 5,
-    entity: 0,
-};
-
 /// A manager of exercise 3 at 2:5, whose first order is 1, which tries once and waits for 10.
 fn manager(alloc: Global) -> Option<Manager> {
     Some(Manager::begin(alloc, 3, Address::new(2, 5)?, 1, 1, 10))
 }
 
-/// A Create Entity for the station.
-fn creation() -> Order
-    ensures { IsTrue (is_request_body result.body) }
-{
-    Order {
-        target: STATION,
-        body: Body::CreateEntity { request: 0 },
-    }
-}
-
-/// A PDU of the exercise with this body.
-fn pdu(origin: EntityId, target: EntityId, body: Body) -> Pdu {
-    Pdu {
-        version: Version::V7,
-        exercise: 3,
-        stamp: 0,
-        status: 0,
-        origin,
-        target,
-        body,
-    }
-}
-
 /// Whether the next order gets an identifier, and its PDU goes out under it.
 fn is_made(manager: &mut Manager, request: u32) -> bool {
     match manager.request(creation(), 0, 0) {
-        Ok((id, sent)) => {
-            id == request && *sent == pdu(MANAGER, STATION, Body::CreateEntity { request })
-        }
+        Ok((id, sent)) => id == request && *sent == creation_pdu(request, 0),
         Err(_) => false,
     }
 }
 
 /// Whether the station's Acknowledge of an order, able, settles it.
 fn is_settled(manager: &mut Manager, request: u32) -> bool {
-    let able = Body::Acknowledge {
-        flag: 1,
-        response: 1,
-        request,
-    };
-    manager.take(&pdu(STATION, MANAGER, able)) == Taken::Answered(request)
+    take(manager, 3, 1, request) == Taken::Answered(request)
 }
 
 /// The identifier of the first order that is made otherwise, if there is one.

@@ -1,12 +1,10 @@
 //! One datagram of each kind, with its bytes written field by field from the layouts.
 
+use super::{ENTITY, MANAGER};
+use crate::datagrams::CREATE;
 use dis_records::{ClockTime, EntityId, FixedDatum, VariableDatum, Version};
 use siman_pdus::*;
 use std::alloc::Global;
-
-const CREATE_ENTITY: [u8; 28] = [
-    7, 1, 0x0B, 5, 0, 0, 0, 0, 0, 0x1C, 0, 0, 0, 1, 0, 1, 0, 0, 0, 2, 0, 3, 0, 7, 0, 0, 0, 1,
-];
 
 const REMOVE_ENTITY: [u8; 28] = [
     7, 1, 0x0C, 5, 0, 0, 0, 0, 0, 0x1C, 0, 0, 0, 1, 0, 1, 0, 0, 0, 2, 0, 3, 0, 7, 0, 0, 0, 2,
@@ -235,25 +233,15 @@ fn fields(alloc: Global, bytes: &[u8]) -> Option<Fields> {
 
 #[test]
 fn the_fields_of_a_pdu(rt: HostRuntime) {
-    let origin = EntityId {
-        site: 2,
-        application: 3,
-        entity: 7,
-    };
-    let target = EntityId {
-        site: 1,
-        application: 1,
-        entity: 0,
-    };
     let head = (Version::V7, 1, 0x0102_0304, 3);
-    let expected: Option<Fields> = Some((head, origin, target, Some(40)));
+    let expected: Option<Fields> = Some((head, ENTITY, MANAGER, Some(40)));
     assert!(rt; fields(rt.alloc(), &COMMENT) == expected);
 }
 
 #[test]
 fn entities_are_created_and_removed(rt: HostRuntime) {
     let rows: [(&[u8], Says<'_>); 2] = [
-        (&CREATE_ENTITY, Says::CreateEntity(1)),
+        (&CREATE, Says::CreateEntity(1)),
         (&REMOVE_ENTITY, Says::RemoveEntity(2)),
     ];
     assert_eq!(rt; first_otherwise(rt.alloc(), &rows), None);

@@ -1,20 +1,9 @@
 //! Roles, orders and answers.
 
+use super::{ENTITY, MANAGER, id};
 use dis_records::{EntityId, Version};
 use siman_pdus::*;
 use std::alloc::Global;
-
-const MANAGER: EntityId = EntityId {
-    site: 1,
-    application: 1,
-    entity: 0,
-};
-
-const ENTITY: EntityId = EntityId {
-    site: 2,
-    application: 3,
-    entity: 7,
-};
 
 /// What a PDU of exercise 1 says: Create Entity and Remove Entity with a request identifier, an
 /// Acknowledge with response 1, a flag and a request identifier, or an Event Report of event 1.
@@ -107,11 +96,7 @@ fn compared(alloc: Global, first: Sketch, second: Sketch) -> (bool, bool) {
 
 #[test]
 fn the_same_order_at_another_time(rt: HostRuntime) {
-    let eight = EntityId {
-        site: 2,
-        application: 3,
-        entity: 8,
-    };
+    let eight = id(2, 3, 8);
     let order = ((0, 0), MANAGER, ENTITY, Says::Create(1));
     let again = ((7, 1), MANAGER, ENTITY, Says::Create(1));
     let other = ((7, 1), MANAGER, eight, Says::Create(1));
@@ -144,21 +129,9 @@ fn first_answer_otherwise(alloc: Global, rows: &[Answer]) -> Option<usize> {
 
 #[test]
 fn an_answer_fits_its_request(rt: HostRuntime) {
-    let other_station = EntityId {
-        site: 2,
-        application: 4,
-        entity: 7,
-    };
-    let other_entity = EntityId {
-        site: 2,
-        application: 3,
-        entity: 8,
-    };
-    let everybody = EntityId {
-        site: 65535,
-        application: 65535,
-        entity: 65535,
-    };
+    let other_station = id(2, 4, 7);
+    let other_entity = id(2, 3, 8);
+    let everybody = id(65535, 65535, 65535);
     let rows: [Answer; 6] = [
         (ENTITY, ENTITY, 2, 1, true),
         (ENTITY, ENTITY, 3, 1, false),
@@ -172,11 +145,7 @@ fn an_answer_fits_its_request(rt: HostRuntime) {
 
 #[test]
 fn an_answer_to_another_manager(rt: HostRuntime) {
-    let other_manager = EntityId {
-        site: 2,
-        application: 1,
-        entity: 0,
-    };
+    let other_manager = id(2, 1, 0);
     let order = ((0, 0), MANAGER, ENTITY, Says::Removal(1));
     let answer = ((0, 0), ENTITY, other_manager, Says::Acknowledge(2, 1));
     assert!(rt; !is_answered(rt.alloc(), answer, order));

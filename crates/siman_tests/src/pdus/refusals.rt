@@ -1,12 +1,10 @@
 //! Damaged datagrams, and PDUs that are too long.
 
-use dis_records::{EntityId, FixedDatum, HeaderFault, Version};
+use super::{MANAGER, id};
+use crate::datagrams::CREATE;
+use dis_records::{FixedDatum, HeaderFault, Version};
 use siman_pdus::*;
 use std::alloc::Global;
-
-const CREATE: [u8; 28] = [
-    7, 1, 11, 5, 0, 0, 0, 0, 0, 28, 0, 0, 0, 1, 0, 1, 0, 0, 0, 2, 0, 3, 0, 7, 0, 0, 0, 1,
-];
 
 const COMMENT: [u8; 48] = [
     7, 1, 22, 5, 0, 0, 0, 0, 0, 48, 0, 0, 0, 1, 0, 1, 0, 0, 0, 2, 0, 3, 0, 0, 0, 0, 0, 0, 0, 0, 0,
@@ -179,16 +177,8 @@ fn data_of(alloc: Global, count: u32) -> Option<Pdu> {
         exercise: 1,
         stamp: 0,
         status: 0,
-        origin: EntityId {
-            site: 2,
-            application: 3,
-            entity: 0,
-        },
-        target: EntityId {
-            site: 1,
-            application: 1,
-            entity: 0,
-        },
+        origin: id(2, 3, 0),
+        target: MANAGER,
         body: Body::DataPdu { request: 1, datums },
     })
 }

@@ -1,22 +1,20 @@
 -- Worlds: the entries that moves make, and the first move that cannot be made; told of the moves, the replies and the orders alone, without any table or machine (profile).
-use Rattle.std.specs.Prelude.{ℕ, ◌+◌, ◌*◌, ◌%◌, ◌^◌, Bool, true, false, ◌==◌, ◌&&◌, not, nat_le, nat_lt, List, [], ◌∷◌, ◌++◌, length, map, reverse, slice_get, slice_index_or, Option, Some, None, option_and_then, option_to_list, if◌then◌else◌}
+use Rattle.std.specs.Prelude.{ℕ, ◌+◌, Bool, ◌==◌, ◌&&◌, nat_le, nat_lt, List, [], ◌∷◌, ◌++◌, length, map, reverse, slice_get, slice_index_or, Option, Some, None, option_and_then, if◌then◌else◌}
 use Rattle.std.specs.Option.{option_map, option_or}
 use Rattle.std.specs.List.{list_all}
 use Rattle.dis_records.specs.declared.entity_state.EntityState.{EntityState}
 use Rattle.siman_pdus.specs.declared.pdu.Pdu.{Pdu}
 use Rattle.siman_pdus.specs.Reading.{reading}
 use Rattle.siman_pdus.specs.Role.{is_request_body}
-use Rattle.siman_pdus.specs.Spelling.{pdu_text}
 use Rattle.exercise_model.specs.Entry.{Entry, Sent, Received, Told}
 use Rattle.exercise_model.specs.History.{log_at, past}
 use Rattle.exercise_model.specs.Place.{first_below}
 use Rattle.exercise_model.specs.Recording.{PlainRecording}
 use Rattle.exercise_model.specs.Setting.{SettingData, nowhere}
-use Rattle.exercise_model.specs.Station.{StationData, is_entity, are_stations}
+use Rattle.exercise_model.specs.Station.{is_entity, are_stations}
 use Rattle.exercise_model.specs.State.{state_after}
 use Rattle.siman_application.specs.Outfit.{Outfit}
 use Rattle.siman_application.specs.Play.{reply}
-use Rattle.siman_manager.specs.declared.fault.OrderFault.{OrderFault}
 use Rattle.siman_manager.specs.declared.order.Order.{Order}
 use Rattle.siman_manager.specs.declared.settings.Settings.{Settings}
 use Rattle.siman_manager.specs.Book.{order_pdu, next_id, refusal, with_stamp}

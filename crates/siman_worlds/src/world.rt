@@ -1,6 +1,7 @@
 //! Worlds: stations that are moved by a list, and the recording that they write.
 
-ghost use Rattle.std.specs.Prelude.{◌≤◌, ◌<◌, length};
+ghost use Rattle.std.specs.Prelude.{◌≡◌, ◌<◌, length, map, OnOk, IfOk};
+ghost use Rattle.exercise_model.specs.Recording.{opened};
 
 use crate::act::{Act, Move};
 use crate::recorder::Recorder;
@@ -90,11 +91,9 @@ fn node_of(alloc: Global, exercise: u8, station: &WorldStation) -> Result<Node, 
 
 impl World {
     /// A world before its first move.
-    fn begin(
-        alloc: Global,
-        exercise: u8,
-        stations: Vec<WorldStation>,
-    ) -> Result<World, WorldFault> {
+    fn begin(alloc: Global, exercise: u8, stations: Vec<WorldStation>) -> Result<World, WorldFault>
+        ensures { IfOk result (λ world. world.recording ≡ opened (record { exercise = exercise; stations = map (λ s. s.station) stations.items })) }
+    {
         let mut nodes = Vec::new(alloc);
         for station in &stations {
             nodes.push(node_of(alloc, exercise, station)?)?;
@@ -115,7 +114,9 @@ impl World {
     }
 
     /// Makes a move.
-    fn step(&mut self, alloc: Global, step: Move) -> Result<(), StepFault> {
+    fn step(&mut self, alloc: Global, step: Move) -> Result<(), StepFault>
+        ensures { OnOk result (self.new.recording.setting ≡ self.old.recording.setting) }
+    {
         let Move { now, station, act } = step;
         if self.recording.entry_count() + 2 > MOST_ENTRIES {
             return Err(StepFault::Move(MoveFault::Records));
@@ -132,14 +133,18 @@ impl World {
     }
 
     /// What `text` holds gets the next number.
-    fn number(&mut self, alloc: Global) -> Result<(), StepFault> {
+    fn number(&mut self, alloc: Global) -> Result<(), StepFault>
+        ensures { OnOk result (self.new.recording.setting ≡ self.old.recording.setting) }
+    {
         let datagram = Vec::from_slice(alloc, &self.text)?;
         self.sends.push(datagram)?;
         Ok(())
     }
 
     /// Records what `text` holds as sent, and numbers it.
-    fn send(&mut self, alloc: Global, station: u16, now: u64) -> Result<(), StepFault> {
+    fn send(&mut self, alloc: Global, station: u16, now: u64) -> Result<(), StepFault>
+        ensures { OnOk result (self.new.recording.setting ≡ self.old.recording.setting) }
+    {
         match self.recording.record_sent(alloc, station, now, &self.text) {
             Ok(()) => self.number(alloc),
             Err(_) => Err(StepFault::Memory),
@@ -154,6 +159,7 @@ impl World {
         order: Order,
     ) -> Result<(), StepFault>
         requires { station < length self.old.nodes.items }
+        ensures { OnOk result (self.new.recording.setting ≡ self.old.recording.setting) }
     {
         if !order.body.is_request() {
             return Err(StepFault::Move(MoveFault::NotARequest));
@@ -174,6 +180,7 @@ impl World {
 
     fn tick(&mut self, alloc: Global, station: u16, now: u64) -> Result<(), StepFault>
         requires { station < length self.old.nodes.items }
+        ensures { OnOk result (self.new.recording.setting ≡ self.old.recording.setting) }
     {
         self.text.clear();
         let node = &mut self.nodes[usize::from(station)];
@@ -188,6 +195,7 @@ impl World {
         self.send(alloc, station, now)
     }
 
+    #[tactic(auto, using(crate::proofs::Turns::same_setting))]
     fn deliver(
         &mut self,
         alloc: Global,
@@ -196,6 +204,7 @@ impl World {
         number: u32,
     ) -> Result<(), StepFault>
         requires { station < length self.old.nodes.items }
+        ensures { OnOk result (self.new.recording.setting ≡ self.old.recording.setting) }
     {
         let number = number as usize;
         if number >= self.sends.len() {
@@ -220,6 +229,7 @@ impl World {
 
     fn tell(&mut self, station: u16, entity: u16) -> Result<(), StepFault>
         requires { station < length self.old.nodes.items }
+        ensures { OnOk result (self.new.recording.setting ≡ self.old.recording.setting) }
     {
         if !is_entity(entity) {
             return Err(StepFault::Move(MoveFault::NoSuchEntity));
@@ -244,7 +254,9 @@ pub fn run_world(
     exercise: u8,
     stations: Vec<WorldStation>,
     moves: Vec<Move>,
-) -> Result<Recording, WorldFault> {
+) -> Result<Recording, WorldFault>
+    ensures setting { IfOk result (λ r. r.setting ≡ record { exercise = exercise; stations = map (λ s. s.station) stations.items }) }
+{
     let mut world = World::begin(alloc, exercise, stations)?;
     for (number, step) in moves.into_iter().enumerate() {
         match world.step(alloc, step) {

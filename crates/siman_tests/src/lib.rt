@@ -37,3 +37,5 @@ mod streams;
 mod turns;
 #[cfg(test)]
 mod verdicts;
+#[cfg(test)]
+mod worlds;

@@ -1,3 +1,3 @@
 mod Texts
 pub mod Openings
-mod Turns
+pub mod Turns

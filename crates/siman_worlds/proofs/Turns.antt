@@ -1,5 +1,5 @@
 -- What a reply that is due, or is not, leaves.
-use Rattle.std.proofs.Common.{◌≡◌, ◌⊎◌, inl, inr, ℕ, Result, Ok, Err, ◌∙◌, true, false, List, Option, Some, None, is_some, refl, sym, subst, ap}
+use Rattle.std.proofs.Common.{◌≡◌, ◌⊎◌, inl, inr, ℕ, Result, Ok, Err, ◌∙◌, true, false, List, [], ◌∷◌, Option, Some, None, is_some, refl, sym, subst, ap}
 use Rattle.std.specs.Option.{IfSome}
 use Rattle.std.specs.Result.{result_ok}
 use Rattle.siman_pdus.specs.declared.pdu.Pdu.{Pdu}
@@ -8,6 +8,7 @@ use Rattle.siman_pdus.specs.declared.fault.PduFault.TheVariants.{Memory}
 use Rattle.siman_pdus.specs.Reading.{reading}
 use Rattle.siman_pdus.specs.Spelling.{pdu_text}
 use Rattle.exercise_model.specs.Entry.{Entry, Sent}
+use Rattle.exercise_model.specs.Recording.{PlainRecording, with_entry}
 use Rattle.siman_application.specs.Standing.{Standing, Takes}
 use Rattle.siman_worlds.specs.Turn.{stamp_of, sent_as, reply_due, RecordsAll, IsUnsent}
 
@@ -42,3 +43,8 @@ pub said_of_reading : (a : Standing) (bytes : List ℕ) (q : Pdu) (stamp : ℕ) 
     → (r ≡ Err Memory) ⊎ (result_ok r ≡ reading bytes) → IfSome (reply_due a (Some q) stamp) P → IfSome (reply_due a (reading bytes) stamp) P
 said_of_reading a bytes q stamp P r is (inl h) t = cc
 said_of_reading a bytes q stamp P r is (inr h) t = subst (λ (o : Option Pdu). IfSome (reply_due a o stamp) P) (ap result_ok (sym is) ∙ h) t
+
+-- what is recorded in memory leaves the setting as it was
+pub same_setting : (es : List Entry) (old new : PlainRecording) → RecordsAll (λ (o : PlainRecording) e (n : PlainRecording). n ≡ with_entry o e) es old new → new.setting ≡ old.setting
+same_setting [] old new h = ap (λ (r : PlainRecording). r.setting) h
+same_setting (e ∷ es) old new h = same_setting es h.0 new h.2 ∙ ap (λ (r : PlainRecording). r.setting) h.1

@@ -5,3 +5,4 @@ pub mod Draft
 pub mod Script
 pub mod Recording
 pub mod Turn
+pub mod World

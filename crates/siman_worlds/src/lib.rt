@@ -23,6 +23,8 @@ mod statement;
 mod station_draft;
 mod text;
 mod turn;
+mod world;
+mod world_fault;
 mod world_station;
 
 pub use act::{Act, Move};
@@ -30,4 +32,6 @@ pub use recorder::Recorder;
 pub use script::{LARGEST_SCRIPT, Script, read_script};
 pub use script_fault::ScriptFault;
 pub use turn::{Node, TurnFault, stamp_of, take_turn};
+pub use world::run_world;
+pub use world_fault::{MoveFault, WorldFault};
 pub use world_station::WorldStation;

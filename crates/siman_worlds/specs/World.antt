@@ -2,6 +2,8 @@
 use Rattle.std.specs.Prelude.{ℕ, ◌+◌, Bool, ◌==◌, ◌&&◌, nat_le, nat_lt, List, [], ◌∷◌, ◌++◌, length, map, reverse, slice_get, slice_index_or, Option, Some, None, option_and_then, if◌then◌else◌}
 use Rattle.std.specs.Option.{option_map, option_or}
 use Rattle.std.specs.List.{list_all}
+use Rattle.exercise_model.specs.declared.recording.TheConstants.{MOST_ENTRIES}
+use Rattle.siman_worlds.specs.declared.world.TheConstants.{MOST_OPENING}
 use Rattle.dis_records.specs.declared.entity_state.EntityState.{EntityState}
 use Rattle.siman_pdus.specs.declared.pdu.Pdu.{Pdu}
 use Rattle.siman_pdus.specs.Reading.{reading}
@@ -163,7 +165,7 @@ entries_of w moves = (course_of w (reverse moves)).entries
 
 -- a station that a world can have: its orders are sent at least once, and it opens with at most 4,096 entities
 abbrev pub is_world_station : WorldStationData → Bool
-is_world_station s = nat_le 1 s.tries && nat_le (length s.station.opening) 4096
+is_world_station s = nat_le 1 s.tries && nat_le (length s.station.opening) MOST_OPENING
 
 abbrev pub are_world_stations : List WorldStationData → Bool
 are_world_stations ss = are_stations (map (λ s. s.station) ss) && list_all is_world_station ss
@@ -181,7 +183,7 @@ act_fault w c s now (Tell e) = if is_entity e then None else Some faults.NoSuchE
 -- WHY A MOVE CANNOT BE MADE: the first of these that holds. Fewer than two of the 1,048,576 entry numbers are left; the station is none of the world's; it cannot do so.
 abbrev pub move_fault : WorldData → Course → Move → Option MoveFault
 move_fault w c m =
-    if nat_le (length c.entries + 2) 1048576
+    if nat_le (length c.entries + 2) MOST_ENTRIES
     then (if nat_lt m.station (length w.stations) then act_fault w c m.station m.now m.act else Some faults.NoSuchStation)
     else Some faults.Records
 

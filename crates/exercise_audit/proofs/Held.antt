@@ -49,7 +49,7 @@ own_from : (r : PlainRecording) (s i : ℕ) (e : Entry) → slice_get r.entries 
 unfolding own_event
 own_from r s i e at here =
     ap (option_and_then (λ e. if station_of (event_of e) == s then Some (event_of e) else None)) at ∙ ap (λ b. cond b (Some (event_of e)) None)
-      (eq-eqb _ _ here)
+    (eq-eqb _ _ here)
 
 -- what is known of the next entry of a station
 pub record NextOf (c : CourseData) (s i : ℕ) : Type 0 where
@@ -99,7 +99,7 @@ held_takes_none old new s i link course held n goes =
     let covers = good_logs r old.steps course.good s in
     let same : log_before r s i ≡ log_at s (so_far old) = same_beginnings _ _ (log_of r s) (log_before-beginning r s i) covers n.lengths in
     held (event_of n.entry) (subst (λ log. IsBeginning (event_of n.entry ∷ log) (log_of r s)) same
-      (log_before-next r s i (event_of n.entry) n.own)) takes.allowed
+    (log_before-next r s i (event_of n.entry) n.own)) takes.allowed
 
 -- where not all was taken, and nothing can go on, no run explains
 unexplained : (c : CourseData) → IsCourse c → IsStuck c.recording (so_far c) → length c.steps ≢ length c.recording.entries → (k : History)
@@ -110,7 +110,7 @@ unexplained c course stuck less k explains =
     let sound = good_sound r course.limits c.steps course.good in
     let all = stuck_explains r (so_far c) k stuck explains in
     less (sym sound.count ∙ same_count (length r.setting.stations) (so_far c) (past r.entries) sound.stations (past_within r course.limits) all.logs
-      ∙ length-past r.entries)
+    ∙ length-past r.entries)
 
 pub blocks_done : (r : PlainRecording) (h : History) (s : ℕ) (blocks : List Block) → AreBlocks r h s blocks → IsDone r h s
     → AreBlocks r h (s + 1) blocks

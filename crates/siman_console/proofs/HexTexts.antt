@@ -30,4 +30,4 @@ pub said_of_input-line : (text : List ℕ) → length text < LONGEST_HEX → sai
 said_of_input-line text short =
     let long = length-append text (10 ∷ []) in
     within LONGEST_HEX (length (text ++ 10 ∷ [])) not_byte_pairs (said_of_hex (without_line_end (text ++ 10 ∷ []))) (omega arith) ∙ ap said_of_hex
-      (without_line_end-line text)
+    (without_line_end-line text)

@@ -40,7 +40,7 @@ part-then old mid new held text more passed part =
     let out = passed.0 in
     let whole : out ++ (held ++ more) ≡ text ++ more = sym (append_assoc out held more) ∙ ap (λ t. t ++ more) passed.2 in
     let front : out ++ take part.0 (held ++ more) ≡ take (length out + part.0) (text ++ more) = sym (take-append-add out (held ++ more) part.0) ∙ ap
-      (take (length out + part.0)) whole in
+    (take (length out + part.0)) whole in
     (length out + part.0, subst (Appends old new) front (Appends-trans old mid new out (take part.0 (held ++ more)) passed.1 part.1))
 
 -- what was passed on, and then all of what was held and more but what is held now
@@ -69,7 +69,7 @@ texts-split text i zero within = let none : i ≡ 0 = omega arith in ([], rw non
 texts-split text i (suc n) within =
     ⊎_elim
     (λ (below : i < suc n). let before = texts-split text i n (omega arith) in
-      (before.0 ++ text n, ap (λ t. t ++ text n) before.1 ∙ append_assoc (texts_below text i) before.0 (text n)))
+    (before.0 ++ text n, ap (λ t. t ++ text n) before.1 ∙ append_assoc (texts_below text i) before.0 (text n)))
     (λ (past : suc n ≤ i). let all : i ≡ suc n = omega arith in ([], ap (texts_below text) (sym all) ∙ sym (append-nil (texts_below text i))))
     (cases_lt i (suc n))
 
@@ -79,7 +79,7 @@ pub loop-passes : (text : ℕ → List ℕ) (i : ℕ) (old mid new : Option (Lis
     → IsPassedOn old new after (start ++ texts_below text (i + 1))
 loop-passes text i old mid new start held after so_far step =
     let more : (start ++ texts_below text i) ++ text i ≡ start ++ texts_below text (i + 1) = append_assoc start (texts_below text i) (text i) ∙ ap
-      (λ t. start ++ t) (sym (texts_below-more text i)) in
+    (λ t. start ++ t) (sym (texts_below-more text i)) in
     subst (IsPassedOn old new after) more (passed-then old mid new held (start ++ texts_below text i) (text i) after so_far step)
 
 -- a loop ended with a fault
@@ -89,13 +89,13 @@ pub loop-fails : (text : ℕ → List ℕ) (i n : ℕ) (fault : Fault) (result :
     → PassesOn result old new last (start ++ texts_below text n)
 loop-fails text i n fault result old mid new start held after last within passed so_far step =
     let more : (start ++ texts_below text i) ++ text i ≡ start ++ texts_below text (i + 1) = append_assoc start (texts_below text i) (text i) ∙ ap
-      (λ t. start ++ t) (sym (texts_below-more text i)) in
+    (λ t. start ++ t) (sym (texts_below-more text i)) in
     let split = texts-split text (i + 1) n (omega arith) in
     let all : (start ++ texts_below text (i + 1)) ++ split.0 ≡ start ++ texts_below text n = append_assoc start (texts_below text (i + 1)) split.0 ∙ ap
-      (λ t. start ++ t) (sym split.1) in
+    (λ t. start ++ t) (sym split.1) in
     let failed = passes-then (Err fault) old mid new held (start ++ texts_below text i) (text i) after so_far step in
     subst (PassesOn result old new last) all (fails-longer fault result old new after last (start ++ texts_below text (i + 1)) split.0 passed
-      (subst (PassesOn (Err fault) old new after) more failed))
+    (subst (PassesOn (Err fault) old new after) more failed))
 
 -- a fault that was passed on, in the same text
 pub fails-same : (fault : Fault) (result : Result (Unit {0}) Fault) (old new : Option (List ℕ)) (held after text : List ℕ)

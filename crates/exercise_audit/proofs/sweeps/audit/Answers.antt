@@ -17,7 +17,7 @@ loop-course-smaller g c =
     let few = good_few v.recording course.limits v.steps course.good in
     let longer : length c.loop-course.course.steps < length v.steps = c.in_ok-sweep.ensures.longer c.if-not-branch.false in
     let same : length v.recording.entries ≡ c.entry_count-count.result = ap (λ (r : PlainRecording). length r.entries)
-      (c.sweep.ensures.recording ∙ c.loop-course.invariant) ∙ sym c.entry_count-count.ensures.count in
+    (c.sweep.ensures.recording ∙ c.loop-course.invariant) ∙ sym c.entry_count-count.ensures.count in
     omega (arith, few, longer, same)
 
 pub loop-course-preserved : goal.loop-course-preserved
@@ -40,9 +40,9 @@ returns-in_ok-blocks g c =
     let blocks = c.in_ok-blocks.field-0.items in
     let same : v.recording ≡ g.L.ExerciseLog.recording c.args.log.now = c.sweep.ensures.recording ∙ c.loop-course.invariant in
     let stations : c.station_count-stations.result ≡ length v.recording.setting.stations = c.station_count-stations.ensures.count ∙ ap
-      (λ (r : PlainRecording). length r.setting.stations) (sym same) in
+    (λ (r : PlainRecording). length r.setting.stations) (sym same) in
     let entries : c.entry_count-count.result ≡ length v.recording.entries = c.entry_count-count.ensures.count ∙ ap (λ (r : PlainRecording). length r.entries)
-      (sym same) in
+    (sym same) in
     let less : length v.steps ≢ length v.recording.entries = λ e. c.if-len-count.false (c.len.ensures.steps ∙ e ∙ sym entries) in
     let are = subst (λ (n : ℕ). AreBlocks v.recording (so_far v) n blocks) stations c.in_ok-blocks.ensures in
     let held = λ (s : ℕ) (l : s < length v.recording.setting.stations). c.in_ok-sweep.ensures.stuck c.if-not-branch.true s (omega (arith, l, stations)) in

@@ -28,16 +28,16 @@ loop-station-preserved g c =
       | in-Some+in_ok-push w ↦
           let items : c.match-found.blocks.items ≡ c.loop-station.blocks.items ++ w.in-Some.block ∷ [] = first_of (cc, grind (arith, common_steps)) in
           let block = subst (λ (v : CourseData). IsBlock v.recording (so_far v) s w.in-Some.block) c.loop-station.invariant.course
-            (rw w.in-Some.is at c.in_ok-found.ensures.block) in
+          (rw w.in-Some.is at c.in_ok-found.ensures.block) in
           record {
             course = course;
             blocks = subst (AreBlocks r h (s + 1)) (sym items)
-              (blocks_push r h s c.loop-station.blocks.items w.in-Some.block c.loop-station.invariant.blocks block);
+                (blocks_push r h s c.loop-station.blocks.items w.in-Some.block c.loop-station.invariant.blocks block);
           }
       | in_default w ↦
           let items : c.match-found.blocks.items ≡ c.loop-station.blocks.items = first_of (cc, grind (arith, common_steps)) in
           let done = subst (λ (v : CourseData). IsDone v.recording (so_far v) s) c.loop-station.invariant.course
-            (rw w.in_default.is at c.in_ok-found.ensures.done) in
+          (rw w.in_default.is at c.in_ok-found.ensures.done) in
           record {
             course = course;
             blocks = subst (AreBlocks r h (s + 1)) (sym items) (blocks_done r h s c.loop-station.blocks.items c.loop-station.invariant.blocks done);

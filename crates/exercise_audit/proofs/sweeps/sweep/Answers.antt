@@ -36,7 +36,7 @@ loop-station-preserved g c =
           record {
             recording = recording;
             longer = λ on. subst (λ (v : CourseData). length c.args.course.now.steps < length v.steps) (sym same)
-              (c.loop-station.invariant.longer (sym w.more-is ∙ on));
+                (c.loop-station.invariant.longer (sym w.more-is ∙ on));
             shortest = subst (λ (v : CourseData). length c.args.course.now.steps ≤ length v.steps) (sym same) c.loop-station.invariant.shortest;
             held = λ off. subst (λ v. (s : ℕ) → s < c.loop-station.station + 1 → Held v s) (sym same)
                 (below_more (Held c.loop-station.course) c.loop-station.station (c.loop-station.invariant.held (sym w.more-is ∙ off)) here);

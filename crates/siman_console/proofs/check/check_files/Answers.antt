@@ -12,6 +12,9 @@ returns-in_err-log-clause-some g c =
 
 pub returns-in_err-certificate-clause-some : goal.returns-in_err-certificate-clause-some
 returns-in_err-certificate-clause-some g c =
-    let some = some_certified c.in_err-certificate.field-0.0 in
-    (Ok c.in_ok-log.log, some.0, certificate_unread
-      (Ok c.in_ok-log.log) some.0 c.in_ok-log.log c.in_err-certificate.field-0.0 _ _ _ c.from_residual-in_err-certificate.ensures.1 refl some.1 (search rules))
+    let some = some_certified c.in_err-certificate.field-0.0 in (
+      Ok c.in_ok-log.log,
+      some.0,
+      certificate_unread
+          (Ok c.in_ok-log.log) some.0 c.in_ok-log.log c.in_err-certificate.field-0.0 _ _ _ c.from_residual-in_err-certificate.ensures.1 refl some.1 (search rules),
+    )

@@ -10,4 +10,4 @@ returns-clause-known g c =
     IfSome_then _ c.in_ok-text.ensures.text (λ bytes whole.
     let same : said_of_input c.deref.result.now ≡ said_of_input bytes = ap said_of_input (c.deref.ensures.value ∙ whole) ∙ said_of_input-fetched bytes in
     subst (λ (said : Said). IsTold said c.tell_line.result (g.W.Write.contents c.args.out.now)
-      (g.W.Write.contents c.tell_line.new.out)) same c.tell_line.ensures)
+    (g.W.Write.contents c.tell_line.new.out)) same c.tell_line.ensures)

@@ -17,9 +17,13 @@ returns-in-Err g c =
       errors = record { old = g.E.Write.contents c.args.errors.now; new = g.E.Write.contents c.end.new.errors };
     } in
     let ends : EndsProgram (Err (error_kind c.in-Err.error)) [] input o =
-      (refl, (keeps_all (g.W.Write.contents c.args.out.now), (c.unread.result, c.unread.ensures, c.end.ensures))) in
-    ([], adds_none _, all_none (WasHeld (g.O.Outside.holds c.args.outside.now)), subst (λ words. EndsProgram (words_by error_kind words) [] input o)
-      (sym c.in-Err.is) ends)
+    (refl, (keeps_all (g.W.Write.contents c.args.out.now), (c.unread.result, c.unread.ensures, c.end.ensures))) in (
+      [],
+      adds_none _,
+      all_none (WasHeld (g.O.Outside.holds c.args.outside.now)),
+      subst (λ words. EndsProgram (words_by error_kind words) [] input o)
+          (sym c.in-Err.is) ends,
+    )
 
 pub returns-in-Ok-read_words : goal.returns-in-Ok-read_words
 returns-in-Ok-read_words g c =
@@ -31,7 +35,7 @@ returns-in-Ok-read_words g c =
     } in
     let ran = c.run_task.ensures in
     let known : Some (asked_by c.in-Ok-read_words.task) ≡ asked (map string_bytes c.in-Ok.words.items) = c.in-Ok-read_words.ensures ∙ ap
-      (λ words. asked (map string_bytes words)) c.as_slice.ensures.value in
+    (λ words. asked (map string_bytes words)) c.as_slice.ensures.value in
     let ends : EndsAsked (Some (asked_by c.in-Ok-read_words.task)) ran.0 input o = (c.run_task.result, ran.3, c.end-in-Ok-read_words.ensures) in
     let asks : EndsAsked (asked (map string_bytes c.in-Ok.words.items)) ran.0 input o = subst (λ task. EndsAsked task ran.0 input o) known ends in
     (ran.0, ran.1, ran.2, subst (λ words. EndsProgram (words_by error_kind words) ran.0 input o) (sym c.in-Ok.is) asks)
@@ -45,8 +49,12 @@ returns-in-Err-read_words g c =
       errors = record { old = g.E.Write.contents c.args.errors.now; new = g.E.Write.contents c.end_usage.new.errors };
     } in
     let known : None ≡ asked (map string_bytes c.in-Ok.words.items) = c.in-Err-read_words.ensures ∙ ap
-      (λ words. asked (map string_bytes words)) c.as_slice.ensures.value in
+    (λ words. asked (map string_bytes words)) c.as_slice.ensures.value in
     let ends : EndsAsked None [] input o = (refl, (_, c.end_usage.ensures)) in
-    let asks : EndsAsked (asked (map string_bytes c.in-Ok.words.items)) [] input o = subst (λ task. EndsAsked task [] input o) known ends in
-    ([], adds_none _, all_none (WasHeld (g.O.Outside.holds c.args.outside.now)), subst (λ words. EndsProgram (words_by error_kind words) [] input o)
-      (sym c.in-Ok.is) asks)
+    let asks : EndsAsked (asked (map string_bytes c.in-Ok.words.items)) [] input o = subst (λ task. EndsAsked task [] input o) known ends in (
+      [],
+      adds_none _,
+      all_none (WasHeld (g.O.Outside.holds c.args.outside.now)),
+      subst (λ words. EndsProgram (words_by error_kind words) [] input o)
+          (sym c.in-Ok.is) asks,
+    )

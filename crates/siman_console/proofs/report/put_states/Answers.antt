@@ -22,6 +22,6 @@ loop-station-preserved g c =
     let own = c.states.ensures ∙ c.requires.states s ∙ states_of-station r s within in
     let at = c.address.ensures.address ∙ ap (λ o. o.address) c.station.ensures in
     let addressed = line-of-same (λ a. flat_map (entity_line a) c.states.result.now) old _ c.address.result
-      (station_at r s).address c.in_ok-put_entities.ensures at in
+    (station_at r s).address c.in_ok-put_entities.ensures at in
     let step = line-of-same (flat_map (entity_line (station_at r s).address)) old _ c.states.result.now (entities_of r s) addressed own in
     texts-with-next (entities_at r) s (string_bytes c.args.text.now) old _ step c.loop-station.invariant

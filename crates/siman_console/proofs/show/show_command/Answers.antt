@@ -8,7 +8,7 @@ use Rattle.siman_console.proofs.show.show_command.Goals as goal
 pub returns-clause-known : goal.returns-clause-known
 returns-clause-known g c =
     ends_known (λ bytes told. TellsShow (recording_at LARGEST_RECORDING bytes) told (g.W.Write.contents c.args.out.now) (g.W.Write.contents c.shown.new.out))
-      (g.R.Read.remaining c.args.recording) _ c.end.result _ _ c.shown.ensures.known c.end.ensures
+    (g.R.Read.remaining c.args.recording) _ c.end.result _ _ c.shown.ensures.known c.end.ensures
 
 pub returns-clause-ends : goal.returns-clause-ends
 returns-clause-ends g c =

@@ -15,11 +15,11 @@ pub loop-index-preserved : goal.loop-index-preserved
 loop-index-preserved g c =
     let r = g.L.ExerciseLog.recording c.args.log.now in
     loop-passes (entry_shown r) c.loop-index.index (g.W.Write.contents c.args.out.now) _ _ (string_bytes c.args.lines.now)
-      (string_bytes c.loop-index.lines) _ c.loop-index.invariant c.in_ok-show_entry.ensures
+    (string_bytes c.loop-index.lines) _ c.loop-index.invariant c.in_ok-show_entry.ensures
 
 pub returns-in_err-show_entry : goal.returns-in_err-show_entry
 returns-in_err-show_entry g c =
     let r = g.L.ExerciseLog.recording c.args.log.now in
     let within : c.loop-index.index < length r.entries = omega (arith, c.loop-index-test.true, c.entry_count-index-end.ensures.count) in
     loop-fails (entry_shown r) c.loop-index.index (length r.entries) c.in_err-show_entry.field-0.0 _ (g.W.Write.contents c.args.out.now) _ _
-      (string_bytes c.args.lines.now) (string_bytes c.loop-index.lines) [] _ within c.from_residual.ensures.1 c.loop-index.invariant c.in_err-show_entry.ensures
+    (string_bytes c.args.lines.now) (string_bytes c.loop-index.lines) [] _ within c.from_residual.ensures.1 c.loop-index.invariant c.in_err-show_entry.ensures

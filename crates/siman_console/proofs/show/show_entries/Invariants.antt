@@ -7,4 +7,4 @@ use Rattle.siman_console.proofs.show.show_entries.Given as goal
 abbrev pub invariant-loop-index : goal.invariant-loop-index
 invariant-loop-index g l =
     IsPassedOn (g.W.Write.contents l.initial.out) (g.W.Write.contents l.out) (string_bytes l.lines)
-      (string_bytes l.initial.lines ++ texts_below (entry_shown (g.L.ExerciseLog.recording l.log)) l.index)
+    (string_bytes l.initial.lines ++ texts_below (entry_shown (g.L.ExerciseLog.recording l.log)) l.index)

@@ -15,7 +15,7 @@ returns-in_err-show_stations g c =
     let result = c.from_residual-in_err-show_stations.result in
     let whole = whole_text r (string_bytes c.in_ok-lines.lines) c.in_ok-lines.ensures in
     subst (PassesOn result _ _ []) whole (fails-longer c.in_err-show_stations.field-0.0 result _ _ [] []
-      (string_bytes c.in_ok-lines.lines ++ stations) entries c.from_residual-in_err-show_stations.ensures.1 c.in_err-show_stations.ensures)
+    (string_bytes c.in_ok-lines.lines ++ stations) entries c.from_residual-in_err-show_stations.ensures.1 c.in_err-show_stations.ensures)
 
 pub returns-in_err-show_entries : goal.returns-in_err-show_entries
 returns-in_err-show_entries g c =
@@ -25,9 +25,9 @@ returns-in_err-show_entries g c =
     let result = c.from_residual-in_err-show_entries.result in
     let whole = whole_text r (string_bytes c.in_ok-lines.lines) c.in_ok-lines.ensures in
     let failed = passes-then (Err c.in_err-show_entries.field-0.0) _ _ _ _
-      (string_bytes c.in_ok-lines.lines ++ stations) entries [] c.in_ok-show_stations.ensures c.in_err-show_entries.ensures in
+    (string_bytes c.in_ok-lines.lines ++ stations) entries [] c.in_ok-show_stations.ensures c.in_err-show_entries.ensures in
     subst (PassesOn result _ _ []) whole (fails-same c.in_err-show_entries.field-0.0 result _ _ [] []
-      ((string_bytes c.in_ok-lines.lines ++ stations) ++ entries) c.from_residual-in_err-show_entries.ensures.1 failed)
+    ((string_bytes c.in_ok-lines.lines ++ stations) ++ entries) c.from_residual-in_err-show_entries.ensures.1 failed)
 
 pub returns : goal.returns
 returns g c =
@@ -37,4 +37,4 @@ returns g c =
     let whole = whole_text r (string_bytes c.in_ok-lines.lines) c.in_ok-lines.ensures in
     let passed = passed-then _ _ _ _ (string_bytes c.in_ok-lines.lines ++ stations) entries _ c.in_ok-show_stations.ensures c.in_ok-show_entries.ensures in
     subst (PassesOn c.pass_on.result _ _ []) whole (passes-last c.pass_on.result _ _ _ _
-      ((string_bytes c.in_ok-lines.lines ++ stations) ++ entries) _ passed c.pass_on.ensures.passed c.pass_on.ensures.held)
+    ((string_bytes c.in_ok-lines.lines ++ stations) ++ entries) _ passed c.pass_on.ensures.passed c.pass_on.ensures.held)

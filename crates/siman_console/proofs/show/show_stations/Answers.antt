@@ -15,12 +15,12 @@ pub loop-index-preserved : goal.loop-index-preserved
 loop-index-preserved g c =
     let r = g.L.ExerciseLog.recording c.args.log.now in
     loop-passes (station_shown r) c.loop-index.index (g.W.Write.contents c.args.out.now) _ _ (string_bytes c.args.lines.now)
-      (string_bytes c.loop-index.lines) _ c.loop-index.invariant c.in_ok-show_station.ensures
+    (string_bytes c.loop-index.lines) _ c.loop-index.invariant c.in_ok-show_station.ensures
 
 pub returns-in_err-show_station : goal.returns-in_err-show_station
 returns-in_err-show_station g c =
     let r = g.L.ExerciseLog.recording c.args.log.now in
     let within : c.loop-index.index < length r.setting.stations = omega (arith, c.loop-index-test.true, c.station_count-index-end.ensures.count) in
     loop-fails (station_shown r) c.loop-index.index (length r.setting.stations) c.in_err-show_station.field-0.0 _ (g.W.Write.contents c.args.out.now) _ _
-      (string_bytes c.args.lines.now)
-      (string_bytes c.loop-index.lines) [] _ within c.from_residual.ensures.1 c.loop-index.invariant c.in_err-show_station.ensures
+    (string_bytes c.args.lines.now)
+    (string_bytes c.loop-index.lines) [] _ within c.from_residual.ensures.1 c.loop-index.invariant c.in_err-show_station.ensures

@@ -1,6 +1,6 @@
 #!/usr/bin/env bash
-# Times the decoder and the encoder over one datagram of each kind, beside a plain loop over the same bytes, and a tick
-# of the manager over settled orders; then takes of an application over kept requests, and a Stop to all its entities.
+# Times views, the decoder and the encoder over one datagram of each kind, beside a plain loop over the same bytes, and a
+# tick of the manager over settled orders; then takes of an application over kept requests, and a Stop to all its entities.
 # It works on a copy of the repository in a temporary folder, so that the benchmark is no crate of the gate; its source
 # has the ending .txt here, since the gate refuses code that no crate holds.
 set -eu

@@ -3,7 +3,7 @@ import os
 
 import pages
 from cases import texts
-from cases.examples import README_ANSWER, README_DATAGRAM, TEXTS_REPORT
+from cases.examples import README_ANSWER, README_DATAGRAM, TEXTS_REPORT, WORKED_LINE, WORKED_SCRIPT
 from cases.trials import UNWRITTEN, Case, Some, Verdict, told
 from pages import Outcome
 
@@ -56,6 +56,7 @@ def answers(trials, examples):
         (["show", good], b"", shown),
         (["check", good, certificate], b"", Outcome(0, TEXTS_REPORT, b"")),
         (["check", wrong, certificate], b"", Outcome(1, b"no step=8 cause=13 wrong-state\n", b"")),
+        (["world", WORKED_SCRIPT, "made.dsrc"], b"", Outcome(0, WORKED_LINE, b"")),
     ]
 
 
@@ -69,6 +70,7 @@ def faults(examples):
         (["show", certificate], b"", pages.fault("recording: magic at 0")),
         (["check", good, "none"], b"", pages.fault("file: none")),
         (["check", good, good], b"", pages.fault("certificate: magic at 0")),
+        (["world", good, "none"], b"", pages.fault("script: bad-line at line 1")),
         (["show", b"\xff"], b"", pages.fault("words: not UTF-8")),
         (["check", good], b"", Outcome(2, b"", Some())),
     ]

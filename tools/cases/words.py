@@ -16,7 +16,8 @@ def try_words(trials):
         ["pdu"], ["show"], ["check"], ["check", recording], ["pdu", "07", "01"], ["pdu", README_DATAGRAM.decode(), ""],
         ["show", recording, recording], ["check", recording, certificate, certificate], ["nothing"], [""],
         ["PDU", "07"], ["shows", recording], ["--pdu", "07"], ["--nothing"], ["-x"], ["pdu", "--nothing"], [recording],
-        ["pd"], ["-"], ["--", "pdu"],
+        ["pd"], ["-"], ["--", "pdu"], ["world"], ["world", "a"], ["world", "a", "b", "c"], ["world", "-a", "b"],
+        ["audit"], ["audit", recording], ["audit", recording, "a", "b"], ["audit", recording, "-a"],
     ]:  # fmt: skip
         trials.expect(words, usage)
     for word in [b"\xff", b"07\xff", b"\xc3", b"a\xed\xa0\x80"]:

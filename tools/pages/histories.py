@@ -216,6 +216,47 @@ def refused_step(index, cause):
     return Outcome(1, f"no step={index} cause={cause} {CAUSES[cause]}\n".encode(), b"")
 
 
+def next_entry(course, station):
+    """The first entry of a station that is not taken, or None."""
+    left = (index for index, entry in enumerate(course.entries) if entry.station == station)
+    return next((index for index in left if index not in course.taken), None)
+
+
+def go_on(course):
+    """Takes an entry that is its station's next one and allowed, and tells whether there is one."""
+    for station in range(len(course.stations)):
+        index = next_entry(course, station)
+        if index is not None and not course.cause_of_event(index):
+            course.take(index)
+            return True
+    return False
+
+
+def search(recording):
+    """What audit says of a recording."""
+    course = Course(recording)
+    while go_on(course):
+        pass
+    if len(course.taken) == len(course.entries):
+        return Outcome(0, f"explained steps={len(course.entries)}\n".encode(), b"")
+    blocks = [(station, next_entry(course, station)) for station in range(len(course.stations))]
+    lines = [blocked(course, station, index) for station, index in blocks if index is not None]
+    return Outcome(1, f"blocked stations={len(lines)}\n{''.join(lines)}".encode(), b"")
+
+
+def blocked(course, station, index):
+    site, application = course.address(station)
+    cause = course.cause_of_event(index)
+    return f"blocked {site}:{application} record={index} cause={cause} {CAUSES[cause]}\n"
+
+
+def answer_to_audit(recording_text):
+    try:
+        return search(read_recording(recording_text))
+    except Fault as bad:
+        return fault(f"recording: {bad}")
+
+
 def answer_to_check(recording_text, certificate_text):
     try:
         recording = read_recording(recording_text)

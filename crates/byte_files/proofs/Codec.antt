@@ -8,9 +8,9 @@ use Rattle.std.specs.Int.{Width, w8, w16, w32, w64, to_be_bytes}
 use Rattle.std.proofs.lemmas.Bool.{eqb-true}
 use Rattle.std.proofs.lemmas.List.{nil_from_length, length-append}
 use Rattle.byte_files.specs.Fields as fields
-use Rattle.byte_files.specs.Fields.{Input, known, AreBytes, IsBytes, Names, ◌>>=◌, judged, field_at, number_at, number_where, ended}
+use Rattle.byte_files.specs.Fields.{Input, known, AreBytes, IsBytes, Names, ◌>>=◌, tested, field_at, number_at, number_where, ended}
 use Rattle.byte_files.specs.Repeats.{times_at, until_at}
-use Rattle.byte_files.proofs.Fields.{bind_ok, judged_ok, ok_is, front, Takes, takes_nothing, takes_then, Reading, Reads, reads_nothing, reads_then, reads_last, IsWide, wide16, wide32, wide64, field_takes, field_reads, number_takes, number_reads, byte_takes, byte_reads}
+use Rattle.byte_files.proofs.Fields.{bind_ok, tested_ok, ok_is, front, Takes, takes_nothing, takes_then, Reading, Reads, reads_nothing, reads_then, reads_last, IsWide, wide16, wide32, wide64, field_takes, field_reads, number_takes, number_reads, byte_takes, byte_reads}
 
 -- Bytes are left, within the limit.
 abbrev pub IsReady : Input → Type 0
@@ -56,12 +56,12 @@ nothing_agrees {X = X} {F = F} x = record {
 
 module _ {X F : Type 0} {f : Reading X F} {s : X → List ℕ} {P : X → Type 0} (a : Agrees f s P) where
   -- a value that passes a test
-  pub tested_agrees : (test : X → Bool) (fault : ℕ → F) → Agrees (λ i. f i >>= λ x. judged (test x.0) (fault i.at) x) s (λ x. P x × (test x ≡ true))
+  pub tested_agrees : (test : X → Bool) (fault : ℕ → F) → Agrees (λ i. f i >>= λ x. tested (test x.0) (fault i.at) x) s (λ x. P x × (test x ≡ true))
   tested_agrees test fault = record {
     reads = λ x good limit at rest within. rw (a.reads x good.0 limit at rest within, good.1) refl;
     takes = λ i y ready e.
-        let x = bind_ok (f i) (λ x. judged (test x.0) (fault i.at) x) y e in
-        let g = judged_ok (test x.0.0) (fault i.at) x.0 y x.2 in
+        let x = bind_ok (f i) (λ x. tested (test x.0) (fault i.at) x) y e in
+        let g = tested_ok (test x.0.0) (fault i.at) x.0 y x.2 in
         let p = a.takes i x.0 ready x.1 in
         subst (λ z. Takes i (s z.0) z.1 × (P z.0 × (test z.0 ≡ true))) g.1 (p.0, (p.1, g.0));
   }
@@ -150,16 +150,16 @@ pub record IsMark {F : Type 0} (mark : Input → Result Input F) (text : List �
   pub agrees : Agrees (marked mark) (λ u. text) (λ u. Unit {0})
 
 -- a value of which one alone passes a test
-pub judged_mark : {X F : Type 0} {f : Reading X F} {s : X → List ℕ} {P : X → Type 0} (test : X → Bool) (fault : ℕ → F) (x : X) → Agrees f s P → P x
+pub tested_mark : {X F : Type 0} {f : Reading X F} {s : X → List ℕ} {P : X → Type 0} (test : X → Bool) (fault : ℕ → F) (x : X) → Agrees f s P → P x
     → test x ≡ true
-    → ((y : X) → P y → test y ≡ true → y ≡ x) → IsMark (λ i. f i >>= λ y. judged (test y.0) (fault i.at) y.1) (s x)
-judged_mark {X = X} {f = f} {s = s} test fault x a good passes only = record {
+    → ((y : X) → P y → test y ≡ true → y ≡ x) → IsMark (λ i. f i >>= λ y. tested (test y.0) (fault i.at) y.1) (s x)
+tested_mark {X = X} {f = f} {s = s} test fault x a good passes only = record {
   agrees = record {
     reads = λ u h limit at rest within. rw (a.reads x good limit at rest within, passes) refl;
     takes = λ i z ready e.
-        let j = bind_ok (f i >>= λ y. judged (test y.0) (fault i.at) y.1) (λ j. Ok (tt, j)) z e in
-        let y = bind_ok (f i) (λ y. judged (test y.0) (fault i.at) y.1) j.0 j.1 in
-        let g = judged_ok (test y.0.0) (fault i.at) y.0.1 j.0 y.2 in
+        let j = bind_ok (f i >>= λ y. tested (test y.0) (fault i.at) y.1) (λ j. Ok (tt, j)) z e in
+        let y = bind_ok (f i) (λ y. tested (test y.0) (fault i.at) y.1) j.0 j.1 in
+        let g = tested_ok (test y.0.0) (fault i.at) y.0.1 j.0 y.2 in
         let p = a.takes i y.0 ready y.1 in
         let t : Takes i (s x) y.0.1 = subst (λ (x : X). Takes i (s x) y.0.1) (only y.0.0 p.1 g.0) p.0 in
         (subst (Takes i (s x)) (g.1 ∙ ap (λ (y : Unit {0} × Input). y.1) (ok_is (tt, j.0) z j.2)) t, tt);
@@ -295,7 +295,7 @@ pub end_whole : {X F : Type 0} (fault : ℕ → F) (x : X) → IsWhole (ended fa
 end_whole fault x = record {
   reads = λ y same limit at within. ap (λ z. Ok z) same;
   takes = λ i y ready e.
-      let g = judged_ok (eqb (length i.bytes) 0) (fault i.at) x y e in
+      let g = tested_ok (eqb (length i.bytes) 0) (fault i.at) x y e in
       let none : length i.bytes ≡ 0 = eqb-true _ _ g.0 in
       (nil_from_length i.bytes none, omega (arith, ready.1), g.1);
 }
@@ -347,10 +347,10 @@ mark_whole {m = m} {g = g} mark a =
 
 -- ---- what a function answered that read the whole of some bytes
 
-module _ {X A E F : Type 0} {read : Input → Result X F} {s : X → List ℕ} {P : X → Type 0} (w : IsWhole read s P) (told : E → Option F) (view : A → X) (limit : ℕ) where
+module _ {X A E F : Type 0} {read : Input → Result X F} {s : X → List ℕ} {P : X → Type 0} (w : IsWhole read s P) (format_of : E → Option F) (view : A → X) (limit : ℕ) where
   -- what reading gives, where only bytes were taken
   abbrev Answered : Result A E → Option Input → Type 0
-  Answered r source = IfSome source (λ i. fields.Answers told view r (read i)) × OnOk r (AreBytes source)
+  Answered r source = IfSome source (λ i. fields.Answers format_of view r (read i)) × OnOk r (AreBytes source)
 
   known_text : (o : Option (List ℕ)) (r : Result A E) → Answered r (known limit 0 o) → IfSome o (λ bytes. IfOk r (λ a. bytes ≡ s (view a)))
   known_text None r h = tt

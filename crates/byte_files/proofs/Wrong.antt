@@ -4,7 +4,7 @@ use Rattle.std.specs.List.{flat_map}
 use Rattle.std.specs.Int.{Width, byte_len, from_be_bytes}
 use Rattle.std.proofs.lemmas.Bool.{le-ltb}
 use Rattle.std.proofs.lemmas.List.{length-append}
-use Rattle.byte_files.specs.Fields.{Input, Names, ◌>>=◌, judged, field_at, number_at, number_where, ended}
+use Rattle.byte_files.specs.Fields.{Input, Names, ◌>>=◌, tested, field_at, number_at, number_where, ended}
 use Rattle.byte_files.specs.Repeats.{times_at, handed_on, until_at}
 use Rattle.byte_files.specs.Rows.{Row, unless, any, number, number_in, fault_at}
 use Rattle.byte_files.proofs.Fields.{bind_err, ok_err, front, Takes, takes_then, Reading}
@@ -21,17 +21,17 @@ pub failure_is : {X F : Type 0} (r : Result X F) (d : F) → failure r ≡ Some 
 failure_is (Ok x) d e = absurd cc
 failure_is (Err c) d e = let same : c ≡ d = cc in ap (λ z. Err z) same
 
-pub judged_told : {X F : Type 0} (b : Bool) (d : F) (x : X) → failure (judged b d x) ≡ unless b d
-judged_told true d x = refl
-judged_told false d x = refl
+pub tested_wrong : {X F : Type 0} (b : Bool) (d : F) (x : X) → failure (tested b d x) ≡ unless b d
+tested_wrong true d x = refl
+tested_wrong false d x = refl
 
 -- the same of two tests, one after the other
-pub twice_told : {X Y F : Type 0} (b : Bool) (d : F) (x : X) (test : X → Bool) (e : F) (y : X → Y)
-    → failure (judged b d x >>= λ z. judged (test z) e (y z)) ≡ cond b (unless (test x) e) (Some d)
-twice_told true d x test e y = judged_told (test x) e (y x)
-twice_told false d x test e y = refl
+pub twice_wrong : {X Y F : Type 0} (b : Bool) (d : F) (x : X) (test : X → Bool) (e : F) (y : X → Y)
+    → failure (tested b d x >>= λ z. tested (test z) e (y z)) ≡ cond b (unless (test x) e) (Some d)
+twice_wrong true d x test e y = tested_wrong (test x) e (y x)
+twice_wrong false d x test e y = refl
 
--- past the limit, or else not wholly there, or else judged
+-- past the limit, or else not wholly there, or else tested
 shut : {X Y F : Type 0} (over short : Bool) (o t : F) (x : X) (f : X → Result Y F) (fault : Option F) → failure (f x) ≡ fault
     → failure (cond over (Err o) (cond short (Err t) (Ok x)) >>= f) ≡ cond over (Some o) (cond short (Some t) fault)
 shut true short o t x f fault e = refl
@@ -44,55 +44,55 @@ bind_same (Err e) = refl
 
 module _ {F : Type 0} (names : Names F) where
   -- What is wrong with the field at the front, by its row, is what a reading tells.
-  pub record IsTold {X : Type 0} (read : Input → Result X F) (row : Row F) : Type 0 where
+  pub record TellsWrong {X : Type 0} (read : Input → Result X F) (row : Row F) : Type 0 where
     pub tells : (i : Input) → i.at ≤ i.limit → failure (read i) ≡ fault_at names i.limit row i.at i.bytes
 
-  told_as : {X : Type 0} {f g : Input → Result X F} {row : Row F} → ((i : Input) → f i ≡ g i) → IsTold f row → IsTold g row
-  told_as same t = record { tells = λ i within. ap failure (sym (same i)) ∙ t.tells i within }
+  wrong_as : {X : Type 0} {f g : Input → Result X F} {row : Row F} → ((i : Input) → f i ≡ g i) → TellsWrong f row → TellsWrong g row
+  wrong_as same t = record { tells = λ i within. ap failure (sym (same i)) ∙ t.tells i within }
 
-  pub field_told : {X : Type 0} (row : Row F) (judge : Input → List ℕ × Input → Result X F)
-      → ((i j : Input) → failure (judge i (take row.width i.bytes, j)) ≡ row.fault i.at i.bytes) → IsTold (λ i. field_at names row.width i >>= judge i) row
+  pub field_wrong : {X : Type 0} (row : Row F) (judge : Input → List ℕ × Input → Result X F)
+      → ((i j : Input) → failure (judge i (take row.width i.bytes, j)) ≡ row.fault i.at i.bytes) → TellsWrong (λ i. field_at names row.width i >>= judge i) row
   unfolding field_at
-  field_told row judge e = record {
+  field_wrong row judge e = record {
     tells = λ i within.
         shut (ltb i.limit (i.at + row.width)) (ltb (length i.bytes) row.width) _ _ _ (judge i) (row.fault i.at i.bytes) (e i _);
   }
 
-  pub bytes_told : (n : ℕ) → IsTold (field_at names n) (any n)
-  bytes_told n = told_as (λ i. bind_same (field_at names n i)) (field_told (any n) (λ i b. Ok b) (λ i j. refl))
+  pub bytes_wrong : (n : ℕ) → TellsWrong (field_at names n) (any n)
+  bytes_wrong n = wrong_as (λ i. bind_same (field_at names n i)) (field_wrong (any n) (λ i b. Ok b) (λ i j. refl))
 
-  pub any_told : (w : Width) → IsTold (number_at names w) (any (byte_len w))
+  pub any_wrong : (w : Width) → TellsWrong (number_at names w) (any (byte_len w))
   unfolding number_at
-  any_told w = field_told (any (byte_len w)) (λ i b. Ok (from_be_bytes w b.0, b.1)) (λ i j. refl)
+  any_wrong w = field_wrong (any (byte_len w)) (λ i b. Ok (from_be_bytes w b.0, b.1)) (λ i j. refl)
 
-  -- a number that is judged
-  pub number_told : {X : Type 0} (w : Width) (fault : ℕ → ℕ → Option F) (judge : Input → ℕ × Input → Result X F)
-      → ((i : Input) (n : ℕ) (j : Input) → failure (judge i (n, j)) ≡ fault i.at n) → IsTold (λ i. number_at names w i >>= judge i) (number w fault)
+  -- a number that is tested
+  pub number_wrong : {X : Type 0} (w : Width) (fault : ℕ → ℕ → Option F) (judge : Input → ℕ × Input → Result X F)
+      → ((i : Input) (n : ℕ) (j : Input) → failure (judge i (n, j)) ≡ fault i.at n) → TellsWrong (λ i. number_at names w i >>= judge i) (number w fault)
   unfolding number_at
-  number_told w fault judge e =
-      told_as (λ i. sym (bind_twice (field_at names (byte_len w) i) (λ b. Ok (from_be_bytes w b.0, b.1)) (judge i)))
-      (field_told (number w fault) (λ i b. judge i (from_be_bytes w b.0, b.1)) (λ i j. e i _ j))
+  number_wrong w fault judge e =
+      wrong_as (λ i. sym (bind_twice (field_at names (byte_len w) i) (λ b. Ok (from_be_bytes w b.0, b.1)) (judge i)))
+      (field_wrong (number w fault) (λ i b. judge i (from_be_bytes w b.0, b.1)) (λ i j. e i _ j))
 
-  pub where_told : (w : Width) (test : ℕ → Bool) (fault : ℕ → F) → IsTold (number_where names w test fault) (number_in w test fault)
+  pub where_wrong : (w : Width) (test : ℕ → Bool) (fault : ℕ → F) → TellsWrong (number_where names w test fault) (number_in w test fault)
   unfolding number_where
-  where_told w test fault =
-      number_told w (λ at n. unless (test n) (fault at)) (λ i n. judged (test n.0) (fault i.at) n) (λ i n j. judged_told (test n) (fault i.at) (n, j))
+  where_wrong w test fault =
+      number_wrong w (λ at n. unless (test n) (fault at)) (λ i n. tested (test n.0) (fault i.at) n) (λ i n j. tested_wrong (test n) (fault i.at) (n, j))
 
-  -- the same, with what is judged behind it
-  pub where_then_told : {X : Type 0} (w : Width) (test : ℕ → Bool) (fault : ℕ → F) (wrong : ℕ → ℕ → Option F) (judge : Input → ℕ × Input → Result X F)
-      → ((i : Input) (n : ℕ) (j : Input) → failure (judged (test n) (fault i.at) (n, j) >>= judge i) ≡ wrong i.at n)
-      → IsTold (λ i. number_where names w test fault i >>= judge i) (number w wrong)
+  -- the same, with what is tested behind it
+  pub where_then_wrong : {X : Type 0} (w : Width) (test : ℕ → Bool) (fault : ℕ → F) (wrong : ℕ → ℕ → Option F) (judge : Input → ℕ × Input → Result X F)
+      → ((i : Input) (n : ℕ) (j : Input) → failure (tested (test n) (fault i.at) (n, j) >>= judge i) ≡ wrong i.at n)
+      → TellsWrong (λ i. number_where names w test fault i >>= judge i) (number w wrong)
   unfolding number_where
-  where_then_told w test fault wrong judge e =
-      told_as (λ i. sym (bind_twice (number_at names w i) (λ n. judged (test n.0) (fault i.at) n) (judge i)))
-      (number_told w wrong (λ i n. judged (test n.0) (fault i.at) n >>= judge i) e)
+  where_then_wrong w test fault wrong judge e =
+      wrong_as (λ i. sym (bind_twice (number_at names w i) (λ n. tested (test n.0) (fault i.at) n) (judge i)))
+      (number_wrong w wrong (λ i n. tested (test n.0) (fault i.at) n >>= judge i) e)
 
-  pub end_told : {X : Type 0} (fault : ℕ → F) (x : X) → IsTold (ended fault x) (record { width = 0; fault = λ at left. unless (eqb (length left) 0) (fault at) })
-  end_told fault x = record {
+  pub end_wrong : {X : Type 0} (fault : ℕ → F) (x : X) → TellsWrong (ended fault x) (record { width = 0; fault = λ at left. unless (eqb (length left) 0) (fault at) })
+  end_wrong fault x = record {
     tells = λ i within.
         let over : ltb i.limit (i.at + 0) ≡ false = le-ltb _ _ (omega arith) in
         let short : ltb (length i.bytes) 0 ≡ false = le-ltb _ _ (omega arith) in
-        rw (over, short) (judged_told (eqb (length i.bytes) 0) (fault i.at) x);
+        rw (over, short) (tested_wrong (eqb (length i.bytes) 0) (fault i.at) x);
   }
 
 -- ---- a reading that fails tells rightly

@@ -11,10 +11,12 @@
 //! (`proofs/Codec.antt`), and so is which field is wrong where a reading fails (`proofs/Wrong.antt`).
 #![tactic(auto)]
 
+mod file_fault;
 mod filling;
 mod output;
 mod source;
 
+pub use file_fault::FileFault;
 pub use filling::{ReadFailed, fill};
 pub use output::{WriteFailed, put, put_both, put_shown};
-pub use source::{FieldFault, Source};
+pub use source::Source;

@@ -11,7 +11,7 @@ use Rattle.dis_records.specs.declared.header.HeaderFault.{HeaderFault}
 use Rattle.dis_records.specs.declared.header.Version.{Version}
 use Rattle.dis_records.specs.declared.header.Version.TheVariants as versions
 use Rattle.dis_records.specs.Kind.{kind_code, kind_from, is_kind_code}
-use Rattle.dis_records.specs.Layout.{number_at}
+use Rattle.dis_records.specs.Layout.{spelled_number}
 use Rattle.dis_records.specs.Header.{IsHeader, version_code, header_at, header_refusal}
 
 pub kind_from-kind_code : (kind : Kind) → kind_from (kind_code kind) ≡ kind
@@ -58,12 +58,12 @@ same_fields g version exercise kind stamp own status a b c d e f = rw (← a, �
 pub header_stands : (h : Header) (b : List ℕ) → IsHeader h b → header_refusal b ≡ None
 header_stands h b p =
     let x = p.stands in
-    let version : number_at w8 0 b ≡ 7 = sym x.0 ∙ version_is h.version in
-    let family : number_at w8 3 b ≡ 5 = sym x.1.1.1.0 in
-    let kind : is_kind_code (number_at w8 2 b) ≡ true = ap is_kind_code (sym x.1.1.0) ∙ is_kind_code-kind_code h.kind in
+    let version : spelled_number w8 0 b ≡ 7 = sym x.0 ∙ version_is h.version in
+    let family : spelled_number w8 3 b ≡ 5 = sym x.1.1.1.0 in
+    let kind : is_kind_code (spelled_number w8 2 b) ≡ true = ap is_kind_code (sym x.1.1.0) ∙ is_kind_code-kind_code h.kind in
     let long : ltb (length b) 12 ≡ false = le-ltb (length b) 12 p.room in
     let limit : ltb LARGEST_DATAGRAM (length b) ≡ false = le-ltb LARGEST_DATAGRAM (length b) p.limit in
-    let own : number_at w16 8 b ≡ length b = sym x.1.1.1.1.1.0 ∙ p.length_is in
+    let own : spelled_number w16 8 b ≡ length b = sym x.1.1.1.1.1.0 ∙ p.length_is in
     let same : eqb (length b) (length b) ≡ true = search rules in
     rw (long, version, family, kind, limit, own, same) refl
 
@@ -71,7 +71,7 @@ header_stands h b p =
 pub header_is : (h : Header) (b : List ℕ) → IsHeader h b → h ≡ header_at b
 header_is h b p =
     let x = p.stands in
-    same_fields h versions.V7 (number_at w8 1 b) (kind_from (number_at w8 2 b)) (number_at w32 4 b) (number_at w16 8 b) (number_at w8 10 b)
+    same_fields h versions.V7 (spelled_number w8 1 b) (kind_from (spelled_number w8 2 b)) (spelled_number w32 4 b) (spelled_number w16 8 b) (spelled_number w8 10 b)
     (same_version h.version versions.V7)
     x.1.0
     (sym (kind_from-kind_code h.kind) ∙ ap kind_from x.1.1.0)
@@ -110,15 +110,15 @@ kind_code-kind_from n e =
 pub header_reads : (b : List ℕ) → header_refusal b ≡ None → IsHeader (header_at b) b
 header_reads b e =
     let short = unless (ltb (length b) 12) _ _ e in
-    let version = unless (not (eqb (number_at w8 0 b) 7)) _ _ short.1 in
-    let family = unless (not (eqb (number_at w8 3 b) 5)) _ _ version.1 in
-    let kind = unless (not (is_kind_code (number_at w8 2 b))) _ _ family.1 in
+    let version = unless (not (eqb (spelled_number w8 0 b) 7)) _ _ short.1 in
+    let family = unless (not (eqb (spelled_number w8 3 b) 5)) _ _ version.1 in
+    let kind = unless (not (is_kind_code (spelled_number w8 2 b))) _ _ family.1 in
     let long = unless (ltb LARGEST_DATAGRAM (length b)) _ _ kind.1 in
-    let own = unless (not (eqb (number_at w16 8 b) (length b))) _ _ long.1 in
+    let own = unless (not (eqb (spelled_number w16 8 b) (length b))) _ _ long.1 in
     record {
       stands = (
         sym (eqb-true _ _ (otherwise _ version.0)),
-        (refl, (kind_code-kind_from (number_at w8 2 b) (otherwise (is_kind_code (number_at w8 2 b)) kind.0), (sym (eqb-true _ _ (otherwise _ family.0)), (refl, (refl, (refl, (tt, tt))))))),
+        (refl, (kind_code-kind_from (spelled_number w8 2 b) (otherwise (is_kind_code (spelled_number w8 2 b)) kind.0), (sym (eqb-true _ _ (otherwise _ family.0)), (refl, (refl, (refl, (tt, tt))))))),
       );
       length_is = eqb-true _ _ (otherwise _ own.0);
       room = not_below _ _ short.0;

@@ -2,7 +2,7 @@
 use Rattle.std.proofs.Common.{◌≡◌, ℕ, zero, suc, ◌+◌, ◌-◌, ◌*◌, List, [], ◌∷◌, ◌++◌, length, map, take, drop, refl, sym, ap, subst, ◌∙◌, append_assoc, arith}
 use Rattle.std.specs.Int.{w32}
 use Rattle.dis_records.specs.declared.datum.FixedDatum.{FixedDatum}
-use Rattle.dis_records.specs.Layout.{Field, StandAt, field_size, field_text, size, text, total, number_at, value_at, bytes_for, cleared}
+use Rattle.dis_records.specs.Layout.{Field, StandAt, field_size, field_text, size, text, total, spelled_number, value_at, bytes_for, cleared}
 use Rattle.dis_records.specs.Datum.{Datum, padded, fixed_layouts, id_layouts, variable_layout, variable_layouts, canonical}
 use Rattle.dis_records.specs.Records.{fixed_at, ids_at, variable_sizes, variable_at}
 
@@ -55,7 +55,7 @@ fixed_is [] at b stand = refl
 fixed_is (d ∷ ds) at b stand =
     let e : at + 4 + 4 ≡ at + 8 = omega arith in
     let others = fixed_is ds (at + 8) b (subst (λ (k : ℕ). StandAt (fixed_layouts ds) k b) e stand.1.1) in
-    fixed_same d (number_at w32 at b) (number_at w32 (at + 4) b) ds (fixed_at (length ds) (at + 8) b) stand.0 stand.1.0 others
+    fixed_same d (spelled_number w32 at b) (spelled_number w32 (at + 4) b) ds (fixed_at (length ds) (at + 8) b) stand.0 stand.1.0 others
 
 -- ---- identifiers
 
@@ -76,7 +76,7 @@ ids_stand (suc n) at b = (refl, ids_stand n (at + 4) b)
 pub ids_are : (ids : List ℕ) (at : ℕ) (b : List ℕ) → StandAt (id_layouts ids) at b → ids ≡ ids_at (length ids) at b
 unfolding ids_at
 ids_are [] at b stand = refl
-ids_are (id ∷ ids) at b stand = let first : id ≡ number_at w32 at b = stand.0 in let others = ids_are ids (at + 4) b stand.1 in cc
+ids_are (id ∷ ids) at b stand = let first : id ≡ spelled_number w32 at b = stand.0 in let others = ids_are ids (at + 4) b stand.1 in cc
 
 -- ---- variable records
 
@@ -86,7 +86,7 @@ after at bits = omega arith
 pub length-variable_at : (n at : ℕ) (b : List ℕ) → length (variable_at n at b) ≡ n
 unfolding variable_at
 length-variable_at zero at b = refl
-length-variable_at (suc n) at b = ap suc (length-variable_at n (at + padded (number_at w32 (at + 4) b)) b)
+length-variable_at (suc n) at b = ap suc (length-variable_at n (at + padded (spelled_number w32 (at + 4) b)) b)
 
 pub size-variable_layout : (d : Datum) → size (variable_layout d) ≡ padded d.bits
 size-variable_layout d = omega arith
@@ -97,7 +97,7 @@ pub variable_stand : (n at : ℕ) (b : List ℕ)
 unfolding variable_at variable_sizes value_at
 variable_stand zero at b = (tt, refl)
 variable_stand (suc n) at b =
-    let bits = number_at w32 (at + 4) b in
+    let bits = spelled_number w32 (at + 4) b in
     let others = variable_stand n (at + padded bits) b in
     let value : cleared bits (take (bytes_for bits) (drop (at + 8) b)) ≡ cleared bits
     (take (bytes_for bits) (drop (at + 4 + 4) b)) = let e : at + 8 ≡ at + 4 + 4 = omega arith in rw e refl in
@@ -112,12 +112,12 @@ pub variable_is : (ds : List Datum) (at : ℕ) (b : List ℕ) → StandAt (varia
 unfolding variable_at variable_sizes value_at
 variable_is [] at b stand = (refl, refl)
 variable_is (d ∷ ds) at b stand =
-    let bits = number_at w32 (at + 4) b in
+    let bits = spelled_number w32 (at + 4) b in
     let bits_is : d.bits ≡ bits = stand.1.0 in
     let here : at + 4 + 4 + bytes_for d.bits + (padded d.bits - 8 - bytes_for d.bits) ≡ at + padded bits = rw (← bits_is) (after at d.bits) in
     let others = variable_is ds (at + padded bits) b (subst (λ (k : ℕ). StandAt (variable_layouts ds) k b) here stand.1.1.1.1) in
     let value : d.bytes ≡ cleared bits (take (bytes_for bits) (drop (at + 8) b)) = let e : at + 8 ≡ at + 4 + 4 = omega arith in rw (e, ← bits_is) stand.1.1.0 in (
-      variable_same d (number_at w32 at b) bits (cleared bits (take (bytes_for bits) (drop (at + 8) b))) ds
+      variable_same d (spelled_number w32 at b) bits (cleared bits (take (bytes_for bits) (drop (at + 8) b))) ds
           (map canonical (variable_at (length ds) (at + padded bits) b)) stand.0 bits_is value others.0,
       omega (arith, others.1, bits_is),
     )

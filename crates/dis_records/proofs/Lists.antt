@@ -1,7 +1,7 @@
 -- The first of the records that are left.
 use Rattle.std.proofs.Common.{◌≡◌, ℕ, zero, suc, ◌+◌, ◌-◌, ◌<◌, ◌≤◌, List, [], ◌∷◌, length, take, drop, refl, arith}
 use Rattle.std.specs.Int.{w32}
-use Rattle.dis_records.specs.Layout.{number_at, bytes_for, total}
+use Rattle.dis_records.specs.Layout.{spelled_number, bytes_for, total}
 use Rattle.dis_records.specs.Datum.{padded}
 use Rattle.dis_records.specs.Records.{fixed_at, ids_at, variable_sizes, variable_at}
 
@@ -10,7 +10,7 @@ unfolding fixed_at
 fixed_none left at b none = rw none refl
 
 pub fixed_more : (left at : ℕ) (b : List ℕ) → 0 < left
-    → fixed_at left at b ≡ record { id = number_at w32 at b; value = number_at w32 (at + 4) b } ∷ fixed_at (left - 1) (at + 8) b
+    → fixed_at left at b ≡ record { id = spelled_number w32 at b; value = spelled_number w32 (at + 4) b } ∷ fixed_at (left - 1) (at + 8) b
 unfolding fixed_at
 fixed_more zero at b lt = absurd (omega arith)
 fixed_more (suc n) at b lt = let e : suc n - 1 ≡ n = omega arith in rw e refl
@@ -19,7 +19,7 @@ pub ids_none : (left at : ℕ) (b : List ℕ) → left ≡ 0 → ids_at left at 
 unfolding ids_at
 ids_none left at b none = rw none refl
 
-pub ids_more : (left at : ℕ) (b : List ℕ) → 0 < left → ids_at left at b ≡ number_at w32 at b ∷ ids_at (left - 1) (at + 4) b
+pub ids_more : (left at : ℕ) (b : List ℕ) → 0 < left → ids_at left at b ≡ spelled_number w32 at b ∷ ids_at (left - 1) (at + 4) b
 unfolding ids_at
 ids_more zero at b lt = absurd (omega arith)
 ids_more (suc n) at b lt = let e : suc n - 1 ≡ n = omega arith in rw e refl
@@ -30,17 +30,17 @@ variable_none left at b none = rw none refl
 
 pub variable_more : (left at : ℕ) (b : List ℕ) → 0 < left
     → variable_at left at b ≡ record {
-      id = number_at w32 at b;
-      bits = number_at w32 (at + 4) b;
-      bytes = take (bytes_for (number_at w32 (at + 4) b))
+      id = spelled_number w32 at b;
+      bits = spelled_number w32 (at + 4) b;
+      bytes = take (bytes_for (spelled_number w32 (at + 4) b))
           (drop (at + 8) b);
-    } ∷ variable_at (left - 1) (at + padded (number_at w32 (at + 4) b)) b
+    } ∷ variable_at (left - 1) (at + padded (spelled_number w32 (at + 4) b)) b
 unfolding variable_at
 variable_more zero at b lt = absurd (omega arith)
 variable_more (suc n) at b lt = let e : suc n - 1 ≡ n = omega arith in rw e refl
 
 pub sizes_more : (left at : ℕ) (b : List ℕ) → 0 < left
-    → variable_sizes left at b ≡ padded (number_at w32 (at + 4) b) ∷ variable_sizes (left - 1) (at + padded (number_at w32 (at + 4) b)) b
+    → variable_sizes left at b ≡ padded (spelled_number w32 (at + 4) b) ∷ variable_sizes (left - 1) (at + padded (spelled_number w32 (at + 4) b)) b
 unfolding variable_sizes
 sizes_more zero at b lt = absurd (omega arith)
 sizes_more (suc n) at b lt = let e : suc n - 1 ≡ n = omega arith in rw e refl
@@ -48,8 +48,8 @@ sizes_more (suc n) at b lt = let e : suc n - 1 ≡ n = omega arith in rw e refl
 -- the first record is wholly there, and so are the others
 pub record Room (left at : ℕ) (b : List ℕ) : Type 0 where
   pub head : at + 8 ≤ length b
-  pub value : at + 8 + bytes_for (number_at w32 (at + 4) b) ≤ length b
-  pub others : at + padded (number_at w32 (at + 4) b) + total (variable_sizes (left - 1) (at + padded (number_at w32 (at + 4) b)) b) ≤ length b
+  pub value : at + 8 + bytes_for (spelled_number w32 (at + 4) b) ≤ length b
+  pub others : at + padded (spelled_number w32 (at + 4) b) + total (variable_sizes (left - 1) (at + padded (spelled_number w32 (at + 4) b)) b) ≤ length b
 
 pub room : (left at : ℕ) (b : List ℕ) → 0 < left → at + total (variable_sizes left at b) ≤ length b → Room left at b
 room left at b lt within =

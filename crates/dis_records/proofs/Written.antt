@@ -3,7 +3,7 @@ use Rattle.std.proofs.Common.{◌≡◌, ℕ, ◌+◌, ◌^◌, ◌<◌, ◌≤�
 use Rattle.std.specs.Int.{Width, w8, w16, w32, byte_len, from_be_bytes, to_be_bytes}
 use Rattle.std.proofs.lemmas.Nat.{from_be_bytes-to_be_bytes_2, from_be_bytes-to_be_bytes_4}
 use Rattle.std.proofs.lemmas.List.{append-nil, take_at, drop_at, take-append-le, drop-append-le, length-append, length-drop, length-replicate}
-use Rattle.dis_records.specs.Layout.{Field, Byte, Number, Padding, Value, FieldFits, Fit, field_size, field_text, StandsAt, StandAt, size, text, Spell, number_at, value_at, bytes_for, cleared}
+use Rattle.dis_records.specs.Layout.{Field, Byte, Number, Padding, Value, FieldFits, Fit, field_size, field_text, StandsAt, StandAt, size, text, Spell, spelled_number, value_at, bytes_for, cleared}
 
 length-field_text : (f : Field) → FieldFits f → length (field_text f) ≡ field_size f
 length-field_text (Byte n) fits = refl
@@ -16,7 +16,7 @@ behind : (front piece back : List ℕ) (n : ℕ) → length piece ≡ n → take
 behind front piece back n len = rw (drop_at front (piece ++ back) (length front) refl) (take_at piece back n len)
 
 field_stands : (f : Field) (front back : List ℕ) → FieldFits f → StandsAt f (length front) (front ++ (field_text f ++ back))
-unfolding number_at value_at
+unfolding spelled_number value_at
 field_stands (Byte n) front back fits = sym (ap (λ (bs : List ℕ). from_be_bytes w8 bs) (behind front (n ∷ []) back 1 refl))
 field_stands (Number w n) front back fits =
     sym (ap (λ (bs : List ℕ). from_be_bytes w bs) (behind front (to_be_bytes w n) back (byte_len w) fits.0) ∙ fits.1)
@@ -62,8 +62,8 @@ Fit-append (f ∷ fs) gs p q = (p.0, Fit-append fs gs p.1 q)
 -- ---- what stands in a front of bytes
 
 pub number_at-append : (w : Width) (at : ℕ) (front back : List ℕ) → at + byte_len w ≤ length front
-    → number_at w at (front ++ back) ≡ number_at w at front
-unfolding number_at
+    → spelled_number w at (front ++ back) ≡ spelled_number w at front
+unfolding spelled_number
 number_at-append w at front back le =
     ap (λ (bs : List ℕ). from_be_bytes w bs) (ap (λ (bs : List ℕ). take (byte_len w) bs) (drop-append-le at front back (omega arith)) ∙ take-append-le
     (byte_len w) (drop at front) back (omega (arith, length-drop at front)))

@@ -2,7 +2,7 @@
 use Rattle.std.specs.Prelude.{ℕ, List, [], ◌∷◌, ◌+◌}
 use Rattle.std.specs.Int.{w32}
 use Rattle.dis_records.specs.declared.clock_time.ClockTime.{ClockTime}
-use Rattle.dis_records.specs.Layout.{Field, Number, number_at}
+use Rattle.dis_records.specs.Layout.{Field, Number, spelled_number}
 
 -- hours since 1 January 1970, time past the hour
 abbrev pub clock_time_layout : ClockTime → List Field
@@ -10,4 +10,4 @@ clock_time_layout t = Number w32 t.hour ∷ Number w32 t.past ∷ []
 
 -- the clock time that stands at an offset
 abbrev pub clock_time_at : ℕ → List ℕ → ClockTime
-clock_time_at at b = record { hour = number_at w32 at b; past = number_at w32 (at + 4) b }
+clock_time_at at b = record { hour = spelled_number w32 at b; past = spelled_number w32 (at + 4) b }

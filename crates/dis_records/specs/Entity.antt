@@ -7,7 +7,7 @@ use Rattle.dis_records.specs.declared.entity_number.TheConstants.{ANY_NUMBER}
 use Rattle.dis_records.specs.declared.entity.Scope.TheVariants.{One, All}
 use Rattle.dis_records.specs.declared.kind.Kind.{Kind}
 use Rattle.dis_records.specs.declared.kind.Kind.TheVariants as kinds
-use Rattle.dis_records.specs.Layout.{Field, Number, number_at}
+use Rattle.dis_records.specs.Layout.{Field, Number, spelled_number}
 use Rattle.dis_records.specs.Address.{Pair}
 
 -- site, application, entity
@@ -16,7 +16,7 @@ entity_layout id = Number w16 id.site ∷ Number w16 id.application ∷ Number w
 
 -- the identifier that stands at an offset
 abbrev pub entity_at : ℕ → List ℕ → EntityId
-entity_at at b = record { site = number_at w16 at b; application = number_at w16 (at + 2) b; entity = number_at w16 (at + 4) b }
+entity_at at b = record { site = spelled_number w16 at b; application = spelled_number w16 (at + 2) b; entity = spelled_number w16 (at + 4) b }
 
 -- the site and the application of an identifier
 abbrev pub pair_of : EntityId → Pair
@@ -28,17 +28,7 @@ is_addressed id p = ((id.site == p.site) || (id.site == 0xFFFF)) && ((id.applica
 
 abbrev pub is_create : Kind → Bool
 is_create kinds.CreateEntity = true
-is_create kinds.RemoveEntity = false
-is_create kinds.StartResume = false
-is_create kinds.StopFreeze = false
-is_create kinds.Acknowledge = false
-is_create kinds.ActionRequest = false
-is_create kinds.ActionResponse = false
-is_create kinds.DataQuery = false
-is_create kinds.SetData = false
-is_create kinds.DataPdu = false
-is_create kinds.EventReport = false
-is_create kinds.Comment = false
+is_create kind = false
 
 -- An entity number is open where it names no single entity: 0, 0xFFFF, and in a Create Entity 0xFFFE, the wish for a number of the receiver's choice (profile).
 abbrev pub is_open : Kind → ℕ → Bool

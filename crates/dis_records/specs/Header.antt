@@ -8,7 +8,7 @@ use Rattle.dis_records.specs.declared.header.HeaderFault.{HeaderFault}
 use Rattle.dis_records.specs.declared.header.HeaderFault.TheVariants as faults
 use Rattle.dis_records.specs.declared.header.TheConstants.{LARGEST_DATAGRAM}
 use Rattle.dis_records.specs.Kind.{kind_code, kind_from, is_kind_code}
-use Rattle.dis_records.specs.Layout.{Field, Byte, Number, Padding, StandAt, number_at}
+use Rattle.dis_records.specs.Layout.{Field, Byte, Number, Padding, StandAt, spelled_number}
 
 -- the protocol version of IEEE 1278.1-2012
 abbrev pub version_code : Version → ℕ
@@ -24,11 +24,11 @@ header_layout h =
 abbrev pub header_at : List ℕ → Header
 header_at b = record {
   version = versions.V7;
-  exercise = number_at w8 1 b;
-  kind = kind_from (number_at w8 2 b);
-  stamp = number_at w32 4 b;
-  length = number_at w16 8 b;
-  status = number_at w8 10 b;
+  exercise = spelled_number w8 1 b;
+  kind = kind_from (spelled_number w8 2 b);
+  stamp = spelled_number w32 4 b;
+  length = spelled_number w16 8 b;
+  status = spelled_number w8 10 b;
 }
 
 -- b begins with the header, which gives the length of b, at most 8192 (profile).
@@ -42,9 +42,9 @@ pub record IsHeader (h : Header) (b : List ℕ) : Type 0 where
 abbrev pub header_refusal : List ℕ → Option HeaderFault
 header_refusal b =
     if nat_lt (length b) 12 then Some faults.Truncated
-    else (if not (number_at w8 0 b == 7) then Some (faults.Version (number_at w8 0 b))
-    else (if not (number_at w8 3 b == 5) then Some (faults.Family (number_at w8 3 b))
-    else (if not (is_kind_code (number_at w8 2 b)) then Some (faults.Kind (number_at w8 2 b))
+    else (if not (spelled_number w8 0 b == 7) then Some (faults.Version (spelled_number w8 0 b))
+    else (if not (spelled_number w8 3 b == 5) then Some (faults.Family (spelled_number w8 3 b))
+    else (if not (is_kind_code (spelled_number w8 2 b)) then Some (faults.Kind (spelled_number w8 2 b))
     else (if nat_lt LARGEST_DATAGRAM (length b) then Some faults.Long
-    else (if not (number_at w16 8 b == length b) then Some (faults.LengthField (number_at w16 8 b))
+    else (if not (spelled_number w16 8 b == length b) then Some (faults.LengthField (spelled_number w16 8 b))
     else None)))))

@@ -27,8 +27,8 @@ abbrev pub last_cleared : ℕ → ℕ → ℕ
 last_cleared bits byte = if bits % 8 == 0 then byte else (byte / 2 ^ (8 - bits % 8)) * 2 ^ (8 - bits % 8)
 
 -- the number that the bytes of a width at an offset spell
-unfoldable pub number_at : Width → ℕ → List ℕ → ℕ
-number_at w at b = from_be_bytes w (take (byte_len w) (drop at b))
+unfoldable pub spelled_number : Width → ℕ → List ℕ → ℕ
+spelled_number w at b = from_be_bytes w (take (byte_len w) (drop at b))
 
 -- the value that so many bits at an offset are, its unused low bits zero
 unfoldable pub value_at : ℕ → ℕ → List ℕ → List ℕ
@@ -42,8 +42,8 @@ field_size (Value bits bytes) = bytes_for bits
 
 -- The field stands in b at the offset.
 abbrev pub StandsAt : Field → ℕ → List ℕ → Type 0
-StandsAt (Byte n) at b = n ≡ number_at w8 at b
-StandsAt (Number w n) at b = n ≡ number_at w at b
+StandsAt (Byte n) at b = n ≡ spelled_number w8 at b
+StandsAt (Number w n) at b = n ≡ spelled_number w at b
 StandsAt (Padding n) at b = Unit {0}
 StandsAt (Value bits bytes) at b = bytes ≡ value_at bits at b
 

@@ -8,3 +8,4 @@ pub mod Datum
 pub mod Refusals
 pub mod Records
 pub mod Texts
+pub mod Views

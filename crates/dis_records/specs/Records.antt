@@ -3,30 +3,30 @@ use Rattle.std.specs.Prelude.{ℕ, zero, suc, ◌+◌, List, [], ◌∷◌, take
 use Rattle.std.specs.Int.{w32}
 use Rattle.dis_records.specs.declared.datum.FixedDatum.{FixedDatum}
 use Rattle.dis_records.specs.declared.datum.VariableView.{VariableView}
-use Rattle.dis_records.specs.Layout.{number_at, bytes_for}
+use Rattle.dis_records.specs.Layout.{spelled_number, bytes_for}
 use Rattle.dis_records.specs.Datum.{Datum, padded}
 
 -- fixed records of eight bytes each
 unfoldable pub fixed_at : ℕ → ℕ → List ℕ → List FixedDatum
 fixed_at zero at b = []
-fixed_at (suc n) at b = record { id = number_at w32 at b; value = number_at w32 (at + 4) b } ∷ fixed_at n (at + 8) b
+fixed_at (suc n) at b = record { id = spelled_number w32 at b; value = spelled_number w32 (at + 4) b } ∷ fixed_at n (at + 8) b
 
 -- the sizes of the variable records, each by the number of bits that stands in it
 unfoldable pub variable_sizes : ℕ → ℕ → List ℕ → List ℕ
 variable_sizes zero at b = []
-variable_sizes (suc n) at b = padded (number_at w32 (at + 4) b) ∷ variable_sizes n (at + padded (number_at w32 (at + 4) b)) b
+variable_sizes (suc n) at b = padded (spelled_number w32 (at + 4) b) ∷ variable_sizes n (at + padded (spelled_number w32 (at + 4) b)) b
 
 -- identifiers of four bytes each
 unfoldable pub ids_at : ℕ → ℕ → List ℕ → List ℕ
 ids_at zero at b = []
-ids_at (suc n) at b = number_at w32 at b ∷ ids_at n (at + 4) b
+ids_at (suc n) at b = spelled_number w32 at b ∷ ids_at n (at + 4) b
 
 -- the variable records, their bytes as they stand
 unfoldable pub variable_at : ℕ → ℕ → List ℕ → List Datum
 variable_at zero at b = []
 variable_at (suc n) at b =
-    record { id = number_at w32 at b; bits = number_at w32 (at + 4) b; bytes = take (bytes_for (number_at w32 (at + 4) b)) (drop (at + 8) b) }
-    ∷ variable_at n (at + padded (number_at w32 (at + 4) b)) b
+    record { id = spelled_number w32 at b; bits = spelled_number w32 (at + 4) b; bytes = take (bytes_for (spelled_number w32 (at + 4) b)) (drop (at + 8) b) }
+    ∷ variable_at n (at + padded (spelled_number w32 (at + 4) b)) b
 
 -- a view without where it lies in memory
 abbrev pub shown : VariableView → Datum

@@ -1,6 +1,6 @@
 //! The header that each datagram begins with.
 
-ghost use Rattle.std.specs.Prelude.{◌≡◌, ◌≤◌, length, IfOk, IfErr, Some, None, Ok};
+ghost use Rattle.std.specs.Prelude.{◌≡◌, length, IfOk, IfErr, Some, None, Ok};
 ghost use Rattle.dis_records.specs.Layout.{Fit, text};
 ghost use Rattle.dis_records.specs.Header.{IsHeader, header_layout, header_at, header_refusal, version_code};
 

@@ -1,9 +1,11 @@
 //! The records that every Simulation Management PDU of DIS is made of (IEEE 1278.1-2012, 6.2):
-//! the header, addresses and entity identifiers, clock times and datum records.
+//! the header, addresses and entity identifiers, clock times and datum records, the last also in
+//! place, as views of a datagram.
 //!
 //! It knows no body of a PDU, and only [`VariableDatum::copy`] takes memory. The layers above rest
-//! on `read_header`, which accepts exactly the headers of the layout, on `scope`, and on the fact
-//! that a [`VariableDatum`] has as many bytes as its bits need, the unused bits zero.
+//! on `read_header`, which accepts exactly the headers of the layout, on `scope`, on the fact that
+//! a [`VariableDatum`] has as many bytes as its bits need, the unused bits zero, and on
+//! [`DatumsView`] and [`IdsView`], whose iterators give what stands in a datagram, in order.
 //!
 //! What the crate of the bodies needs to walk a datagram (numbers at an offset, the records one
 //! after the other) stands under [`field`] and [`records`].
@@ -19,6 +21,7 @@ pub mod field;
 mod header;
 mod kind;
 pub mod records;
+mod views;
 
 pub use address::{Address, LARGEST_ADDRESS_PART, addresses_are_ordered, is_address_part};
 pub use clock_time::ClockTime;
@@ -30,3 +33,4 @@ pub use header::{
     HEADER_SIZE, Header, HeaderFault, LARGEST_DATAGRAM, Version, read_header, write_header,
 };
 pub use kind::Kind;
+pub use views::{DatumsView, IdsView};

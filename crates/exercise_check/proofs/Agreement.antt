@@ -6,7 +6,7 @@ use Rattle.std.specs.Int.{w32, to_be_bytes}
 use Rattle.std.proofs.lemmas.Bool.{and_parts, and_from, lt-ltb, ltb-true, leb-true, le-leb}
 use Rattle.std.proofs.lemmas.List.{length-append}
 use Rattle.byte_files.specs.Fields as fields
-use Rattle.byte_files.proofs.Offered.{Agrees, IsMark, IsOfEach, IsWhole, agrees_as, bytes_same, end_whole, field_agrees, judged_mark, last_agrees, mark_whole, four_bytes, tested_agrees, then_agrees, then_whole, times_agrees, whole_as}
+use Rattle.byte_files.proofs.Offered.{Agrees, IsMark, IsOfEach, IsWhole, agrees_as, bytes_same, end_whole, field_agrees, tested_mark, last_agrees, mark_whole, four_bytes, tested_agrees, then_agrees, then_whole, times_agrees, whole_as}
 use Rattle.exercise_check.specs.declared.certificate.Step.{Step}
 use Rattle.exercise_check.specs.declared.certificate_fault.CertificateFormatFault.TheVariants as faults
 use Rattle.exercise_check.specs.Certificate.{step_text, head_text, certificate_text, is_step, names, magic_at, count_at, step_at, steps_at, whole_at}
@@ -15,7 +15,7 @@ pub magic_mark : IsMark magic_at (codes "DSCT0001")
 unfolding magic_at
 magic_mark =
     let magic = codes "DSCT0001" in
-    judged_mark (λ b. bytes_eq b magic) faults.Magic magic (field_agrees names 8) refl refl (λ b h same. bytes_same b magic same)
+    tested_mark (λ b. bytes_eq b magic) faults.Magic magic (field_agrees names 8) refl refl (λ b h same. bytes_same b magic same)
 
 pub count_agrees : (limit : ℕ) → Agrees (count_at limit) (to_be_bytes w32) (λ n. (n < 2 ^ 32) × (nat_le n limit ≡ true))
 unfolding count_at fields.number_where

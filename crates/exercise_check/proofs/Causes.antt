@@ -9,10 +9,9 @@ use Rattle.exercise_model.specs.declared.cause.Cause.{Cause}
 use Rattle.exercise_model.specs.declared.cause.Cause.TheVariants.{CountDiffers, NoSuchRecord, OutOfOrder, BadLink, WrongSender, ReusedIdentifier, NoRequest, WrongAnswer, ChangedAnswer, Impossible, Stranger, NeverSent, WrongState}
 use Rattle.exercise_model.specs.Station.{StationData}
 use Rattle.exercise_model.specs.Recording.{PlainRecording}
-use Rattle.exercise_model.specs.History.{Event, Send, Get, Tell, History, event_of}
+use Rattle.exercise_model.specs.History.{Event, Send, Get, Tell, History, event_of, log_at}
 use Rattle.exercise_model.specs.Setting.{SettingData, station_in}
 use Rattle.exercise_model.specs.Meaning.{meaning}
-use Rattle.exercise_model.specs.History.{log_at}
 use Rattle.exercise_model.specs.Cause.{first_cause, send_rows, send_cause, get_rows, get_cause, tell_rows, cause_of}
 use Rattle.exercise_model.specs.State.{state_after}
 use Rattle.exercise_check.specs.declared.certificate.Step.{Step}

@@ -4,6 +4,7 @@ mod Goodness
 mod Courses
 mod Links
 mod Explained
+mod Known
 mod Causes
 mod Agreement
 mod Refusals

@@ -2,9 +2,7 @@
 use Rattle.std.specs.Prelude.{◌≡◌, ◌≤◌, ◌<◌, ℕ, ◌+◌, ◌*◌, List, ◌++◌, length, take, drop, Bool, false, ◌&&◌, nat_lt, nat_le, Option, Some, None, Result, Ok, bytes_eq, codes}
 use Rattle.std.specs.List.{flat_map}
 use Rattle.std.specs.Int.{Width, w32, to_be_bytes, from_be_bytes}
-use Rattle.byte_files.specs.declared.source.FieldFault.{FieldFault}
-use Rattle.byte_files.specs.declared.source.FieldFault.TheVariants as fields_faults
-use Rattle.byte_files.specs.Fields.{Input, Names, ◌>>=◌, judged}
+use Rattle.byte_files.specs.Fields.{Input, Names, ◌>>=◌, tested}
 use Rattle.byte_files.specs.Fields as fields
 use Rattle.byte_files.specs.Repeats.{many_at}
 use Rattle.exercise_check.specs.declared.certificate.Step.{Step}
@@ -49,7 +47,7 @@ number_at w i = fields.number_at names w i
 unfoldable pub magic_at : Input → Result Input CertificateFormatFault
 magic_at i = do
   m ← field_at 8 i
-  judged (bytes_eq m.0 (codes "DSCT0001")) (faults.Magic i.at) m.1
+  tested (bytes_eq m.0 (codes "DSCT0001")) (faults.Magic i.at) m.1
 
 -- the number of steps, at most the limit
 unfoldable pub count_at : (limit : ℕ) → Input → Result (ℕ × Input) CertificateFormatFault
@@ -96,17 +94,11 @@ IsRefused limit bytes (faults.Trailing at) =
 
 -- ---- what a function returned
 
--- a fault of a field, in a certificate
-abbrev pub said : FieldFault → CertificateFault
-said (fields_faults.Truncated at) = Format (faults.Truncated at)
-said (fields_faults.OverLimit at) = Format (faults.OverLimit at)
-said fields_faults.Read = Read
-
 -- the fault of the format, where it is one
-abbrev pub told : CertificateFault → Option CertificateFormatFault
-told (Format fault) = Some fault
-told Read = None
-told Memory = None
+abbrev pub format_of : CertificateFault → Option CertificateFormatFault
+format_of (Format fault) = Some fault
+format_of Read = None
+format_of Memory = None
 
 -- the steps, without where they lie in memory
 abbrev pub steps_of : Certificate → List Step
@@ -114,13 +106,13 @@ steps_of c = c.steps.items
 
 -- What a function returned is what reading a certificate gives.
 abbrev pub Gives : {X Y : Type 0} → (X → Y) → Result X CertificateFault → Option Input → Result (Y × Input) CertificateFormatFault → Type 0
-Gives view result rest read = fields.Gives told view result rest read
+Gives view result rest read = fields.Gives format_of view result rest read
 
 abbrev pub Passes : Result (Unit {0}) CertificateFault → Option Input → Result Input CertificateFormatFault → Type 0
-Passes result rest read = fields.Passes told result rest read
+Passes result rest read = fields.Passes format_of result rest read
 
 abbrev pub Fills : Result (Unit {0}) CertificateFault → List ℕ → Option Input → Result (List ℕ × Input) CertificateFormatFault → Type 0
-Fills result filled rest read = fields.Fills told result filled rest read
+Fills result filled rest read = fields.Fills format_of result filled rest read
 
 abbrev pub Answers : {X Y : Type 0} → (X → Y) → Result X CertificateFault → Result Y CertificateFormatFault → Type 0
-Answers view result read = fields.Answers told view result read
+Answers view result read = fields.Answers format_of view result read

@@ -30,7 +30,8 @@ first_sender entries b [] = None
 first_sender entries b (step ∷ steps) =
     if option_map_or (λ e. sends b (event_of e)) (slice_get entries step.place) false then Some step.place else first_sender entries b steps
 
--- THE LINK OF A STEP: for an answer that is sent the entry of the request that it takes up, for a datagram that is received and means something the entry of the first Send before with the same bytes, for all else none
+-- THE LINK OF A STEP: for an answer that is sent the entry of the request that it takes up, for a datagram that is received and
+-- means something the entry of the first Send before with the same bytes, for all else none
 unfoldable pub link_of : PlainRecording → List Step → ℕ → Event → Option ℕ
 link_of r before place (Send s b) = option_and_then (pair_of_sent r s place) (meaning r.setting.exercise b)
 link_of r before place (Get s b) = option_and_then (λ (p : Pdu). first_sender r.entries b before) (meaning r.setting.exercise b)

@@ -1,10 +1,10 @@
 //! What a recording says, read from each station's log alone and looked through anew at each
 //! question.
 
-ghost use Rattle.std.specs.Prelude.{◌≡◌, ◌<◌, ◌≤◌, ◌+◌, length, map, take, slice_get, IfOk, IfSome, if◌then◌else◌};
+ghost use Rattle.std.specs.Prelude.{◌≡◌, ◌<◌, ◌+◌, length, map, IfOk, IfSome, if◌then◌else◌};
 ghost use Rattle.exercise_model.specs.Held.{shown};
 ghost use Rattle.exercise_check.specs.Checked.{TellsAccount};
-ghost use Rattle.exercise_model.specs.Account.{pair_of, sender_of, sends_able, first_able, change_under, change_behind_pdu, change_behind, is_other, others_among, others_of, entities_of, values_below};
+ghost use Rattle.exercise_model.specs.Account.{pair_of, sender_of, first_able, change_behind_pdu, change_behind, is_other, others_of, entities_of, values_below};
 
 use crate::change::acknowledges;
 use crate::checked::Checked;

@@ -1,11 +1,10 @@
 //! Why a certificate was not read or written.
 
 ghost use Rattle.std.specs.Prelude.{◌≡◌, Some};
-ghost use Rattle.exercise_check.specs.Certificate.{said};
 ghost use Rattle.exercise_check.specs.FaultText.{name_of, place_of, format_fault_text, certificate_fault_text};
 ghost use Rattle.exercise_check.specs.declared.certificate_fault.CertificateFault.TheVariants.{Memory};
 
-use byte_files::FieldFault;
+use byte_files::FileFault;
 use std::alloc::{AllocError, AllocFailed};
 use std::error::Error;
 use std::fmt;
@@ -63,7 +62,7 @@ impl fmt::Display for CertificateFormatFault {
 impl Error for CertificateFormatFault {}
 
 /// Why a certificate was not read.
-#[derive(Clone, Copy, Debug, PartialEq, Eq)]
+#[derive(Clone, Copy, Debug, Drop, PartialEq, Eq)]
 pub enum CertificateFault {
     /// The bytes are no certificate within the limit.
     Format(CertificateFormatFault),
@@ -88,19 +87,25 @@ impl fmt::Display for CertificateFault {
 
 impl Error for CertificateFault {}
 
-impl From<FieldFault> for CertificateFault {
-    ghost from_gives = { λ fault e. e ≡ said fault };
+impl FileFault for CertificateFault {
+    ghost use Rattle.exercise_check.specs.Certificate.{names, format_of};
 
-    fn from(fault: FieldFault) -> CertificateFault {
-        match fault {
-            FieldFault::Truncated(at) => {
-                CertificateFault::Format(CertificateFormatFault::Truncated(at))
-            }
-            FieldFault::OverLimit(at) => {
-                CertificateFault::Format(CertificateFormatFault::OverLimit(at))
-            }
-            FieldFault::Read => CertificateFault::Read,
-        }
+    type Format = CertificateFormatFault;
+
+    ghost names = { names };
+
+    ghost format_of = { format_of };
+
+    fn truncated(length: u64) -> CertificateFault {
+        CertificateFault::Format(CertificateFormatFault::Truncated(length))
+    }
+
+    fn over_limit(offset: u64) -> CertificateFault {
+        CertificateFault::Format(CertificateFormatFault::OverLimit(offset))
+    }
+
+    fn read_failed() -> CertificateFault {
+        CertificateFault::Read
     }
 }
 

@@ -66,7 +66,8 @@ impl Checked {
     }
 
     /// For an Able Acknowledge that was received, the entry of the first Able that its originator's
-    /// station sent under its key; `None` for all else and past the last entry. It takes no memory.
+    /// station sent under its key: the Change that it tells of. `None` for all else and past the last
+    /// entry. It takes no memory.
     pub fn cause(&self, entry: usize) -> Option<u32>
         ensures { result ≡ slice_index_or self.now.causes entry None }
     {

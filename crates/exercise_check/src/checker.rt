@@ -6,7 +6,7 @@ ghost use Rattle.exercise_model.specs.Headline.{Holds};
 ghost use Rattle.exercise_check.specs.Order.{order_of};
 ghost use Rattle.exercise_check.specs.Goodness.{step_cause, IsGood, Refuses};
 ghost use Rattle.exercise_check.specs.Course.{begun, with_step};
-ghost use Rattle.exercise_check.specs.Checked.{TellsAccount};
+ghost use Rattle.exercise_check.specs.Checked.{TellsAccount, TellsKnowledge};
 
 use crate::certificate::{Certificate, Step};
 use crate::checked::Checked;
@@ -105,7 +105,8 @@ fn take_steps<L: ExerciseLog>(
 }
 
 /// Checks a certificate against the logs of an exercise. A yes says that the order that it names is
-/// a run, and that this run explains the recording: each station did exactly what its log holds.
+/// a run, and that this run explains the recording: each station did exactly what its log holds. Each
+/// Able received from a recorded station then tells what its sender had done before: `knowledge`.
 /// A no names the first bad step and the first cause that holds there: for the step's entry 2 and
 /// 3, then 5 to 13 for its event, then 4 for its link; where the numbers of steps and entries
 /// differ, which is tested first, it is step 0 and cause 1. It is refused with Memory where there
@@ -119,6 +120,7 @@ pub fn check<L: ExerciseLog>(
     ensures explains { let r = L.recording log.now in OnOk result (Explains r (order_of r certificate.now.steps.items)) }
     ensures holds { let r = L.recording log.now in OnOk result (Holds r (order_of r certificate.now.steps.items)) }
     ensures account { IfOk result (λ checked. TellsAccount (L.recording log.now) checked) }
+    ensures knowledge { let r = L.recording log.now in IfOk result (λ checked. TellsKnowledge r (order_of r certificate.now.steps.items) checked) }
     ensures bad { IfErr result (Refuses (L.recording log.now) certificate.now.steps.items) }
     ensures count { length certificate.now.steps.items ≢ length (L.recording log.now).entries → result ≡ Err (CheckFault.Bad 0 Cause.CountDiffers) }
 {

@@ -2,8 +2,7 @@
 
 ghost use Rattle.std.specs.Prelude.{◌≡◌, ◌<◌, length, slice_get, IfOk, IfSome, IfNone, OnErr};
 ghost use Rattle.exercise_model.specs.History.{event_of, station_of, log_at, log_of};
-ghost use Rattle.exercise_model.specs.Place.{log_before, own_event};
-ghost use Rattle.exercise_check.specs.Order.{order_of, is_next, link_number};
+ghost use Rattle.exercise_check.specs.Order.{is_next, link_number};
 ghost use Rattle.exercise_check.specs.Checked.{TellsAccount};
 ghost use Rattle.exercise_check.specs.Course.{CourseData, IsCourse, begun, so_far, IsNext, GoesOn};
 

@@ -1,6 +1,6 @@
 //! The order that steps name, and which entry of a station is its next one.
 
-ghost use Rattle.std.specs.Prelude.{◌≡◌, ◌<◌, ◌≤◌, length, slice_get, is_some, true, IfSome, IfNone};
+ghost use Rattle.std.specs.Prelude.{◌≡◌, ◌<◌, ◌≤◌, length, is_some, true, IfSome, IfNone};
 ghost use Rattle.exercise_model.specs.History.{event_of, station_of, log_at};
 ghost use Rattle.exercise_model.specs.Held.{shown};
 ghost use Rattle.exercise_model.specs.Place.{log_before, own_event};

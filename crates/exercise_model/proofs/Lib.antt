@@ -12,4 +12,6 @@ mod Distinct
 mod Wholes
 mod Confluence
 mod FirstAnswers
+mod Carrying
+mod Knowledge
 pub mod Offered

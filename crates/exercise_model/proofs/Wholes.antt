@@ -90,7 +90,7 @@ key_in_body p (DataPdu request datums) e = absurd (cc)
 key_in_body p (EventReport event datums) e = absurd (cc)
 key_in_body p (Comment datums) e = absurd (cc)
 
-key_itself : (k : AcknowledgeKey) → same_key k k ≡ true
+pub key_itself : (k : AcknowledgeKey) → same_key k k ≡ true
 key_itself k =
     rw (eq-eqb k.flag k.flag refl, eq-eqb k.request k.request refl, eq-eqb k.site k.site refl, eq-eqb k.application k.application refl, eq-eqb k.entity k.entity refl) refl
 
@@ -118,7 +118,7 @@ off true never = absurd (never refl)
 off false never = refl
 
 -- the recorded station that p comes from is found
-sender_found : (r : PlainRecording) → IsRecording r → (p : Pdu) (t : ℕ) → t < length r.setting.stations → is_from (station_at r t).address p ≡ true
+pub sender_found : (r : PlainRecording) → IsRecording r → (p : Pdu) (t : ℕ) → t < length r.setting.stations → is_from (station_at r t).address p ≡ true
     → sender_of r p ≡ Some t
 unfolding sender_of
 sender_found r limits p t within own =
@@ -139,7 +139,7 @@ any_at test v (w ∷ later) earlier passes =
     ]
 
 -- a history that has an Able under a key was acknowledged under it
-able_sent : (x : ℕ) (k : AcknowledgeKey) (h earlier : History) (t : ℕ) (b : List ℕ) → Contains h earlier (Send t b)
+pub able_sent : (x : ℕ) (k : AcknowledgeKey) (h earlier : History) (t : ℕ) (b : List ℕ) → Contains h earlier (Send t b)
     → sends_under x able k (Send t b) ≡ true → was_acknowledged x able k (log_at t h) ≡ true
 unfolding was_acknowledged
 able_sent x k h earlier t b within sends =
@@ -157,7 +157,7 @@ able_found r h earlier t k b explains within sends =
       | Some j ↦ λ _. (j, refl)
     ] refl
 
-contains_on : (h before earlier : History) (v w : Event) → Contains h before w → Contains before earlier v → Contains h earlier v
+pub contains_on : (h before earlier : History) (v w : Event) → Contains h before w → Contains before earlier v → Contains h earlier v
 contains_on h before earlier v w one other =
     (one.0 ++ w ∷ other.0, append_assoc one.0 (w ∷ other.0) (v ∷ earlier) ∙ ap (λ xs. one.0 ++ w ∷ xs) other.1 ∙ one.1)
 
@@ -185,7 +185,7 @@ able_changed r h before s b p i limits explains within stands meant is_able know
     (found.0, change, change_in_run r h before s b p i found.0 explains within stands meant change)
 
 -- a station that is found is recorded
-sender_recorded : (r : PlainRecording) (p : Pdu) (t : ℕ) → sender_of r p ≡ Some t → is_recorded r.setting p ≡ true
+pub sender_recorded : (r : PlainRecording) (p : Pdu) (t : ℕ) → sender_of r p ≡ Some t → is_recorded r.setting p ≡ true
 unfolding sender_of is_recorded
 sender_recorded r p t found =
     let first = first_found (λ s. is_from (station_at r s).address p) (length r.setting.stations) t found in

@@ -16,3 +16,4 @@ pub mod Account
 pub mod Headline
 pub mod Pairing
 pub mod Answered
+pub mod Knowledge

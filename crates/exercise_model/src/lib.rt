@@ -5,10 +5,9 @@
 //! on [`ExerciseLog`], whose meaning is one plain recording (a setting and its entries), and on the
 //! definitions in `specs/`: a datagram's meaning, events and histories, the request that an answer
 //! takes up, changes and states, why an event may not happen, and runs. The laws of runs are
-//! [`what_explains_holds`], [`logs_suffice`], [`accounts_are_whole`], [`allowed_stays_allowed`] and
-//! [`ends_are_one`]; that
-//! of a first answer is [`first_answers_change_states`]. Only [`Recording::push`] and [`meaning_of`]
-//! take memory.
+//! [`what_explains_holds`], [`logs_suffice`], [`accounts_are_whole`], [`changes_are_known`],
+//! [`allowed_stays_allowed`] and [`ends_are_one`]; that of a first answer is
+//! [`first_answers_change_states`]. Only [`Recording::push`] and [`meaning_of`] take memory.
 #![tactic(auto)]
 
 mod acknowledge;
@@ -31,8 +30,8 @@ pub use entry::{EntryView, LogEntry};
 pub use exchange::{is_answer, is_asked, is_from};
 pub use fault::LogFault;
 pub use laws::{
-    accounts_are_whole, allowed_stays_allowed, ends_are_one, first_answers_change_states,
-    logs_suffice, what_explains_holds,
+    accounts_are_whole, allowed_stays_allowed, changes_are_known, ends_are_one,
+    first_answers_change_states, logs_suffice, what_explains_holds,
 };
 pub use log::ExerciseLog;
 pub use meaning::meaning_of;

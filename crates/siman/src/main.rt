@@ -24,13 +24,22 @@ impl Outside for Disk<'_> {
     fn make(&mut self, name: &str) -> io::Result<File> {
         File::create(self.0, name)
     }
+
+    fn close(&mut self, _file: File) {}
 }
 
 fn words(rt: &HostRuntime, alloc: Global) -> io::Result<Vec<String>> {
     Ok(env::args(rt)?.collect(alloc)?)
 }
 
+/// Takes a descriptor that can be neither read nor written. So a standard stream that is closed
+/// stays one that fails, and no file that the program opens or makes stands in its place.
+fn held(rt: &HostRuntime) -> io::Result<File> {
+    File::open(rt, "/")
+}
+
 fn main(rt: HostRuntime) -> ExitCode {
+    let _held = (held(&rt), held(&rt), held(&rt));
     let alloc = rt.alloc();
     let words = words(&rt, alloc);
     let (mut out, mut errors) = (rt.stdout(), rt.stderr());

@@ -15,3 +15,4 @@ pub mod Acks
 pub mod After
 pub mod Stands
 pub mod Logs
+pub mod Offered

@@ -323,3 +323,21 @@ reply_read a qs q stamp own each r s =
     (λ f e. let found = first_in IsInRange q ds all f e in
     text_is_read (answer a (known a f.before) f.request stamp) (answer_in_range a f.before f.request stamp own found.1 found.0 s)
     (answer_size a (known a f.before) f.request stamp (for_at a qs q f e)))
+
+-- A reply is an answer to a request for the station: what holds of each of these holds of it.
+pub reply_answers : (Q : Pdu → Type 0) (a : Outfit) (qs : List Pdu) (q : Pdu) (stamp : ℕ)
+    → ((k : Knowledge) (d : Pdu) → is_for a d ≡ true → Q (answer a k d stamp)) → IfSome (reply a qs q stamp) Q
+reply_answers Q a qs q stamp each =
+    reply_as Q a (distinct a qs) q stamp (each (known a (distinct a qs)) q) (λ f e. each (known a f.before) f.request (for_at a qs q f e))
+
+-- A reply is in its ranges.
+pub reply_in_range : (a : Outfit) (qs : List Pdu) (q : Pdu) (stamp : ℕ) → IsOutfitInRange a → Each IsInRange qs → IsInRange q → stamp < 2 ^ 32
+    → IfSome (reply a qs q stamp) IsInRange
+reply_in_range a qs q stamp own each r s =
+    let all = each_distinct IsInRange a qs each in
+    reply_as IsInRange a (distinct a qs) q stamp (λ mine. answer_in_range a (distinct a qs) q stamp own all r s)
+    (λ f e. let found = first_in IsInRange q (distinct a qs) all f e in answer_in_range a f.before f.request stamp own found.1 found.0 s)
+
+-- It has at most 8192 bytes.
+pub reply_is_short : (a : Outfit) (qs : List Pdu) (q : Pdu) (stamp : ℕ) → IfSome (reply a qs q stamp) (λ p. pdu_size p ≤ LARGEST_DATAGRAM)
+reply_is_short a qs q stamp = reply_answers (λ p. pdu_size p ≤ LARGEST_DATAGRAM) a qs q stamp (λ k d own. answer_size a k d stamp own)

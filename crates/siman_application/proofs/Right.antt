@@ -24,6 +24,7 @@ use Rattle.siman_application.specs.declared.kept.RequestKey.{RequestKey}
 use Rattle.siman_application.specs.Outfit.{Outfit}
 use Rattle.siman_application.specs.Distinct.{Placed, is_for, first_under, with_request}
 use Rattle.siman_application.specs.Answer.{Knowledge, brought, told_of, answer, with_stamp}
+use Rattle.siman_application.specs.Holding.{Holding, held_by}
 use Rattle.siman_application.specs.Knows.{knows}
 use Rattle.siman_application.specs.Listed.{Entities, states_in, after}
 use Rattle.siman_application.specs.Kept.{Table, IsKey, AreKeyed, IsAnswered, AreAnswered, AreFor, AreSpelled, AreRight, kept_after, requests, requests_before, IsPlace, stamped, stamped_at}
@@ -63,7 +64,7 @@ states_after a q ds stamp own are spelled none e =
     ap (λ (p : Pdu). after p q (state_over a ds) e) (answer_stamped a (known a ds) q stamp 0 (for_parts a q own).request) ∙ sym
     (states_go_on a q ds own are spelled none e)
 
-known_more : (a : Outfit) (q : Pdu) (ds : List Pdu) (stamp : ℕ) (es es' : Entities) (d d' : DatumLists) → is_for a q ≡ true → AreFor a ds
+known_more : (a : Outfit) (q : Pdu) (ds : List Pdu) (stamp : ℕ) (es es' : Entities) (d d' : Holding) → is_for a q ≡ true → AreFor a ds
     → AreSpelled a (q ∷ ds) → first_under q ds ≡ None
     → knows es d ≡ known a ds → states_in es' ≡ after (answer a (knows es d) q stamp) q (states_in es)
     → knows es' d' ≡ told_of (brought q.body) (knows es' d) → knows es' d' ≡ known a (q ∷ ds)
@@ -83,7 +84,7 @@ spelled_more a q ds own range outfit spelled = (
   spelled,
 )
 
-pub right_more : (a : Outfit) (table new : Table) (es es' : Entities) (d d' : DatumLists) (key : RequestKey) (q p : Pdu) (stamp : ℕ)
+pub right_more : (a : Outfit) (table new : Table) (es es' : Entities) (d d' : Holding) (key : RequestKey) (q p : Pdu) (stamp : ℕ)
     → AreRight a table es d → is_for a q ≡ true → IsKey key q
     → first_under q (requests (values table)) ≡ None → IsInRange q → p ≡ answer a (knows es d) q stamp
     → new.entries ≡ table.entries ++ (key, record { request = q; answer = p }) ∷ []
@@ -136,7 +137,7 @@ pub requests_stamped : (place stamp : ℕ) (table new : Table) → new.entries �
 requests_stamped place stamp table new e =
     ap (λ (es : List (RequestKey × KeptRequest)). requests (values_of es)) e ∙ kept_stamped place stamp [] table.entries
 
-pub right_stamped : (a : Outfit) (place stamp : ℕ) (table new : Table) (es : Entities) (d : DatumLists) → AreRight a table es d
+pub right_stamped : (a : Outfit) (place stamp : ℕ) (table new : Table) (es : Entities) (d : Holding) → AreRight a table es d
     → new.entries ≡ stamped_at place stamp table.entries → AreRight a new es d
 right_stamped a place stamp table new es d right e =
     let same = requests_stamped place stamp table new e in
@@ -189,7 +190,7 @@ pub requests_more : (table new : Table) (key : RequestKey) (one : KeptRequest) �
 requests_more table new key one e = ap requests (ap values_of e ∙ values_last table.entries key one) ∙ kept_last [] (values table) one
 
 -- a table with the same entries
-pub right_same : (a : Outfit) (table new : Table) (es es' : Entities) (d : DatumLists) → AreRight a table es d → new.entries ≡ table.entries
+pub right_same : (a : Outfit) (table new : Table) (es es' : Entities) (d : Holding) → AreRight a table es d → new.entries ≡ table.entries
     → es' ≡ es → AreRight a new es' d
 right_same a table new es es' d right e f =
     let same : values new ≡ values table = ap values_of e in
@@ -203,7 +204,7 @@ right_same a table new es es' d right e f =
     }
 
 -- an answer, as it was made
-pub made_answer : (a : Outfit) (es : Entities) (d : DatumLists) (q p : Pdu) (stamp : ℕ) → is_for a q ≡ true → p ≡ answer a (knows es d) q stamp
+pub made_answer : (a : Outfit) (es : Entities) (d : Holding) (q p : Pdu) (stamp : ℕ) → is_for a q ≡ true → p ≡ answer a (knows es d) q stamp
     → IsAnswer a (states_in es) q p
 made_answer a es d q p stamp own e = subst (IsAnswer a (states_in es) q) (sym e) (is_answer a (knows es d) q stamp own)
 
@@ -218,7 +219,7 @@ kept_one table reserved new key q r p e f g =
 -- A request whose key is known.
 
 -- what a request leaves whose key is known, and the place of its answer
-pub record Again (a : Outfit) (table new : Table) (es : Entities) (d : DatumLists) (q : Pdu) (stamp : ℕ) (r : Option ℕ) : Type 0 where
+pub record Again (a : Outfit) (table new : Table) (es : Entities) (d : Holding) (q : Pdu) (stamp : ℕ) (r : Option ℕ) : Type 0 where
   pub right : AreRight a new es d
   pub came : requests (values new) ≡ with_request a (requests (values table)) q
   pub reply : option_and_then (λ i. option_map (λ (k : KeptRequest). k.answer) (slice_get (values new) i)) r ≡ reply_after a (requests (values table)) q stamp
@@ -240,7 +241,7 @@ length_stamped place stamp [] = refl
 length_stamped zero stamp (e ∷ es) = refl
 length_stamped (suc place) stamp (e ∷ es) = ap suc (length_stamped place stamp es)
 
-again_by : (a : Outfit) (table new : Table) (es : Entities) (d : DatumLists) (q : Pdu) (stamp place : ℕ) (k : KeptRequest) → AreRight a table es d
+again_by : (a : Outfit) (table new : Table) (es : Entities) (d : Holding) (q : Pdu) (stamp place : ℕ) (k : KeptRequest) → AreRight a table es d
     → is_for a q ≡ true
     → slice_get (values table) place ≡ Some k → place < length (values table)
     → first_under q (requests (values table)) ≡ Some (record { request = k.request; before = requests_before place (values table) })
@@ -270,7 +271,7 @@ again_by a table new es d q stamp place k right own at within first true same e 
           omega (arith, n, m, within);
     }
 
-pub taken_again : (a : Outfit) (table new : Table) (es : Entities) (d : DatumLists) (q : Pdu) (stamp place : ℕ) (r : Option ℕ) → AreRight a table es d
+pub taken_again : (a : Outfit) (table new : Table) (es : Entities) (d : Holding) (q : Pdu) (stamp place : ℕ) (r : Option ℕ) → AreRight a table es d
     → is_for a q ≡ true → IsPlace q (values table) (Some place)
     → r ≡ option_and_then (λ k. if is_same_order q k.request then Some place else None) (slice_get (values table) place)
     → MatchOption r (new.entries ≡ table.entries) (λ i. new.entries ≡ stamped_at i stamp table.entries) → Again a table new es d q stamp r
@@ -320,8 +321,8 @@ start_state : (a : Outfit) → is_opening a.station.opening ≡ true → (e : �
 unfolding play state_after
 start_state a opens e = start_by a.exercise a.station e opens (is_entity e) refl
 
-pub right_start : (a : Outfit) (table : Table) (es : Entities) (d : DatumLists) → IsOutfitInRange a → table.entries ≡ [] → es ≡ a.station.opening
-    → is_opening es ≡ true → d ≡ a.datums → AreRight a table es d
+pub right_start : (a : Outfit) (table : Table) (es : Entities) (d : Holding) → IsOutfitInRange a → table.entries ≡ [] → es ≡ a.station.opening
+    → is_opening es ≡ true → d ≡ held_by a.datums → AreRight a table es d
 right_start a table es d ranges empty opening opens held =
     let none : values table ≡ [] = ap values_of empty in
     record {
@@ -333,7 +334,7 @@ right_start a table es d ranges empty opening opens held =
       known_is = begun ∙ ap (λ (ks : List KeptRequest). known a (requests ks)) (sym none);
     } where
       begun : knows es d ≡ known a []
-      begun = ap (λ (e : DatumLists). knows es e) held ∙ λ i. record {
+      begun = ap (λ (h : Holding). knows es h) held ∙ λ i. record {
         states = λ e. (ap (λ (xs : Entities). listed_state xs e) opening ∙ start_state a (ap is_opening (sym opening) ∙ opens) e) i;
         fixed = λ id. last_under fixed_id id a.datums.fixed;
         variable = λ id. last_under variable_id id a.datums.variable;

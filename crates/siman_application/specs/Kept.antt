@@ -4,7 +4,6 @@ use Rattle.std.specs.declared.hash.FoldHasher.{FoldHasher}
 use Rattle.std.specs.declared.hash.BuildHasherDefault.{BuildHasherDefault}
 use Rattle.indexmap.specs.IndexMap.{IndexMap, values}
 use Rattle.siman_pdus.specs.declared.pdu.Pdu.{Pdu}
-use Rattle.siman_pdus.specs.DatumLists.{DatumLists}
 use Rattle.siman_pdus.specs.Role.{request_id_of}
 use Rattle.siman_pdus.specs.Spelling.{body_kind, pdu_text}
 use Rattle.exercise_model.specs.Meaning.{meaning}
@@ -13,6 +12,7 @@ use Rattle.siman_application.specs.declared.kept.RequestKey.{RequestKey}
 use Rattle.siman_application.specs.Outfit.{Outfit}
 use Rattle.siman_application.specs.Answer.{with_stamp, answer}
 use Rattle.siman_application.specs.Distinct.{is_for, first_under}
+use Rattle.siman_application.specs.Holding.{Holding}
 use Rattle.siman_application.specs.Knows.{knows}
 use Rattle.siman_application.specs.Listed.{Entities}
 use Rattle.siman_application.specs.Play.{is_for_entities, known}
@@ -65,13 +65,13 @@ AreFor a [] = Unit {0}
 AreFor a (d ∷ ds) = (is_for a d ≡ true) × AreFor a ds
 
 -- The tables of an application are right: each request is under its key with its answer, and entities and datums are as the requests leave them. The numbers that it was begun with are in their ranges.
-pub record AreRight (a : Outfit) (table : Table) (entities : Entities) (datums : DatumLists) : Type 0 where
+pub record AreRight (a : Outfit) (table : Table) (entities : Entities) (held : Holding) : Type 0 where
   pub ranges : IsOutfitInRange a
   pub keyed : AreKeyed table.entries
   pub answered : AreAnswered a [] (values table)
   pub own : AreFor a (requests (values table))
   pub spelled : AreSpelled a (requests (values table))
-  pub known_is : knows entities datums ≡ known a (requests (values table))
+  pub known_is : knows entities held ≡ known a (requests (values table))
 
 -- the requests that are kept before a place, the last first
 abbrev pub requests_before : ℕ → List KeptRequest → List Pdu

@@ -1,6 +1,7 @@
 pub mod Outfit
 pub mod Distinct
 pub mod Records
+pub mod Holding
 pub mod Answer
 pub mod Play
 pub mod Listed

@@ -1,6 +1,6 @@
 -- Datum records under identifiers: which value counts, what a Set Data stores, and which records a query finds (profile, over IEEE 1278.1-2012, 5.6.5).
-use Rattle.std.specs.Prelude.{ℕ, ◌-◌, ◌*◌, ◌==◌, nat_le, List, [], ◌∷◌, ◌++◌, length, map, take, Option, Some, None, option_to_list, if◌then◌else◌}
-use Rattle.std.specs.Option.{option_or, unwrap_or}
+use Rattle.std.specs.Prelude.{ℕ, ◌-◌, ◌*◌, ◌==◌, nat_le, List, [], ◌∷◌, ◌++◌, length, take, Option, Some, None, option_to_list, if◌then◌else◌}
+use Rattle.std.specs.Option.{option_or}
 use Rattle.dis_records.specs.declared.datum.FixedDatum.{FixedDatum}
 use Rattle.dis_records.specs.Datum.{Datum, padded}
 use Rattle.siman_pdus.specs.DatumLists.{DatumLists}
@@ -26,10 +26,6 @@ stored (Some y) (Some x) = Some y
 abbrev pub found : {X : Type 0} → (ℕ → Option X) → List ℕ → List X
 found held [] = []
 found held (id ∷ ids) = option_to_list (held id) ++ found held ids
-
--- held records after some came: each is the last that came under its identifier, if one did
-abbrev pub all_stored : {X : Type 0} → (X → ℕ) → List X → List X → List X
-all_stored id_of came held = map (λ x. unwrap_or (last_under id_of (id_of x) came) x) held
 
 -- the first variable records that have room in so many bytes
 abbrev pub fitting : ℕ → List Datum → List Datum

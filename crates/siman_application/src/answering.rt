@@ -1,17 +1,18 @@
 //! Answers to requests that come for the first time.
 
-ghost use Rattle.std.specs.Prelude.{◌≡◌, [], IfOk, IsTrue, ◌==◌, if◌then◌else◌};
+ghost use Rattle.std.specs.Prelude.{◌≡◌, [], IfOk, IsTrue};
 ghost use Rattle.std.specs.Option.{unwrap_or};
 ghost use Rattle.dis_records.specs.Entity.{is_open};
 ghost use Rattle.siman_pdus.specs.Role.{is_request_body};
-ghost use Rattle.siman_pdus.specs.Spelling.{body_kind};
-ghost use Rattle.siman_application.specs.Answer.{own_number, plain_answer, chosen, created, obeyed, is_meant, action_status, no_datums, data_answer, held_records, ids_of, brought, told_of, answer};
+ghost use Rattle.siman_application.specs.Answer.{plain_answer, chosen, created, obeyed, is_meant, action_status, no_datums, data_answer, held_records, ids_of, brought, told_of, answer};
+ghost use Rattle.siman_application.specs.Holding.{held_in, stored_in};
 ghost use Rattle.siman_application.specs.Knows.{knows};
-ghost use Rattle.siman_application.specs.Listed.{Entities, states_in};
+ghost use Rattle.siman_application.specs.Listed.{states_in};
 
 use crate::entities::Entities;
+use crate::held::Held;
 use crate::outfit::Outfit;
-use crate::records::{find, ids_of, store};
+use crate::records::ids_of;
 use dis_records::{Kind, is_open};
 use siman_pdus::{ABLE, Body, DatumIds, Datums, Pdu, UNABLE, kind_of};
 use std::alloc::{AllocError, Global};
@@ -31,12 +32,11 @@ const START: u16 = 3;
 
 const STOP: u16 = 4;
 
-/// What a request comes to: its answer, and the datums that are held from then on, where they are
-/// others.
+/// What a request comes to: its answer, and the datums that it brought, if it is to store any.
 #[derive(Debug, Drop)]
 pub(crate) struct Outcome {
     pub answer: Pdu,
-    pub datums: Option<Datums>,
+    pub brought: Option<Datums>,
 }
 
 /// The answer from the number of the request, or from 0 where that names no single entity.
@@ -138,19 +138,21 @@ fn answer_action(
     )
 }
 
-/// The Data with the records that are held under these identifiers, as many as fit.
+/// The Data with the records that are held under these identifiers once others came, as many as
+/// fit.
 fn answer_data(
     alloc: Global,
     outfit: &Outfit,
-    held: &Datums,
+    held: &Held,
+    came: &Held,
     request: &Pdu,
     stamp: u32,
     id: u32,
     ids: &DatumIds,
 ) -> Result<Pdu, AllocError>
-    ensures { IfOk result (λ pdu. pdu ≡ data_answer outfit.now request.now stamp id (held_records (knows [] held.now) ids.now)) }
+    ensures { IfOk result (λ pdu. pdu ≡ data_answer outfit.now request.now stamp id (held_records (knows [] (stored_in (held_in came.now) (held_in held.now))) ids.now)) }
 {
-    let datums = find(alloc, held, ids)?;
+    let datums = held.find(alloc, came, ids)?;
     Ok(plain_answer(
         outfit,
         request,
@@ -162,41 +164,56 @@ fn answer_data(
     ))
 }
 
-/// The answer to a Set Data, and the datums that are held from then on.
+fn answer_query(
+    alloc: Global,
+    outfit: &Outfit,
+    held: &Held,
+    request: &Pdu,
+    stamp: u32,
+    id: u32,
+    ids: &DatumIds,
+) -> Result<Pdu, AllocError>
+    ensures { IfOk result (λ pdu. pdu ≡ data_answer outfit.now request.now stamp id (held_records (knows [] (held_in held.now)) ids.now)) }
+{
+    let none = Held::new(alloc);
+    answer_data(alloc, outfit, held, &none, request, stamp, id, ids)
+}
+
+/// The answer to a Set Data, and what it brought.
 fn answer_setting(
     alloc: Global,
     outfit: &Outfit,
-    held: &Datums,
+    held: &Held,
     request: &Pdu,
     stamp: u32,
     id: u32,
     came: &Datums,
 ) -> Result<Outcome, AllocError>
-    ensures answer { IfOk result (λ outcome. outcome.answer ≡ data_answer outfit.now request.now stamp id (held_records (told_of came.now (knows [] held.now)) (ids_of came.now))) }
-    ensures datums { IfOk result (λ outcome. (xs : Entities) → knows xs (unwrap_or outcome.datums held.now) ≡ told_of came.now (knows xs held.now)) }
+    ensures answer { IfOk result (λ outcome. outcome.answer ≡ data_answer outfit.now request.now stamp id (held_records (told_of came.now (knows [] (held_in held.now))) (ids_of came.now))) }
+    ensures brought { IfOk result (λ outcome. unwrap_or outcome.brought no_datums ≡ came.now) }
 {
-    let stored = store(alloc, held, came)?;
+    let others = Held::of(alloc, came)?;
     let ids = ids_of(alloc, came)?;
-    let answer = answer_data(alloc, outfit, &stored, request, stamp, id, &ids)?;
+    let answer = answer_data(alloc, outfit, held, &others, request, stamp, id, &ids)?;
+    let brought = came.copy(alloc)?;
     Ok(Outcome {
         answer,
-        datums: Some(stored),
+        brought: Some(brought),
     })
 }
 
-/// The answer to a request that comes for the first time, and the datums that are held from then
-/// on.
+/// The answer to a request that comes for the first time, and what it brought.
 pub(crate) fn answer(
     alloc: Global,
     outfit: &Outfit,
     entities: &Entities,
-    held: &Datums,
+    held: &Held,
     request: &Pdu,
     stamp: u32,
 ) -> Result<Outcome, AllocError>
     requires { IsTrue (is_request_body request.now.body) }
-    ensures answer { IfOk result (λ outcome. outcome.answer ≡ answer outfit.now (knows entities.now held.now) request.now stamp) }
-    ensures datums { IfOk result (λ outcome. (xs : Entities) → knows xs (unwrap_or outcome.datums held.now) ≡ told_of (brought request.now.body) (knows xs held.now)) }
+    ensures answer { IfOk result (λ outcome. outcome.answer ≡ answer outfit.now (knows entities.now (held_in held.now)) request.now stamp) }
+    ensures brought { IfOk result (λ outcome. unwrap_or outcome.brought no_datums ≡ brought request.now.body) }
 {
     let answer = match &request.body {
         Body::CreateEntity { request: id } => {
@@ -220,7 +237,7 @@ pub(crate) fn answer(
             request: id,
             ids,
             ..
-        } => { answer_data(alloc, outfit, held, request, stamp, *id, ids)? }
+        } => { answer_query(alloc, outfit, held, request, stamp, *id, ids)? }
         Body::SetData {
             request: id,
             datums,
@@ -235,6 +252,6 @@ pub(crate) fn answer(
     };
     Ok(Outcome {
         answer,
-        datums: None,
+        brought: None,
     })
 }

@@ -1,6 +1,6 @@
 //! The application half of a station.
 
-ghost use Rattle.std.specs.Prelude.{◌≡◌, ◌<◌, ◌≤◌, ◌↔◌, true, false, [], length, Err, IsOk, IfOk, IfErr, IfSome, OnOk, OnErr, slice_get};
+ghost use Rattle.std.specs.Prelude.{◌≡◌, ◌<◌, ◌≤◌, ◌↔◌, true, false, [], length, Err, IsOk, IfOk, IfErr, IfSome, slice_get};
 ghost use Rattle.std.specs.Option.{option_map, option_copied, option_and_then};
 ghost use Rattle.std.specs.Borrow.{sem};
 ghost use Rattle.siman_application.specs.declared.entity_list.TheConstants.{MOST_ENTITIES};
@@ -16,9 +16,9 @@ ghost use Rattle.siman_application.specs.Standing.{Standing, Leaves, came, is_ne
 use crate::entities::Entities;
 use crate::entity_list::MOST_ENTITIES;
 use crate::fault::AppFault;
+use crate::held::Held;
 use crate::kept::KeptTable;
 use crate::outfit::Outfit;
-use crate::records::{value_of, variable_of};
 use crate::taking::take;
 use dis_records::{EntityState, FixedDatum, VariableDatum};
 use exercise_model::Station;
@@ -37,7 +37,7 @@ pub struct Application {
     alloc: Global,
     outfit: Outfit,
     entities: Entities,
-    datums: Datums,
+    held: Held,
     kept: KeptTable,
 }
 
@@ -47,11 +47,12 @@ impl Model for Application {
     ghost Value = { Standing };
 
     ghost use Rattle.indexmap.specs.IndexMap.{values};
+    ghost use Rattle.siman_application.specs.Holding.{held_in};
     ghost use Rattle.siman_application.specs.Kept.{AreRight};
 
     ghost view = { λ a. record { outfit = a.outfit; kept = values a.kept } };
 
-    ghost invariant = { λ a. AreRight a.outfit a.kept a.entities a.datums };
+    ghost invariant = { λ a. AreRight a.outfit a.kept a.entities (held_in a.held) };
 }
 
 /// An equal station.
@@ -86,23 +87,23 @@ impl Application {
         }
         let entities = Entities::open(alloc, station.opening())?;
         let station = copy_station(alloc, station)?;
-        let held = Datums {
+        let datums = Datums {
             fixed: Vec::from_slice(alloc, fixed)?,
             variable,
         };
-        let datums = held.copy(alloc)?;
-        datums_are_in_range(&held);
+        let held = Held::of(alloc, &datums)?;
+        datums_are_in_range(&datums);
         let actions = Vec::from_slice(alloc, actions)?;
         Ok(Application {
             alloc,
             outfit: Outfit {
                 exercise,
                 station,
-                datums: held,
+                datums,
                 actions,
             },
             entities,
-            datums,
+            held,
             kept: KeptTable::new(alloc),
         })
     }
@@ -144,7 +145,7 @@ impl Application {
             &self.outfit,
             &mut self.kept,
             &mut self.entities,
-            &mut self.datums,
+            &mut self.held,
             pdu,
             stamp,
         )
@@ -161,13 +162,13 @@ impl Application {
     pub fn datum(&self, id: u32) -> Option<u32>
         ensures { result ≡ option_map (λ d. d.value) (fixed_after self.now.outfit (came self.now) id) }
     {
-        value_of(&self.datums, id)
+        self.held.value(id)
     }
 
     /// A variable datum that is held.
     pub fn variable(&self, id: u32) -> Option<&VariableDatum>
         ensures { option_copied result ≡ variable_after self.now.outfit (came self.now) id }
     {
-        variable_of(&self.datums, id)
+        self.held.variable(id)
     }
 }

@@ -14,10 +14,12 @@ mod application;
 mod entities;
 mod entity_list;
 mod fault;
+mod held;
 mod kept;
 mod laws;
 mod outfit;
 mod records;
+mod tables;
 mod taking;
 
 pub use application::Application;

@@ -3,7 +3,7 @@
 ghost use Rattle.std.specs.Prelude.{◌≡◌, ◌==◌};
 ghost use Rattle.std.specs.List.{list_any};
 ghost use Rattle.siman_application.specs.Distinct.{is_for};
-ghost use Rattle.siman_application.specs.Answer.{answer_pdu, plain_answer};
+ghost use Rattle.siman_application.specs.Answer.{answer_pdu};
 
 use dis_records::{EntityId, addressed};
 use exercise_model::Station;

@@ -5,24 +5,26 @@ ghost use Rattle.std.specs.Option.{option_map, option_and_then, unwrap_or};
 ghost use Rattle.indexmap.specs.IndexMap.{values, index_map_len};
 ghost use Rattle.siman_pdus.specs.Same.{is_same_order};
 ghost use Rattle.siman_application.specs.Distinct.{is_for, first_under, with_request};
-ghost use Rattle.siman_application.specs.Answer.{answer};
-ghost use Rattle.siman_application.specs.Kept.{AreAnswered, AreKeyed, AreRight, IsKey, IsPlace, requests, requests_before, stamped_at};
+ghost use Rattle.siman_application.specs.Answer.{answer, no_datums};
+ghost use Rattle.siman_application.specs.Holding.{held_by, held_in, stored_in};
+ghost use Rattle.siman_application.specs.Kept.{AreRight, IsKey, requests, stamped_at};
 ghost use Rattle.siman_application.specs.Play.{known, reply_after};
 
 use crate::answering::answer;
 use crate::entities::Entities;
 use crate::fault::AppFault;
+use crate::held::Held;
 use crate::kept::{KeptTable, RequestKey, keep, key_of, place_of, stamp_again};
 use crate::outfit::Outfit;
 use siman_pdus::{Datums, Pdu, numbers_are_in_range, same_order};
 use std::alloc::Global;
 
-/// Other datums in the place of these, if there are any.
-fn put_in_place(datums: &mut Datums, others: Option<Datums>)
-    ensures { datums.new ≡ unwrap_or others datums.old }
+/// Stores what a request brought, if it brought anything.
+fn store(held: &mut Held, brought: Option<Datums>)
+    ensures { held_in held.new ≡ stored_in (held_by (unwrap_or brought no_datums)) (held_in held.old) }
 {
-    if let Some(others) = others {
-        *datums = others;
+    if let Some(datums) = brought {
+        held.store(datums);
     }
 }
 
@@ -33,16 +35,16 @@ fn take_first(
     outfit: &Outfit,
     kept: &mut KeptTable,
     entities: &mut Entities,
-    datums: &mut Datums,
+    held: &mut Held,
     key: RequestKey,
     pdu: &Pdu,
     stamp: u32,
 ) -> Result<usize, AppFault>
-    requires right { AreRight outfit.now kept.old entities.old datums.old }
+    requires right { AreRight outfit.now kept.old entities.old (held_in held.old) }
     requires own { is_for outfit.now pdu.now ≡ true }
     requires key { IsKey key pdu.now }
     requires first { first_under pdu.now (requests (values kept.old)) ≡ None }
-    ensures right { AreRight outfit.now kept.new entities.new datums.new }
+    ensures right { AreRight outfit.now kept.new entities.new (held_in held.new) }
     ensures err { OnErr result (values kept.new ≡ values kept.old) }
     ensures fault { IfErr result (λ fault. fault ≡ AppFault.Memory) }
     ensures came { OnOk result (requests (values kept.new) ≡ pdu.now ∷ requests (values kept.old)) }
@@ -50,12 +52,12 @@ fn take_first(
     ensures within { IfOk result (λ place. place < index_map_len kept.new) }
 {
     numbers_are_in_range(pdu);
-    let outcome = answer(alloc, outfit, entities, datums, pdu, stamp)?;
+    let outcome = answer(alloc, outfit, entities, held, pdu, stamp)?;
     let request = pdu.copy(alloc)?;
     kept.reserve(1)?;
     entities.obey(&outcome.answer, pdu)?;
     let place = keep(kept, key, request, outcome.answer);
-    put_in_place(datums, outcome.datums);
+    store(held, outcome.brought);
     Ok(place)
 }
 
@@ -80,12 +82,12 @@ pub(crate) fn take(
     outfit: &Outfit,
     kept: &mut KeptTable,
     entities: &mut Entities,
-    datums: &mut Datums,
+    held: &mut Held,
     pdu: &Pdu,
     stamp: u32,
 ) -> Result<Option<usize>, AppFault>
-    requires { AreRight outfit.now kept.old entities.old datums.old }
-    ensures right { AreRight outfit.now kept.new entities.new datums.new }
+    requires { AreRight outfit.now kept.old entities.old (held_in held.old) }
+    ensures right { AreRight outfit.now kept.new entities.new (held_in held.new) }
     ensures err { OnErr result (values kept.new ≡ values kept.old) }
     ensures fault { IfErr result (λ fault. fault ≡ AppFault.Memory) }
     ensures no_memory { (is_for outfit.now pdu.now && is_none (first_under pdu.now (requests (values kept.old)))) ≡ false → IsOk result }
@@ -100,7 +102,7 @@ pub(crate) fn take(
     match place_of(kept, key, pdu) {
         Some(place) => Ok(take_again(kept, place, pdu, stamp)),
         None => {
-            let place = take_first(alloc, outfit, kept, entities, datums, key, pdu, stamp)?;
+            let place = take_first(alloc, outfit, kept, entities, held, key, pdu, stamp)?;
             Ok(Some(place))
         }
     }

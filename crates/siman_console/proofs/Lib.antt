@@ -1,9 +1,12 @@
 pub mod Endings
 pub mod Fetches
+pub mod Files
 pub mod HexTexts
 pub mod Passings
 pub mod Readings
 pub mod Shown
+pub mod Searches
 pub mod Texts
 pub mod Verdicts
+pub mod Worlds
 pub mod Programs

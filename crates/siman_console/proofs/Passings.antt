@@ -1,5 +1,5 @@
 -- Lines that are passed on while others are still held.
-use Rattle.std.proofs.Common.{◌≡◌, ℕ, zero, suc, ◌+◌, ◌<◌, ◌≤◌, List, [], ◌∷◌, ◌++◌, length, take, OnOk, Option, Some, None, Result, Ok, Err, refl, sym, ap, ◌∙◌, subst, arith, ⊎_elim, append_assoc, append-nil, take_all}
+use Rattle.std.proofs.Common.{◌≡◌, ℕ, zero, suc, ◌+◌, ◌<◌, ◌≤◌, List, [], ◌∷◌, ◌++◌, length, take, OnOk, Option, Some, None, Result, Ok, Err, refl, sym, ap, ◌∙◌, subst, arith, inr, ⊎_elim, append_assoc, append-nil, take_all}
 use Rattle.std.specs.Result.{IsErrAnd}
 use Rattle.std.specs.Io.KnownBytes.{Appends}
 use Rattle.std.proofs.KnownBytes.{Appends-trans}
@@ -8,6 +8,7 @@ use Rattle.std.proofs.lemmas.List.{take-append-le}
 use Rattle.std.proofs.lemmas.Bool.{cases_lt}
 use Rattle.byte_files.specs.Writing.{WritesPart}
 use Rattle.siman_console.specs.declared.fault.Fault.{Fault}
+use Rattle.siman_console.specs.declared.fault.Fault.TheVariants.{Memory}
 use Rattle.siman_console.specs.Report.{texts_below}
 use Rattle.siman_console.specs.Show.{IsPassedOn, PassesOn}
 use Rattle.siman_console.proofs.Texts.{texts_below-more}
@@ -111,6 +112,24 @@ emptied : (result : Result (Unit {0}) Fault) (old new : Option (List ℕ)) (last
     → PassesOn result old new last text → PassesOn result old new [] text
 emptied (Ok x) old new last text within passed = subst (λ held. IsPassedOn old new held text) (none_left last within) passed
 emptied (Err fault) old new last text within passed = passed
+
+-- more is held
+pub held-more : (old new : Option (List ℕ)) (held text more after : List ℕ) → IsPassedOn old new held text → after ≡ held ++ more
+    → IsPassedOn old new after (text ++ more)
+held-more old new held text more after passed e =
+    (passed.0, passed.1, ap (λ t. passed.0 ++ t) e ∙ sym (append_assoc passed.0 held more) ∙ ap (λ t. t ++ more) passed.2)
+
+-- of what is held nothing more is passed on, for want of memory
+pub passes-short : (result : Result (Unit {0}) Fault) (old new : Option (List ℕ)) (held text rest : List ℕ) → IsErrAnd result (λ e. e ≡ Memory)
+    → IsPassedOn old new held text → PassesOn result old new [] (text ++ rest)
+passes-short (Ok x) old new held text rest passed so_far = absurd passed
+passes-short (Err e) old new held text rest passed so_far =
+    let front : so_far.0 ≡ take (length so_far.0) text = sym (take-append_seam so_far.0 held) ∙ ap (take (length so_far.0)) so_far.2 in
+    (inr passed, part-longer old new text rest (length so_far.0, subst (Appends old new) front so_far.1))
+
+-- nothing is held: the text is out whole
+pub passed-whole : (old new : Option (List ℕ)) (text : List ℕ) → IsPassedOn old new [] text → Appends old new text
+passed-whole old new text passed = subst (Appends old new) (sym (append-nil passed.0) ∙ passed.2) passed.1
 
 -- all that was held is passed on
 pub passes-last : (result : Result (Unit {0}) Fault) (old mid new : Option (List ℕ)) (held text last : List ℕ) → IsPassedOn old mid held text

@@ -8,7 +8,7 @@ use Rattle.exercise_recording.specs.declared.format_fault.RecordingFault.{Record
 use Rattle.exercise_recording.specs.declared.format_fault.RecordingFault.TheVariants as recordings
 use Rattle.exercise_model.specs.Recording.{PlainRecording}
 use Rattle.byte_files.specs.Fields.{Fails}
-use Rattle.exercise_recording.specs.Reading.{told}
+use Rattle.exercise_recording.specs.Reading.{format_of}
 use Rattle.siman_console.specs.declared.fault.Fault.{Fault}
 use Rattle.siman_console.specs.Ending.{of_recording}
 use Rattle.siman_console.specs.Report.{texts_below}
@@ -17,7 +17,7 @@ use Rattle.siman_console.specs.Show.{counts_line, station_shown, entry_shown, sh
 abbrev Recorded : Type 0
 Recorded = Result PlainRecording FormatFault
 
-recording_refused : (recorded : Recorded) (fault : RecordingFault) (old new : Option (List ℕ)) → Fails (told fault) recorded → Keeps old new
+recording_refused : (recorded : Recorded) (fault : RecordingFault) (old new : Option (List ℕ)) → Fails (format_of fault) recorded → Keeps old new
     → Shows recorded (Err (of_recording fault)) old new
 recording_refused recorded (recordings.Format f) old new why keeps = (why, keeps)
 recording_refused recorded recordings.Read old new why keeps = keeps
@@ -29,14 +29,14 @@ pub whole_text : (r : PlainRecording) (line : List ℕ) → line ≡ counts_line
 whole_text r line e = rw e refl
 
 -- what may have been read where a fault is told
-pub some_recorded : (fault : RecordingFault) → (recorded : Recorded) × Fails (told fault) recorded
+pub some_recorded : (fault : RecordingFault) → (recorded : Recorded) × Fails (format_of fault) recorded
 some_recorded (recordings.Format f) = (Err f, refl)
 some_recorded recordings.Read = (Err (faults.Magic 0), tt)
 some_recorded recordings.Memory = (Err (faults.Magic 0), tt)
 
 -- a recording that could not be read
 pub recording_unread : (recorded : Recorded) (fault : RecordingFault) (result : Result (Unit {0}) Fault) (old new : Option (List ℕ))
-    → IsErrAnd result (λ e. e ≡ of_recording fault) → Fails (told fault) recorded → Keeps old new → Shows recorded result old new
+    → IsErrAnd result (λ e. e ≡ of_recording fault) → Fails (format_of fault) recorded → Keeps old new → Shows recorded result old new
 recording_unread recorded fault (Ok x) old new passed why keeps = absurd passed
 recording_unread recorded fault (Err e) old new passed why keeps = rw passed (recording_refused recorded fault old new why keeps)
 

@@ -26,38 +26,38 @@ not_good r steps k cause (inr first) good = let none = good.good k first.within 
 
 -- a recording that could not be read
 pub recording_refused : (recorded : Recorded) (certified : Certified) (fault : RecordingFault) (old new : Option (List ℕ))
-    → Fails (reading.told fault) recorded → Keeps old new → Judges recorded certified (Err (of_recording fault)) old new
+    → Fails (reading.format_of fault) recorded → Keeps old new → Judges recorded certified (Err (of_recording fault)) old new
 recording_refused recorded certified (recordings.Format f) old new why keeps = (why, keeps)
 recording_refused recorded certified recordings.Read old new why keeps = keeps
 recording_refused recorded certified recordings.Memory old new why keeps = keeps
 
 -- the same of the fault that was passed on
 pub recording_unread : (recorded : Recorded) (certified : Certified) (fault : RecordingFault) (result : Result Bool FilesFault) (old new : Option (List ℕ))
-    → IsErrAnd result (λ e. e ≡ of_recording fault) → Fails (reading.told fault) recorded → Keeps old new → Judges recorded certified result old new
+    → IsErrAnd result (λ e. e ≡ of_recording fault) → Fails (reading.format_of fault) recorded → Keeps old new → Judges recorded certified result old new
 recording_unread recorded certified fault (Ok b) old new passed why keeps = absurd passed
 recording_unread recorded certified fault (Err e) old new passed why keeps = rw passed (recording_refused recorded certified fault old new why keeps)
 
 -- a certificate that could not be read, after the recording was
 pub certificate_refused : (recorded : Recorded) (certified : Certified) (r : PlainRecording) (fault : CertificateFault) (old new : Option (List ℕ))
-    → recorded ≡ Ok r → Fails (certificate.told fault) certified → Keeps old new → Judges recorded certified (Err (of_certificate fault)) old new
+    → recorded ≡ Ok r → Fails (certificate.format_of fault) certified → Keeps old new → Judges recorded certified (Err (of_certificate fault)) old new
 certificate_refused recorded certified r (certificates.Format f) old new read why keeps = ((r, read), why, keeps)
 certificate_refused recorded certified r certificates.Read old new read why keeps = ((r, read), keeps)
 certificate_refused recorded certified r certificates.Memory old new read why keeps = keeps
 
 pub certificate_unread : (recorded : Recorded) (certified : Certified) (r : PlainRecording) (fault : CertificateFault) (result : Result Bool FilesFault) (old new : Option (List ℕ))
-    → IsErrAnd result (λ e. e ≡ of_certificate fault) → recorded ≡ Ok r → Fails (certificate.told fault) certified → Keeps old new
+    → IsErrAnd result (λ e. e ≡ of_certificate fault) → recorded ≡ Ok r → Fails (certificate.format_of fault) certified → Keeps old new
     → Judges recorded certified result old new
 certificate_unread recorded certified r fault (Ok b) old new passed read why keeps = absurd passed
 certificate_unread recorded certified r fault (Err e) old new passed read why keeps =
     rw passed (certificate_refused recorded certified r fault old new read why keeps)
 
 -- what may have been read where a fault is told
-pub some_recorded : (fault : RecordingFault) → (recorded : Recorded) × Fails (reading.told fault) recorded
+pub some_recorded : (fault : RecordingFault) → (recorded : Recorded) × Fails (reading.format_of fault) recorded
 some_recorded (recordings.Format f) = (Err f, refl)
 some_recorded recordings.Read = (Err (recording_faults.Magic 0), tt)
 some_recorded recordings.Memory = (Err (recording_faults.Magic 0), tt)
 
-pub some_certified : (fault : CertificateFault) → (certified : Certified) × Fails (certificate.told fault) certified
+pub some_certified : (fault : CertificateFault) → (certified : Certified) × Fails (certificate.format_of fault) certified
 some_certified (certificates.Format f) = (Err f, refl)
 some_certified certificates.Read = (Err (certificate_faults.Magic 0), tt)
 some_certified certificates.Memory = (Err (certificate_faults.Magic 0), tt)

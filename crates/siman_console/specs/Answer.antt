@@ -8,7 +8,7 @@ use Rattle.siman_pdus.specs.declared.pdu.Pdu.{Pdu}
 use Rattle.siman_pdus.specs.Reading.{pdu_from, refusal_of}
 use Rattle.siman_pdus.specs.Texts.{refusal_number, pdu_fault_text}
 use Rattle.siman_console.specs.declared.fault.Fault.{Fault}
-use Rattle.siman_console.specs.declared.fault.Fault.TheVariants.{NotBytePairs, Input, File, Words, Recording, Certificate, Output, Memory}
+use Rattle.siman_console.specs.declared.fault.Fault.TheVariants.{NotBytePairs, Input, File, Words, Recording, Certificate, Script, ScriptRead, World, Output, Memory}
 use Rattle.siman_console.specs.Ending.{EndsWith}
 use Rattle.siman_console.specs.HexText.{bytes_of}
 use Rattle.siman_console.specs.Records.{pdu_lines, line_end}
@@ -18,8 +18,8 @@ pub record Said : Type 0 where
   pub status : ℕ
   pub text : List ℕ
 
-abbrev pub shown : Pdu → Said
-shown pdu = record { status = 0; text = pdu_lines pdu }
+abbrev pub said_of_pdu : Pdu → Said
+said_of_pdu pdu = record { status = 0; text = pdu_lines pdu }
 
 -- refused NUMBER NAME
 abbrev pub refusal_line : PduFault → List ℕ
@@ -29,7 +29,7 @@ abbrev pub refused : PduFault → Said
 refused fault = record { status = 1; text = refusal_line fault }
 
 abbrev pub said_of_reading : Option PduFault → Pdu → Said
-said_of_reading None pdu = shown pdu
+said_of_reading None pdu = said_of_pdu pdu
 said_of_reading (Some fault) pdu = refused fault
 
 -- the lines of the PDU that a datagram spells, or else its refusal
@@ -56,17 +56,20 @@ abbrev pub said_of_input : List ℕ → Said
 said_of_input bytes = if nat_lt LONGEST_HEX (length bytes) then not_byte_pairs else said_of_hex (without_line_end bytes)
 
 -- An answer was written whole, or of its text a prefix, and none of it where memory ran out or there is none to give.
-abbrev pub IsTold : Said → Result ℕ Fault → Option (List ℕ) → Option (List ℕ) → Type 0
-IsTold said (Ok status) old new = (status ≡ said.status) × (status ≤ 1) × Appends old new said.text
-IsTold said (Err NotBytePairs) old new = (said ≡ not_byte_pairs) × Keeps old new
-IsTold said (Err Input) old new = Keeps old new
-IsTold said (Err (File name)) old new = ⊥
-IsTold said (Err Words) old new = ⊥
-IsTold said (Err (Recording fault)) old new = ⊥
-IsTold said (Err (Certificate fault)) old new = ⊥
-IsTold said (Err Output) old new = (n : ℕ) × Appends old new (take n said.text)
-IsTold said (Err Memory) old new = Keeps old new
+abbrev pub IsSaid : Said → Result ℕ Fault → Option (List ℕ) → Option (List ℕ) → Type 0
+IsSaid said (Ok status) old new = (status ≡ said.status) × (status ≤ 1) × Appends old new said.text
+IsSaid said (Err NotBytePairs) old new = (said ≡ not_byte_pairs) × Keeps old new
+IsSaid said (Err Input) old new = Keeps old new
+IsSaid said (Err (File name)) old new = ⊥
+IsSaid said (Err Words) old new = ⊥
+IsSaid said (Err (Recording fault)) old new = ⊥
+IsSaid said (Err (Certificate fault)) old new = ⊥
+IsSaid said (Err (Script fault)) old new = ⊥
+IsSaid said (Err ScriptRead) old new = ⊥
+IsSaid said (Err (World fault)) old new = ⊥
+IsSaid said (Err Output) old new = (n : ℕ) × Appends old new (take n said.text)
+IsSaid said (Err Memory) old new = Keeps old new
 
 -- HOW `pdu` ENDS that had to say this: what it told is out, and it ends as that asks for
-abbrev pub EndsPdu : Said → (status : ℕ) → (old new : Option (List ℕ)) → (told_old told_new : Option (List ℕ)) → Type 0
-EndsPdu said status old new told_old told_new = (told : Result ℕ Fault) × IsTold said told old new × EndsWith told status told_old told_new
+abbrev pub EndsPdu : Said → (status : ℕ) → (old new : Option (List ℕ)) → (errors_old errors_new : Option (List ℕ)) → Type 0
+EndsPdu said status old new errors_old errors_new = (answered : Result ℕ Fault) × IsSaid said answered old new × EndsWith answered status errors_old errors_new

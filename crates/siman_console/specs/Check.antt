@@ -112,11 +112,11 @@ judged_status (Ok false) = Ok 1
 judged_status (Err fault) = Err (of_files fault)
 
 -- What `check` tells: what it judged is out, with status 0 or 1, or it met a fault.
-abbrev pub TellsCheck : Recorded → Certified → (told : Result ℕ Fault) → (old new : Option (List ℕ)) → Type 0
-TellsCheck recorded certified told old new =
-    (judged : Result Bool FilesFault) × Judges recorded certified judged old new × (told ≡ judged_status judged)
+abbrev pub TellsCheck : Recorded → Certified → (answered : Result ℕ Fault) → (old new : Option (List ℕ)) → Type 0
+TellsCheck recorded certified answered old new =
+    (judged : Result Bool FilesFault) × Judges recorded certified judged old new × (answered ≡ judged_status judged)
 
 -- HOW `check` ENDS: what it judged is out, and it ends as that asks for
-abbrev pub EndsCheck : Recorded → Certified → (status : ℕ) → (old new : Option (List ℕ)) → (told_old told_new : Option (List ℕ)) → Type 0
-EndsCheck recorded certified status old new told_old told_new =
-    (told : Result ℕ Fault) × TellsCheck recorded certified told old new × EndsWith told status told_old told_new
+abbrev pub EndsCheck : Recorded → Certified → (status : ℕ) → (old new : Option (List ℕ)) → (errors_old errors_new : Option (List ℕ)) → Type 0
+EndsCheck recorded certified status old new errors_old errors_new =
+    (answered : Result ℕ Fault) × TellsCheck recorded certified answered old new × EndsWith answered status errors_old errors_new

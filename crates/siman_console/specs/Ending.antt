@@ -9,9 +9,18 @@ use Rattle.exercise_recording.specs.FaultText as recording_texts
 use Rattle.exercise_check.specs.declared.certificate_fault.CertificateFault.{CertificateFault}
 use Rattle.exercise_check.specs.declared.certificate_fault.CertificateFault.TheVariants as certificates
 use Rattle.exercise_check.specs.FaultText as certificate_texts
+use Rattle.siman_manager.specs.declared.fault.OrderFault.TheVariants as orders
+use Rattle.siman_worlds.specs.declared.script_fault.ScriptFault.{ScriptFault}
+use Rattle.siman_worlds.specs.declared.script_fault.ScriptFault.TheVariants as scripts
+use Rattle.siman_worlds.specs.declared.world_fault.MoveFault.{MoveFault}
+use Rattle.siman_worlds.specs.declared.world_fault.MoveFault.TheVariants as moves
+use Rattle.siman_worlds.specs.declared.world_fault.WorldFault.{WorldFault}
+use Rattle.siman_worlds.specs.declared.world_fault.WorldFault.TheVariants as worlds
+use Rattle.siman_console.specs.declared.place.Place.{Place}
+use Rattle.siman_console.specs.declared.place.Place.TheVariants.{Offset, Line, Move}
 use Rattle.siman_console.specs.declared.fault.Fault.{Fault}
 use Rattle.siman_console.specs.declared.fault.Ended.{Ended}
-use Rattle.siman_console.specs.declared.fault.Fault.TheVariants.{NotBytePairs, Input, File, Words, Recording, Certificate, Output, Memory}
+use Rattle.siman_console.specs.declared.fault.Fault.TheVariants.{NotBytePairs, Input, File, Words, Recording, Certificate, Script, ScriptRead, World, Output, Memory}
 use Rattle.siman_console.specs.declared.files_fault.FilesFault.{FilesFault}
 use Rattle.siman_console.specs.declared.files_fault.FilesFault.TheVariants as files
 use Rattle.siman_console.specs.Records.{line_end}
@@ -24,6 +33,9 @@ subject_of (File name) = codes "file: "
 subject_of Words = codes "words: "
 subject_of (Recording fault) = codes "recording: "
 subject_of (Certificate fault) = codes "certificate: "
+subject_of (Script fault) = codes "script: "
+subject_of ScriptRead = codes "script: "
+subject_of (World fault) = codes "world: "
 subject_of Output = codes "output: "
 subject_of Memory = []
 
@@ -38,6 +50,27 @@ certificate_fault_name (certificates.Format f) = certificate_texts.name_of f
 certificate_fault_name certificates.Read = codes "read"
 certificate_fault_name certificates.Memory = codes "memory"
 
+-- the name of a fault of a script, and of one of a world or its moves
+abbrev pub script_fault_name : ScriptFault → List ℕ
+script_fault_name (scripts.BadLine line) = codes "bad-line"
+script_fault_name (scripts.UnknownStation line) = codes "unknown-station"
+script_fault_name scripts.Memory = codes "memory"
+
+abbrev pub move_fault_name : MoveFault → List ℕ
+move_fault_name moves.Records = codes "records"
+move_fault_name moves.NoSuchStation = codes "no-such-station"
+move_fault_name moves.NoSuchSend = codes "no-such-send"
+move_fault_name moves.NoSuchEntity = codes "no-such-entity"
+move_fault_name moves.NotARequest = codes "not-a-request"
+move_fault_name (moves.Order orders.IdsSpent) = codes "ids-spent"
+move_fault_name (moves.Order orders.TooLong) = codes "too-long"
+move_fault_name (moves.Order orders.Memory) = codes "memory"
+
+abbrev pub world_fault_name : WorldFault → List ℕ
+world_fault_name worlds.Stations = codes "stations"
+world_fault_name (worlds.Move number fault) = move_fault_name fault
+world_fault_name worlds.Memory = codes "memory"
+
 -- what there is to say of it
 abbrev pub name_of : Fault → List ℕ
 name_of NotBytePairs = codes "not byte pairs"
@@ -46,35 +79,61 @@ name_of (File name) = name.now
 name_of Words = codes "not UTF-8"
 name_of (Recording fault) = recording_fault_name fault
 name_of (Certificate fault) = certificate_fault_name fault
+name_of (Script fault) = script_fault_name fault
+name_of ScriptRead = codes "read"
+name_of (World fault) = world_fault_name fault
 name_of Output = codes "write"
 name_of Memory = codes "memory"
 
-abbrev pub recording_place : RecordingFault → Option ℕ
-recording_place (recordings.Format f) = Some (recording_texts.place_of f)
+-- where it is: the offset of a field in bytes from 0, a line of a script from 1, a move of a world from 0
+abbrev pub recording_place : RecordingFault → Option Place
+recording_place (recordings.Format f) = Some (Offset (recording_texts.place_of f))
 recording_place recordings.Read = None
 recording_place recordings.Memory = None
 
-abbrev pub certificate_place : CertificateFault → Option ℕ
-certificate_place (certificates.Format f) = Some (certificate_texts.place_of f)
+abbrev pub certificate_place : CertificateFault → Option Place
+certificate_place (certificates.Format f) = Some (Offset (certificate_texts.place_of f))
 certificate_place certificates.Read = None
 certificate_place certificates.Memory = None
 
--- its place in a file, as an offset in bytes
-abbrev pub place_of : Fault → Option ℕ
+abbrev pub script_place : ScriptFault → Option Place
+script_place (scripts.BadLine line) = Some (Line line)
+script_place (scripts.UnknownStation line) = Some (Line line)
+script_place scripts.Memory = None
+
+abbrev pub world_place : WorldFault → Option Place
+world_place worlds.Stations = None
+world_place (worlds.Move number fault) = Some (Move number)
+world_place worlds.Memory = None
+
+abbrev pub place_of : Fault → Option Place
 place_of NotBytePairs = None
 place_of Input = None
 place_of (File name) = None
 place_of Words = None
 place_of (Recording fault) = recording_place fault
 place_of (Certificate fault) = certificate_place fault
+place_of (Script fault) = script_place fault
+place_of ScriptRead = None
+place_of (World fault) = world_place fault
 place_of Output = None
 place_of Memory = None
 
-abbrev pub place_text : Option ℕ → List ℕ
-place_text None = []
-place_text (Some at) = codes " at " ++ decimal at
+abbrev pub place_words : Place → List ℕ
+place_words (Offset at) = codes " at "
+place_words (Line number) = codes " at line "
+place_words (Move number) = codes " at move "
 
--- SUBJECT: NAME, or SUBJECT: NAME at N, with its line end
+abbrev pub place_number : Place → ℕ
+place_number (Offset at) = at
+place_number (Line number) = number
+place_number (Move number) = number
+
+abbrev pub place_text : Option Place → List ℕ
+place_text None = []
+place_text (Some place) = place_words place ++ decimal (place_number place)
+
+-- SUBJECT: NAME, or SUBJECT: NAME at N, at line N or at move N; with its line end
 abbrev pub fault_text : Fault → List ℕ
 fault_text fault = (subject_of fault ++ name_of fault) ++ place_text (place_of fault)
 
@@ -89,6 +148,9 @@ fault_status (File name) = 2
 fault_status Words = 2
 fault_status (Recording fault) = 2
 fault_status (Certificate fault) = 2
+fault_status (Script fault) = 2
+fault_status ScriptRead = 2
+fault_status (World fault) = 2
 fault_status Output = 2
 fault_status Memory = 3
 
@@ -97,6 +159,17 @@ abbrev pub of_recording : RecordingFault → Fault
 of_recording (recordings.Format fault) = Recording (recordings.Format fault)
 of_recording recordings.Read = Recording recordings.Read
 of_recording recordings.Memory = Memory
+
+-- how the fault of a script, and that of its world, is told
+abbrev pub of_script : ScriptFault → Fault
+of_script (scripts.BadLine line) = Script (scripts.BadLine line)
+of_script (scripts.UnknownStation line) = Script (scripts.UnknownStation line)
+of_script scripts.Memory = Memory
+
+abbrev pub of_world : WorldFault → Fault
+of_world worlds.Stations = World worlds.Stations
+of_world (worlds.Move number fault) = World (worlds.Move number fault)
+of_world worlds.Memory = Memory
 
 abbrev pub of_files : FilesFault → Fault
 of_files (files.Recording fault) = Recording fault
@@ -119,10 +192,10 @@ Tells (Ok status) wrote old new = (wrote ≡ Ok tt) × Keeps old new
 Tells (Err fault) wrote old new = Writes wrote old new (fault_line fault)
 
 -- HOW A COMMAND ENDS that answered, or met a fault: with this status, and this on the writer of faults
-pub record Ends (told : Result ℕ Fault) (ended : Ended) (old new : Option (List ℕ)) : Type 0 where
-  pub status_is : ended.status ≡ status_of told
-  pub tells : Tells told ended.told old new
+pub record Ends (answered : Result ℕ Fault) (ended : Ended) (old new : Option (List ℕ)) : Type 0 where
+  pub status_is : ended.status ≡ status_of answered
+  pub tells : Tells answered ended.written old new
 
 -- the same of a call that answers the status alone
 abbrev pub EndsWith : Result ℕ Fault → (status : ℕ) → (old new : Option (List ℕ)) → Type 0
-EndsWith told status old new = (wrote : Wrote) × Ends told (record { status = status; told = wrote }) old new
+EndsWith answered status old new = (wrote : Wrote) × Ends answered (record { status = status; written = wrote }) old new

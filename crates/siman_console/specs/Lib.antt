@@ -1,6 +1,7 @@
 pub mod Head
 pub mod Records
 pub mod HexText
+pub mod Fetching
 pub mod Answer
 pub mod Report
 pub mod Check
@@ -9,4 +10,6 @@ pub mod Ending
 pub mod Outside
 pub mod Words
 pub mod Outcome
+pub mod Search
+pub mod World
 pub mod Program

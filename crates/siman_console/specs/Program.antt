@@ -1,5 +1,5 @@
 -- How the program ends, from the words of its command line to its status.
-use Rattle.std.specs.Prelude.{◌≡◌, ◌≢◌, ◌⊎◌, ℕ, List, [], ◌∷◌, ◌++◌, codes, Option, Some, None, Result, Ok, Err, map, string_bytes, Vec, String}
+use Rattle.std.specs.Prelude.{◌≡◌, ◌≢◌, ◌⊎◌, ℕ, List, [], ◌∷◌, ◌++◌, length, codes, Option, Some, None, Result, Ok, Err, map, string_bytes, Vec, String}
 use Rattle.std.specs.declared.alloc.Global.{Global}
 use Rattle.std.specs.Io.KnownBytes.{Keeps}
 use Rattle.std.specs.declared.io.ErrorKind.{ErrorKind}
@@ -8,68 +8,143 @@ use Rattle.siman_console.specs.declared.check.TheConstants.{LARGEST_CERTIFICATE}
 use Rattle.siman_console.specs.declared.show.TheConstants.{LARGEST_RECORDING}
 use Rattle.clap.specs.declared.error.kind.ErrorKind.{ErrorKind as UsageKind}
 use Rattle.exercise_recording.specs.Reading.{recording_at}
-use Rattle.exercise_check.specs.Certificate.{certificate_at}
+use Rattle.exercise_check.specs.declared.certificate.Step.{Step}
+use Rattle.exercise_check.specs.Certificate.{certificate_at, certificate_text}
+use Rattle.exercise_model.specs.Recording.{PlainRecording}
+use Rattle.siman_worlds.specs.Script.{script_at}
 use Rattle.siman_console.specs.declared.fault.Fault.{Fault}
-use Rattle.siman_console.specs.declared.fault.Fault.TheVariants.{Memory}
-use Rattle.siman_console.specs.Answer.{said_of_hex, said_of_input, IsTold}
+use Rattle.siman_console.specs.declared.fault.Fault.TheVariants.{Output, Memory}
+use Rattle.siman_console.specs.Answer.{said_of_hex, said_of_input, IsSaid}
 use Rattle.siman_console.specs.Check.{Recorded, Certified, TellsCheck}
 use Rattle.siman_console.specs.Ending.{Ends, fault_text}
-use Rattle.siman_console.specs.Outside.{Deed, Opens}
+use Rattle.siman_console.specs.Outside.{Deed, Opens, Makes, Leaves}
 use Rattle.siman_console.specs.Outcome.{Stream, Outcome, IsUnread, EndsUsage}
+use Rattle.siman_console.specs.declared.search.Finding.{Finding}
+use Rattle.siman_console.specs.declared.search.Finding.TheVariants as findings
+use Rattle.siman_console.specs.Search.{explained_line, FindsOrder, FindsNone, IsUnsearched, PutsBoth, PutsBlocked}
 use Rattle.siman_console.specs.Show.{TellsShow}
-use Rattle.siman_console.specs.Words.{Asked, Input, Pdu, Show, Check, asked}
+use Rattle.siman_console.specs.Words.{Asked, Input, Pdu, Show, Check, Audit, World, asked}
+use Rattle.siman_console.specs.World.{Scripted, Yields, YieldsNone, PutsWorld}
 
 -- what a command answered, its status, or the fault that it met
-abbrev pub Told : Type 0
-Told = Result ℕ Fault
+abbrev pub Answered : Type 0
+Answered = Result ℕ Fault
 
 -- `pdu` had to say what these bytes of standard input ask for, where they are known, or what some bytes do
-abbrev pub TellsInput : Option (List ℕ) → Told → Stream → Type 0
-TellsInput (Some bytes) told out = IsTold (said_of_input bytes) told out.old out.new
-TellsInput None told out = (bytes : List ℕ) × IsTold (said_of_input bytes) told out.old out.new
+abbrev pub TellsInput : Option (List ℕ) → Answered → Stream → Type 0
+TellsInput (Some bytes) answered out = IsSaid (said_of_input bytes) answered out.old out.new
+TellsInput None answered out = (bytes : List ℕ) × IsSaid (said_of_input bytes) answered out.old out.new
 
 -- `show` had these bytes to show, or some
-abbrev pub TellsShown : Option (List ℕ) → Told → Stream → Type 0
-TellsShown (Some bytes) told out = TellsShow (recording_at LARGEST_RECORDING bytes) told out.old out.new
-TellsShown None told out = (recorded : Recorded) × TellsShow recorded told out.old out.new
+abbrev pub TellsShown : Option (List ℕ) → Answered → Stream → Type 0
+TellsShown (Some bytes) answered out = TellsShow (recording_at LARGEST_RECORDING bytes) answered out.old out.new
+TellsShown None answered out = (recorded : Recorded) × TellsShow recorded answered out.old out.new
 
 -- `check` had these bytes to judge, where both are known, or some
-abbrev pub TellsJudged : Option (List ℕ) → Option (List ℕ) → Told → Stream → Type 0
-TellsJudged (Some r) (Some c) told out = TellsCheck (recording_at LARGEST_RECORDING r) (certificate_at LARGEST_CERTIFICATE c) told out.old out.new
-TellsJudged r c told out = (recorded : Recorded) × (certified : Certified) × TellsCheck recorded certified told out.old out.new
+abbrev pub TellsJudged : Option (List ℕ) → Option (List ℕ) → Answered → Stream → Type 0
+TellsJudged (Some r) (Some c) answered out = TellsCheck (recording_at LARGEST_RECORDING r) (certificate_at LARGEST_CERTIFICATE c) answered out.old out.new
+TellsJudged r c answered out = (recorded : Recorded) × (certified : Certified) × TellsCheck recorded certified answered out.old out.new
 
 -- how a file that was not opened is told: want of memory, or else `file: NAME` with the name as it was given
 abbrev pub IsUnopened : List ℕ → ErrorKind → Fault → Type 0
 IsUnopened name kind fault = ((kind ≡ OutOfMemory) × (fault ≡ Memory)) ⊎ ((kind ≢ OutOfMemory) × (fault_text fault ≡ codes "file: " ++ name))
 
-abbrev pub TellsUnopened : List ℕ → ErrorKind → Told → Stream → Type 0
-TellsUnopened name kind told out = Keeps out.old out.new × ((fault : Fault) × IsUnopened name kind fault × (told ≡ Err fault))
+abbrev pub TellsUnopened : List ℕ → ErrorKind → Answered → Stream → Type 0
+TellsUnopened name kind answered out = Keeps out.old out.new × ((fault : Fault) × IsUnopened name kind fault × (answered ≡ Err fault))
 
 -- ONE FILE IS OPENED for `show`
-abbrev pub ShowsFile : List ℕ → List Deed → Told → Stream → Type 0
-ShowsFile name (Opens opened (Ok bytes) ∷ []) told out = (opened ≡ name) × TellsShown bytes told out
-ShowsFile name (Opens opened (Err kind) ∷ []) told out = (opened ≡ name) × TellsUnopened name kind told out
-ShowsFile name deeds told out = ⊥
+abbrev pub ShowsFile : List ℕ → List Deed → Answered → Stream → Type 0
+ShowsFile name (Opens opened (Ok bytes) ∷ []) answered out = (opened ≡ name) × TellsShown bytes answered out
+ShowsFile name (Opens opened (Err kind) ∷ []) answered out = (opened ≡ name) × TellsUnopened name kind answered out
+ShowsFile name deeds answered out = ⊥
 
 -- TWO FILES ARE OPENED for `check`, the recording first; where that fails the other is not
-abbrev pub ChecksFiles : (recording certificate : List ℕ) → List Deed → Told → Stream → Type 0
-ChecksFiles recording certificate (Opens first (Err kind) ∷ []) told out = (first ≡ recording) × TellsUnopened recording kind told out
-ChecksFiles recording certificate (Opens first (Ok r) ∷ Opens second (Err kind) ∷ []) told out =
-    (first ≡ recording) × (second ≡ certificate) × TellsUnopened certificate kind told out
-ChecksFiles recording certificate (Opens first (Ok r) ∷ Opens second (Ok c) ∷ []) told out =
-    (first ≡ recording) × (second ≡ certificate) × TellsJudged r c told out
-ChecksFiles recording certificate deeds told out = ⊥
+abbrev pub ChecksFiles : (recording certificate : List ℕ) → List Deed → Answered → Stream → Type 0
+ChecksFiles recording certificate (Opens first (Err kind) ∷ []) answered out = (first ≡ recording) × TellsUnopened recording kind answered out
+ChecksFiles recording certificate (Opens first (Ok r) ∷ Opens second (Err kind) ∷ []) answered out =
+    (first ≡ recording) × (second ≡ certificate) × TellsUnopened certificate kind answered out
+ChecksFiles recording certificate (Opens first (Ok r) ∷ Opens second (Ok c) ∷ []) answered out =
+    (first ≡ recording) × (second ≡ certificate) × TellsJudged r c answered out
+ChecksFiles recording certificate deeds answered out = ⊥
 
--- WHAT A TASK TELLS: which files it opened, in their order, what it answered or the fault that it met, and what it left on the writer of answers; standard input has these bytes where they are known
-abbrev pub TellsTask : Asked → List Deed → Option (List ℕ) → Told → Stream → Type 0
-TellsTask Input deeds input told out = (deeds ≡ []) × TellsInput input told out
-TellsTask (Pdu hex) deeds input told out = (deeds ≡ []) × IsTold (said_of_hex hex) told out.old out.new
-TellsTask (Show recording) deeds input told out = ShowsFile recording deeds told out
-TellsTask (Check recording certificate) deeds input told out = ChecksFiles recording certificate deeds told out
+-- how it is told that the file to be written was not made: want of memory, or else as a failed write
+abbrev pub IsUnmade : ErrorKind → Fault → Type 0
+IsUnmade kind fault = ((kind ≡ OutOfMemory) × (fault ≡ Memory)) ⊎ ((kind ≢ OutOfMemory) × (fault ≡ Output))
+
+abbrev pub TellsUnmade : ErrorKind → Answered → Stream → Type 0
+TellsUnmade kind answered out = Keeps out.old out.new × ((fault : Fault) × IsUnmade kind fault × (answered ≡ Err fault))
+
+-- A FILE IS MADE of a recording, and left with what was written of it
+abbrev pub MakesFile : (name : List ℕ) → PlainRecording → List Deed → Answered → Stream → Type 0
+MakesFile name r (Makes made (Err kind) ∷ []) answered out = (made ≡ name) × TellsUnmade kind answered out
+MakesFile name r (Makes made (Ok fresh) ∷ Leaves left ∷ []) answered out =
+    (made ≡ name) × (let file : Stream = record { old = fresh; new = left } in PutsWorld r answered file out)
+MakesFile name r deeds answered out = ⊥
+
+-- A file is made of the recording that a script yields, and none where it yields none.
+abbrev pub RunsScript : Scripted → (recording : List ℕ) → List Deed → Answered → Stream → Type 0
+RunsScript scripted recording deeds answered out =
+    ((fault : Fault) × YieldsNone scripted fault × (answered ≡ Err fault) × (deeds ≡ []) × Keeps out.old out.new)
+    ⊎ ((r : PlainRecording) × Yields scripted r × MakesFile recording r deeds answered out)
+
+-- `world` had this script to run, where its bytes are known, or some
+abbrev pub RunsFound : Option (List ℕ) → (recording : List ℕ) → List Deed → Answered → Stream → Type 0
+RunsFound (Some text) recording deeds answered out = RunsScript (script_at text) recording deeds answered out
+RunsFound None recording deeds answered out = (scripted : Scripted) × RunsScript scripted recording deeds answered out
+
+-- A SCRIPT IS OPENED for `world`, and then the file of its recording is made
+abbrev pub RunsFile : (script recording : List ℕ) → List Deed → Answered → Stream → Type 0
+RunsFile script recording [] answered out = ⊥
+RunsFile script recording (Opens opened (Ok text) ∷ deeds) answered out = (opened ≡ script) × RunsFound text recording deeds answered out
+RunsFile script recording (Opens opened (Err kind) ∷ deeds) answered out = (opened ≡ script) × (deeds ≡ []) × TellsUnopened script kind answered out
+RunsFile script recording (Makes made found ∷ deeds) answered out = ⊥
+RunsFile script recording (Leaves left ∷ deeds) answered out = ⊥
+
+-- A FILE IS MADE of the first of two texts, and left with what was written of it; then the second is out
+abbrev pub MakesBoth : (name first second : List ℕ) → List Deed → Answered → Stream → Type 0
+MakesBoth name first second (Makes made (Err kind) ∷ []) answered out = (made ≡ name) × TellsUnmade kind answered out
+MakesBoth name first second (Makes made (Ok fresh) ∷ Leaves left ∷ []) answered out =
+    (made ≡ name) × (let file : Stream = record { old = fresh; new = left } in PutsBoth first second answered file out)
+MakesBoth name first second deeds answered out = ⊥
+
+-- what is made of a finding: a file of the certificate of an order, and none where there is no order
+abbrev pub MakesFinding : (name : List ℕ) → Finding → List Deed → Answered → Stream → Type 0
+MakesFinding name (findings.Order certificate line) deeds answered out = MakesBoth name certificate.items (string_bytes line) deeds answered out
+MakesFinding name (findings.Stuck text) deeds answered out = (deeds ≡ []) × PutsBlocked (string_bytes text) answered out
+
+-- A file is made of the certificate of an order that explains the recording; none is made where nothing was searched, or where no order explains it.
+abbrev pub AuditsRecorded : Recorded → (certificate : List ℕ) → List Deed → Answered → Stream → Type 0
+AuditsRecorded recorded certificate deeds answered out =
+    ((fault : Fault) × IsUnsearched recorded fault × (answered ≡ Err fault) × (deeds ≡ []) × Keeps out.old out.new)
+    ⊎ ((steps : List Step) × FindsOrder recorded steps × MakesBoth certificate (certificate_text steps) (explained_line (length steps)) deeds answered out)
+    ⊎ ((list : List ℕ) × FindsNone recorded list × (deeds ≡ []) × PutsBlocked list answered out)
+
+-- `audit` had this recording to search, where its bytes are known, or some
+abbrev pub AuditsFound : Option (List ℕ) → (certificate : List ℕ) → List Deed → Answered → Stream → Type 0
+AuditsFound (Some bytes) certificate deeds answered out = AuditsRecorded (recording_at LARGEST_RECORDING bytes) certificate deeds answered out
+AuditsFound None certificate deeds answered out = (recorded : Recorded) × AuditsRecorded recorded certificate deeds answered out
+
+-- A RECORDING IS OPENED for `audit`, and then the file of its certificate is made, if it has one
+abbrev pub AuditsFile : (recording certificate : List ℕ) → List Deed → Answered → Stream → Type 0
+AuditsFile recording certificate [] answered out = ⊥
+AuditsFile recording certificate (Opens opened (Ok bytes) ∷ deeds) answered out = (opened ≡ recording) × AuditsFound bytes certificate deeds answered out
+AuditsFile recording certificate (Opens opened (Err kind) ∷ deeds) answered out =
+    (opened ≡ recording) × (deeds ≡ []) × TellsUnopened recording kind answered out
+AuditsFile recording certificate (Makes made found ∷ deeds) answered out = ⊥
+AuditsFile recording certificate (Leaves left ∷ deeds) answered out = ⊥
+
+-- WHAT A TASK TELLS: which files it opened and made, in their order, what it answered or the fault that it met, and what it left on the writer of answers; standard input has these bytes where they are known
+abbrev pub TellsTask : Asked → List Deed → Option (List ℕ) → Answered → Stream → Type 0
+TellsTask Input deeds input answered out = (deeds ≡ []) × TellsInput input answered out
+TellsTask (Pdu hex) deeds input answered out = (deeds ≡ []) × IsSaid (said_of_hex hex) answered out.old out.new
+TellsTask (Show recording) deeds input answered out = ShowsFile recording deeds answered out
+TellsTask (Check recording certificate) deeds input answered out = ChecksFiles recording certificate deeds answered out
+TellsTask (Audit recording certificate) deeds input answered out = AuditsFile recording certificate deeds answered out
+TellsTask (World script recording) deeds input answered out = RunsFile script recording deeds answered out
 
 -- HOW A TASK ENDS: with the status of its answer, or with that of the fault that it met, which is then told
 abbrev pub EndsTask : Asked → List Deed → Option (List ℕ) → Outcome → Type 0
-EndsTask task deeds input o = (told : Told) × TellsTask task deeds input told o.out × Ends told o.ended o.errors.old o.errors.new
+EndsTask task deeds input o = (answered : Answered) × TellsTask task deeds input answered o.out × Ends answered o.ended o.errors.old o.errors.new
 
 -- Words that ask for nothing of the table ask for help or break the usage, and no file is opened.
 abbrev pub EndsAsked : Option Asked → List Deed → Option (List ℕ) → Outcome → Type 0

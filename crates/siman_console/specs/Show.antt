@@ -15,7 +15,7 @@ use Rattle.exercise_model.specs.History.{station_at}
 use Rattle.exercise_model.specs.Meaning.{meaning}
 use Rattle.byte_files.specs.Writing.{WritesPart}
 use Rattle.siman_console.specs.declared.fault.Fault.{Fault}
-use Rattle.siman_console.specs.declared.fault.Fault.TheVariants.{NotBytePairs, Input, File, Words, Recording, Certificate, Output, Memory}
+use Rattle.siman_console.specs.declared.fault.Fault.TheVariants.{NotBytePairs, Input, File, Words, Recording, Certificate, Script, ScriptRead, World, Output, Memory}
 use Rattle.siman_console.specs.Ending.{EndsWith}
 use Rattle.siman_console.specs.Head.{head_text}
 use Rattle.siman_console.specs.Records.{line_end}
@@ -95,6 +95,9 @@ Shows recorded (Err Input) old new = ⊥
 Shows recorded (Err (File name)) old new = ⊥
 Shows recorded (Err Words) old new = ⊥
 Shows recorded (Err (Certificate fault)) old new = ⊥
+Shows recorded (Err (Script fault)) old new = ⊥
+Shows recorded (Err ScriptRead) old new = ⊥
+Shows recorded (Err (World fault)) old new = ⊥
 Shows recorded (Err Output) old new = ShowsPart recorded old new
 Shows recorded (Err Memory) old new = Keeps old new ⊎ ShowsPart recorded old new
 
@@ -104,10 +107,10 @@ shown_status (Ok x) = Ok 0
 shown_status (Err fault) = Err fault
 
 -- What `show` tells: what it showed is out, with status 0, or it met a fault.
-abbrev pub TellsShow : Result PlainRecording FormatFault → (told : Result ℕ Fault) → (old new : Option (List ℕ)) → Type 0
-TellsShow recorded told old new = (shown : Result (Unit {0}) Fault) × Shows recorded shown old new × (told ≡ shown_status shown)
+abbrev pub TellsShow : Result PlainRecording FormatFault → (answered : Result ℕ Fault) → (old new : Option (List ℕ)) → Type 0
+TellsShow recorded answered old new = (shown : Result (Unit {0}) Fault) × Shows recorded shown old new × (answered ≡ shown_status shown)
 
 -- HOW `show` ENDS: what it showed is out, and it ends as that asks for
-abbrev pub EndsShow : Result PlainRecording FormatFault → (status : ℕ) → (old new : Option (List ℕ)) → (told_old told_new : Option (List ℕ)) → Type 0
-EndsShow recorded status old new told_old told_new =
-    (told : Result ℕ Fault) × TellsShow recorded told old new × EndsWith told status told_old told_new
+abbrev pub EndsShow : Result PlainRecording FormatFault → (status : ℕ) → (old new : Option (List ℕ)) → (errors_old errors_new : Option (List ℕ)) → Type 0
+EndsShow recorded status old new errors_old errors_new =
+    (answered : Result ℕ Fault) × TellsShow recorded answered old new × EndsWith answered status errors_old errors_new

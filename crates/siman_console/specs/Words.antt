@@ -10,12 +10,16 @@ pub data Asked : Type 0 where
   Pdu : (hex : List ℕ) → Asked
   Show : (recording : List ℕ) → Asked
   Check : (recording certificate : List ℕ) → Asked
+  Audit : (recording certificate : List ℕ) → Asked
+  World : (script recording : List ℕ) → Asked
 
 abbrev pub asked_by : Task → Asked
 asked_by tasks.Input = Input
 asked_by (tasks.Pdu hex) = Pdu hex.now
 asked_by (tasks.Show recording) = Show recording.now
 asked_by (tasks.Check recording certificate) = Check recording.now certificate.now
+asked_by (tasks.Audit recording certificate) = Audit recording.now certificate.now
+asked_by (tasks.World script recording) = World script.now recording.now
 
 -- a word that begins with a hyphen, and has more, is an option
 abbrev pub is_option : List ℕ → Bool
@@ -34,11 +38,21 @@ abbrev pub check_asked : List (List ℕ) → Option Asked
 check_asked (recording ∷ certificate ∷ []) = if is_option recording || is_option certificate then None else Some (Check recording certificate)
 check_asked words = None
 
+abbrev pub audit_asked : List (List ℕ) → Option Asked
+audit_asked (recording ∷ certificate ∷ []) = if is_option recording || is_option certificate then None else Some (Audit recording certificate)
+audit_asked words = None
+
+abbrev pub world_asked : List (List ℕ) → Option Asked
+world_asked (script ∷ recording ∷ []) = if is_option script || is_option recording then None else Some (World script recording)
+world_asked words = None
+
 abbrev pub command_asked : List ℕ → List (List ℕ) → Option Asked
 command_asked command words =
     if bytes_eq command (codes "pdu") then pdu_asked words
     else if bytes_eq command (codes "show") then show_asked words
     else if bytes_eq command (codes "check") then check_asked words
+    else if bytes_eq command (codes "audit") then audit_asked words
+    else if bytes_eq command (codes "world") then world_asked words
     else None
 
 -- THE TABLE OF COMMANDS: what words ask for, the program's name first; other words ask for help, or break the usage

@@ -5,7 +5,7 @@ ghost use Rattle.siman_console.specs.declared.hex_text.TheConstants.{LONGEST_HEX
 ghost use Rattle.hex.specs.Hex.{IsBytes, encode_lower};
 ghost use Rattle.siman_pdus.specs.declared.pdu.Pdu.{Pdu};
 ghost use Rattle.siman_pdus.specs.Spelling.{Spells};
-ghost use Rattle.siman_console.specs.Answer.{refusal_line, answer_to, said_of_hex, said_of_input, shown};
+ghost use Rattle.siman_console.specs.Answer.{refusal_line, answer_to, said_of_hex, said_of_input, said_of_pdu};
 
 use crate::records::pdu_lines;
 use siman_pdus::{PduFault, decode, spellings_are_apart};
@@ -80,7 +80,7 @@ impl Answer {
 /// Laws of the answers: a datagram that spells a PDU is shown as that PDU, and any other is refused;
 /// the hex text of a datagram is answered for as the datagram, with a line end after it or not.
 pub fn answers_follow_the_grammar()
-    ensures spelled { (pdu : Pdu) (b : List ℕ) → Spells pdu b → answer_to b ≡ shown pdu }
+    ensures spelled { (pdu : Pdu) (b : List ℕ) → Spells pdu b → answer_to b ≡ said_of_pdu pdu }
     ensures not_spelled { (b : List ℕ) → ((pdu : Pdu) → ¬ Spells pdu b) → (answer_to b).status ≡ 1 }
     ensures hex { (b : List ℕ) → IsBytes b → length b ≤ 32768 → said_of_hex (encode_lower b) ≡ answer_to b }
     ensures line { (text : List ℕ) → length text < LONGEST_HEX → said_of_input (text ++ 10 ∷ []) ≡ said_of_hex text }

@@ -1,6 +1,6 @@
 //! The command `check`: a recording, judged by a certificate.
 
-ghost use Rattle.std.specs.Prelude.{◌≡◌, ◌≤◌, IfSome, OnOk, Ok};
+ghost use Rattle.std.specs.Prelude.{◌≡◌, ◌≤◌, IfSome, Ok};
 ghost use Rattle.std.specs.Io.KnownBytes.{Keeps};
 ghost use Rattle.siman_console.specs.declared.check.TheConstants.{LARGEST_CERTIFICATE};
 ghost use Rattle.siman_console.specs.declared.show.TheConstants.{LARGEST_RECORDING};
@@ -60,11 +60,11 @@ pub fn check_command<R: Read + Drop, C: Read + Drop, W: Write, E: Write>(
     ensures ends { (recorded : Recorded) × (certified : Certified) × EndsCheck recorded certified result (W.contents out.old) (W.contents out.new) (E.contents errors.old) (E.contents errors.new) }
     ensures silent { result ≤ 1 → Keeps (E.contents errors.old) (E.contents errors.new) }
 {
-    end(judged(alloc, recording, certificate, out), errors).status
+    end(check_recording(alloc, recording, certificate, out), errors).status
 }
 
 /// As [`check_files`], and gives the status: 0 is a yes, 1 a no.
-pub(crate) fn judged<R: Read + Drop, C: Read + Drop, W: Write>(
+pub(crate) fn check_recording<R: Read + Drop, C: Read + Drop, W: Write>(
     alloc: Global,
     recording: R,
     certificate: C,

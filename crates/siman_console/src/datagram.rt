@@ -1,8 +1,8 @@
 //! The command `pdu`: a datagram in hex text, shown.
 
-ghost use Rattle.std.specs.Prelude.{◌≡◌, ◌≤◌, ℕ, List, OnOk, IfSome};
+ghost use Rattle.std.specs.Prelude.{◌≡◌, ◌≤◌, ℕ, List, IfSome};
 ghost use Rattle.std.specs.Io.KnownBytes.{Keeps};
-ghost use Rattle.siman_console.specs.Answer.{said_of_hex, said_of_input, without_line_end, IsTold, EndsPdu};
+ghost use Rattle.siman_console.specs.Answer.{said_of_hex, said_of_input, without_line_end, IsSaid, EndsPdu};
 
 use crate::answer::Answer;
 use crate::fault::{Fault, end};
@@ -48,14 +48,14 @@ pub(crate) fn tell_word<W: Write>(
     hex: &str,
     out: &mut W,
 ) -> Result<u8, Fault<'static>>
-    ensures { IsTold (said_of_hex hex.now) result (W.contents out.old) (W.contents out.new) }
+    ensures { IsSaid (said_of_hex hex.now) result (W.contents out.old) (W.contents out.new) }
 {
     tell(alloc, hex.as_bytes(), out)
 }
 
 /// Writes the answer for hex text, and gives its status.
 fn tell<W: Write>(alloc: Global, hex: &[u8], out: &mut W) -> Result<u8, Fault<'static>>
-    ensures { IsTold (said_of_hex hex.now) result (W.contents out.old) (W.contents out.new) }
+    ensures { IsSaid (said_of_hex hex.now) result (W.contents out.old) (W.contents out.new) }
 {
     let datagram = hex_bytes(alloc, hex)?;
     let answer = Answer::to(alloc, &datagram)?;
@@ -67,7 +67,7 @@ fn tell<W: Write>(alloc: Global, hex: &[u8], out: &mut W) -> Result<u8, Fault<'s
 
 /// Writes the answer for hex text that one line end may follow, and gives its status.
 fn tell_line<W: Write>(alloc: Global, text: &[u8], out: &mut W) -> Result<u8, Fault<'static>>
-    ensures { IsTold (said_of_input text.now) result (W.contents out.old) (W.contents out.new) }
+    ensures { IsSaid (said_of_input text.now) result (W.contents out.old) (W.contents out.new) }
 {
     if text.len() > LONGEST_HEX {
         return Err(Fault::NotBytePairs);
@@ -90,10 +90,10 @@ pub(crate) fn tell_input<R: Read + Drop, W: Write>(
     reader: R,
     out: &mut W,
 ) -> Result<u8, Fault<'static>>
-    ensures known { IfSome (R.remaining reader) (λ bytes. IsTold (said_of_input bytes) result (W.contents out.old) (W.contents out.new)) }
-    ensures some { (bytes : List ℕ) × IsTold (said_of_input bytes) result (W.contents out.old) (W.contents out.new) }
+    ensures known { IfSome (R.remaining reader) (λ bytes. IsSaid (said_of_input bytes) result (W.contents out.old) (W.contents out.new)) }
+    ensures some { (bytes : List ℕ) × IsSaid (said_of_input bytes) result (W.contents out.old) (W.contents out.new) }
 {
     let mut reader = reader;
-    let text = read_text(alloc, &mut reader)?;
+    let text = read_text(alloc, &mut reader, LONGEST_HEX, Fault::Input)?;
     tell_line(alloc, &text, out)
 }

@@ -3,13 +3,16 @@
 ghost use Rattle.std.specs.Prelude.{◌≡◌, Some};
 ghost use Rattle.byte_files.specs.Writing.{Writes};
 ghost use Rattle.siman_console.specs.declared.fault.Fault.TheVariants.{Memory};
-ghost use Rattle.siman_console.specs.Ending.{subject_of, name_of, place_of, place_text, fault_text, fault_line, fault_status, of_recording, of_files, Ends};
+ghost use Rattle.siman_console.specs.Ending.{subject_of, name_of, move_fault_name, place_of, place_text, fault_text, fault_line, fault_status, of_recording, of_files, of_script, of_world, Ends};
 
 use crate::files_fault::FilesFault;
+use crate::place::Place;
 use byte_files::{WriteFailed, put, put_both};
 use exercise_check::CertificateFault;
 use exercise_recording::RecordingFault;
 use itoa::Buffer;
+use siman_manager::OrderFault;
+use siman_worlds::{MoveFault, ScriptFault, WorldFault};
 use std::alloc::AllocError;
 use std::fmt;
 use std::io::Write;
@@ -29,6 +32,12 @@ pub enum Fault<'a> {
     Recording(RecordingFault),
     /// The certificate could not be read; never for want of memory.
     Certificate(CertificateFault),
+    /// The text is no script; never for want of memory.
+    Script(ScriptFault),
+    /// The script could not be read.
+    ScriptRead,
+    /// The world of the script does not run; never for want of memory.
+    World(WorldFault),
     /// The answer could not be written whole.
     Output,
     /// Memory ran out.
@@ -46,6 +55,8 @@ impl<'a> Fault<'a> {
             Fault::Words => "words: ",
             Fault::Recording(_) => "recording: ",
             Fault::Certificate(_) => "certificate: ",
+            Fault::Script(_) | Fault::ScriptRead => "script: ",
+            Fault::World(_) => "world: ",
             Fault::Output => "output: ",
             Fault::Memory => "",
         }
@@ -62,23 +73,35 @@ impl<'a> Fault<'a> {
             Fault::Words => "not UTF-8",
             Fault::Recording(RecordingFault::Format(fault)) => fault.name(),
             Fault::Certificate(CertificateFault::Format(fault)) => fault.name(),
-            Fault::Recording(RecordingFault::Read) | Fault::Certificate(CertificateFault::Read) => {
-                "read"
-            }
+            Fault::Recording(RecordingFault::Read)
+            | Fault::Certificate(CertificateFault::Read)
+            | Fault::ScriptRead => "read",
+            Fault::Script(ScriptFault::BadLine(_)) => "bad-line",
+            Fault::Script(ScriptFault::UnknownStation(_)) => "unknown-station",
+            Fault::World(WorldFault::Stations) => "stations",
+            Fault::World(WorldFault::Move(_, fault)) => move_fault_name(fault),
             Fault::Output => "write",
             Fault::Recording(RecordingFault::Memory)
             | Fault::Certificate(CertificateFault::Memory)
+            | Fault::Script(ScriptFault::Memory)
+            | Fault::World(WorldFault::Memory)
             | Fault::Memory => "memory",
         }
     }
 
-    /// Its place in a file, as an offset in bytes from 0.
-    fn place(self) -> Option<u64>
+    /// Its place in what was read.
+    fn place(self) -> Option<Place>
         ensures { result ≡ place_of self.entry }
     {
         match self {
-            Fault::Recording(RecordingFault::Format(fault)) => Some(fault.place()),
-            Fault::Certificate(CertificateFault::Format(fault)) => Some(fault.place()),
+            Fault::Recording(RecordingFault::Format(fault)) => Some(Place::Offset(fault.place())),
+            Fault::Certificate(CertificateFault::Format(fault)) => {
+                Some(Place::Offset(fault.place()))
+            }
+            Fault::Script(ScriptFault::BadLine(line) | ScriptFault::UnknownStation(line)) => {
+                Some(Place::Line(line))
+            }
+            Fault::World(WorldFault::Move(number, _)) => Some(Place::Move(number)),
             _ => None,
         }
     }
@@ -95,20 +118,42 @@ impl<'a> Fault<'a> {
             | Fault::Words
             | Fault::Recording(_)
             | Fault::Certificate(_)
+            | Fault::Script(_)
+            | Fault::ScriptRead
+            | Fault::World(_)
             | Fault::Output => 2,
         }
     }
 }
 
-/// The line that tells of it, with no line end: `SUBJECT: NAME`, and ` at OFFSET` where a place in
-/// a file is told.
+/// The name of a fault of a move.
+fn move_fault_name(fault: MoveFault) -> &'static str
+    ensures { result.now ≡ move_fault_name fault }
+{
+    match fault {
+        MoveFault::Records => "records",
+        MoveFault::NoSuchStation => "no-such-station",
+        MoveFault::NoSuchSend => "no-such-send",
+        MoveFault::NoSuchEntity => "no-such-entity",
+        MoveFault::NotARequest => "not-a-request",
+        MoveFault::Order(OrderFault::IdsSpent) => "ids-spent",
+        MoveFault::Order(OrderFault::TooLong) => "too-long",
+        MoveFault::Order(OrderFault::Memory) => "memory",
+    }
+}
+
+/// The line that tells of it, with no line end: `SUBJECT: NAME`, and where a place is told
+/// ` at OFFSET`, ` at line N` or ` at move N`.
 impl fmt::Display for Fault<'_> {
     ghost output = { λ f. Some (fault_text f) };
 
     fn fmt<W: fmt::Write>(&self, f: &mut fmt::Formatter<W>) -> fmt::Result {
         match self.place() {
             None => write!(f, "{}{}", self.subject(), self.name()),
-            Some(at) => write!(f, "{}{} at {at}", self.subject(), self.name()),
+            Some(place) => {
+                let (words, number) = (place.words(), place.number());
+                write!(f, "{}{}{words}{number}", self.subject(), self.name())
+            }
         }
     }
 }
@@ -145,6 +190,28 @@ impl From<FilesFault> for Fault<'_> {
     }
 }
 
+impl From<ScriptFault> for Fault<'_> {
+    ghost from_gives = { λ fault e. e ≡ of_script fault };
+
+    fn from(fault: ScriptFault) -> Self {
+        match fault {
+            ScriptFault::Memory => Fault::Memory,
+            ScriptFault::BadLine(_) | ScriptFault::UnknownStation(_) => Fault::Script(fault),
+        }
+    }
+}
+
+impl From<WorldFault> for Fault<'_> {
+    ghost from_gives = { λ fault e. e ≡ of_world fault };
+
+    fn from(fault: WorldFault) -> Self {
+        match fault {
+            WorldFault::Memory => Fault::Memory,
+            WorldFault::Stations | WorldFault::Move(..) => Fault::World(fault),
+        }
+    }
+}
+
 /// How a command ended.
 #[derive(Clone, Copy, Debug, PartialEq, Eq)]
 pub struct Ended {
@@ -152,16 +219,20 @@ pub struct Ended {
     pub status: u8,
     /// Whether all that was to be told on the writer of faults was written; after a failed write a
     /// prefix of it was.
-    pub told: Result<(), WriteFailed>,
+    pub written: Result<(), WriteFailed>,
 }
 
-/// Writes ` at ` and an offset, where there is one.
-fn tell_place<E: Write>(place: Option<u64>, errors: &mut E) -> Result<(), WriteFailed>
+/// Writes a place, where there is one.
+fn tell_place<E: Write>(place: Option<Place>, errors: &mut E) -> Result<(), WriteFailed>
     ensures { Writes result (E.contents errors.old) (E.contents errors.new) (place_text place) }
 {
     match place {
         None => Ok(()),
-        Some(at) => put_both(errors, b" at ", Buffer::new().format(at).as_bytes()),
+        Some(place) => put_both(
+            errors,
+            place.words().as_bytes(),
+            Buffer::new().format(place.number()).as_bytes(),
+        ),
     }
 }
 
@@ -182,17 +253,17 @@ fn tell<E: Write>(fault: Fault<'_>, errors: &mut E) -> Result<(), WriteFailed>
 }
 
 /// Ends a command, after it told its fault.
-pub(crate) fn end<E: Write>(told: Result<u8, Fault<'_>>, errors: &mut E) -> Ended
-    ensures { Ends told.entry result (E.contents errors.old) (E.contents errors.new) }
+pub(crate) fn end<E: Write>(answered: Result<u8, Fault<'_>>, errors: &mut E) -> Ended
+    ensures { Ends answered.entry result (E.contents errors.old) (E.contents errors.new) }
 {
-    match told {
+    match answered {
         Ok(status) => Ended {
             status,
-            told: Ok(()),
+            written: Ok(()),
         },
         Err(fault) => Ended {
             status: fault.status(),
-            told: tell(fault, errors),
+            written: tell(fault, errors),
         },
     }
 }

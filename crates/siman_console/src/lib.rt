@@ -4,7 +4,8 @@
 //! It opens no file and ends no process. The program and the tests call the same functions:
 //! [`read_words`] and [`usage_command`] for the words of a command line, [`pdu_command`] and
 //! [`pdu_from`] for datagrams in hex text, [`show_command`] for recordings, [`check_command`] for a
-//! recording and its certificate. Their contracts give the status and the bytes on the writer of
+//! recording and its certificate, [`world_command`] for a script and the recording of its world.
+//! Their contracts give the status and the bytes on the writer of
 //! the answer; the writer of faults gets bytes only where the status is 2 or 3.
 #![tactic(auto)]
 
@@ -18,11 +19,15 @@ mod head;
 mod hex_text;
 mod input;
 mod outside;
+mod place;
 mod program;
+mod recording_file;
 mod records;
 mod report;
+mod search;
 mod show;
 mod words;
+mod world;
 
 pub use answer::answers_follow_the_grammar;
 pub use check::{LARGEST_CERTIFICATE, check_command, check_files};
@@ -31,5 +36,11 @@ pub use fault::Ended;
 pub use files_fault::FilesFault;
 pub use outside::Outside;
 pub use program::run;
+pub use search::audit_command;
 pub use show::{LARGEST_RECORDING, show_command};
+pub use siman_worlds::{
+    Act, LARGEST_SCRIPT, Move, MoveFault, Script, ScriptFault, WorldFault, WorldStation,
+    read_script, run_world,
+};
 pub use words::{Task, read_words, usage_command};
+pub use world::world_command;

@@ -7,7 +7,7 @@ use std::io::{Read, Write};
 /// did; the files of the operating system tell neither.
 pub trait Outside {
     ghost use Rattle.std.specs.Prelude.{◌≡◌, ◌∷◌, [], ℕ, List, Option, None};
-    ghost use Rattle.siman_console.specs.Outside.{Found, Deed, Opens, Makes, found_by, made_by, Adds, IsHeld};
+    ghost use Rattle.siman_console.specs.Outside.{Found, Deed, Opens, Makes, Leaves, found_by, Adds, IsHeld, IsFresh};
 
     /// A file that was opened to be read.
     type File: Read + Drop;
@@ -15,7 +15,7 @@ pub trait Outside {
     /// A file that was made to be written.
     type Made: Write + Drop;
 
-    /// What was opened and made so far, oldest first, where it is known.
+    /// What was opened, made and closed so far, oldest first, where it is known.
     ghost deeds: { Self → Option (List Deed) } = { λ _. None };
 
     /// What opening the file of a name finds, where it is known.
@@ -29,5 +29,10 @@ pub trait Outside {
 
     /// Makes the file of a name to write it from its start; what stood in it is gone.
     fn make(&mut self, name: &str) -> io::Result<Self::Made>
-        ensures done { Adds (deeds self.old) (deeds self.new) (Makes name.now (made_by result) ∷ []) };
+        ensures done { Adds (deeds self.old) (deeds self.new) (Makes name.now (found_by Self.Made.contents result) ∷ []) }
+        ensures fresh { IsFresh (found_by Self.Made.contents result) };
+
+    /// Closes a file that was made, and leaves it as it is.
+    fn close(&mut self, file: Self::Made)
+        ensures done { Adds (deeds self.old) (deeds self.new) (Leaves (Self.Made.contents file) ∷ []) };
 }

@@ -1,20 +1,22 @@
 //! The whole way from the words of a command line to the status.
 
-ghost use Rattle.std.specs.Prelude.{◌≡◌, List};
-ghost use Rattle.std.specs.Io.KnownBytes.{Keeps};
+ghost use Rattle.std.specs.Prelude.{ℕ, List, Option};
 ghost use Rattle.std.specs.IoError.{error_kind};
 ghost use Rattle.std.specs.List.{All};
-ghost use Rattle.siman_console.specs.Outside.{Deed, Adds, WasHeld};
+ghost use Rattle.siman_console.specs.Outside.{Deed, Found, Adds, WasHeld};
 ghost use Rattle.siman_console.specs.Outcome.{Stream, Outcome};
-ghost use Rattle.siman_console.specs.Program.{IsUnopened, ShowsFile, ChecksFiles, TellsTask, EndsProgram, words_by};
+ghost use Rattle.siman_console.specs.Program.{IsUnopened, IsUnmade, ShowsFile, ChecksFiles, MakesFile, RunsFile, MakesBoth, MakesFinding, AuditsFile, TellsTask, EndsProgram, words_by};
 ghost use Rattle.siman_console.specs.Words.{asked_by};
 
-use crate::check::judged;
+use crate::check::check_recording;
 use crate::datagram::{tell_input, tell_word};
 use crate::fault::{Ended, Fault, end};
 use crate::outside::Outside;
-use crate::show::shown;
+use crate::search::{Finding, put_order, put_stuck, search};
+use crate::show::show_recording;
 use crate::words::{Task, end_usage, read_words, unread};
+use crate::world::{put_world, run_script};
+use exercise_recording::Recording;
 use std::alloc::Global;
 use std::io;
 use std::io::{ErrorKind, Read, Write};
@@ -40,7 +42,7 @@ fn show_file<'a, O: Outside, W: Write>(
         (deeds : List Deed) × Adds (O.deeds outside.old) (O.deeds outside.new) deeds × All (WasHeld (O.holds outside.old)) deeds × ShowsFile name.now deeds result out }
 {
     match outside.open(name) {
-        Ok(file) => shown(alloc, file, out),
+        Ok(file) => show_recording(alloc, file, out),
         Err(error) => Err(unopened(name, &error)),
     }
 }
@@ -62,8 +64,121 @@ fn check_named<'a, O: Outside, W: Write>(
         Err(error) => return Err(unopened(recording, &error)),
     };
     match outside.open(certificate) {
-        Ok(file) => judged(alloc, recorded, file, out),
+        Ok(file) => check_recording(alloc, recorded, file, out),
         Err(error) => Err(unopened(certificate, &error)),
+    }
+}
+
+/// How it is told that the file to be written could not be made.
+fn unmade(error: &io::Error) -> Fault<'static>
+    ensures { IsUnmade (error_kind error.now) result }
+{
+    if error.kind() == ErrorKind::OutOfMemory {
+        return Fault::Memory;
+    }
+    Fault::Output
+}
+
+/// Makes the file of a recording, writes it whole, and then its line.
+fn make_world<O: Outside, W: Write>(
+    alloc: Global,
+    recording: &Recording,
+    name: &str,
+    outside: &mut O,
+    out: &mut W,
+) -> Result<u8, Fault<'static>>
+    ensures { let out : Stream = record { old = W.contents out.old; new = W.contents out.new } in
+        (deeds : List Deed) × Adds (O.deeds outside.old) (O.deeds outside.new) deeds × ((holds : List ℕ → Option Found) → All (WasHeld holds) deeds) × MakesFile name.now recording.now deeds result out }
+{
+    match outside.make(name) {
+        Ok(file) => {
+            let mut file = file;
+            let answered = put_world(alloc, recording, &mut file, out);
+            outside.close(file);
+            answered
+        }
+        Err(error) => Err(unmade(&error)),
+    }
+}
+
+/// Opens a script and runs its world; then makes the file of its recording, and writes it whole, and
+/// then its line.
+fn world_named<'a, O: Outside, W: Write>(
+    alloc: Global,
+    names: (&'a str, &'a str),
+    outside: &mut O,
+    out: &mut W,
+) -> Result<u8, Fault<'a>>
+    ensures { let out : Stream = record { old = W.contents out.old; new = W.contents out.new } in
+        (deeds : List Deed) × Adds (O.deeds outside.old) (O.deeds outside.new) deeds × All (WasHeld (O.holds outside.old)) deeds × RunsFile names.entry.0.now names.entry.1.now deeds result out }
+{
+    let (script, recording) = names;
+    match outside.open(script) {
+        Ok(file) => match run_script(alloc, file) {
+            Ok(made) => make_world(alloc, &made, recording, outside, out),
+            Err(fault) => Err(fault),
+        },
+        Err(error) => Err(unopened(script, &error)),
+    }
+}
+
+/// Makes the file of a certificate, writes its text whole, and then its line.
+fn make_certificate<O: Outside, W: Write>(
+    certificate: &[u8],
+    line: &str,
+    name: &str,
+    outside: &mut O,
+    out: &mut W,
+) -> Result<u8, Fault<'static>>
+    ensures { let out : Stream = record { old = W.contents out.old; new = W.contents out.new } in
+        (deeds : List Deed) × Adds (O.deeds outside.old) (O.deeds outside.new) deeds × ((holds : List ℕ → Option Found) → All (WasHeld holds) deeds) × MakesBoth name.now certificate.now line.now deeds result out }
+{
+    match outside.make(name) {
+        Ok(file) => {
+            let mut file = file;
+            let answered = put_order(certificate, line, &mut file, out);
+            outside.close(file);
+            answered
+        }
+        Err(error) => Err(unmade(&error)),
+    }
+}
+
+/// Makes the file of the certificate that was found; where none was, no file is made.
+fn make_found<O: Outside, W: Write>(
+    finding: &Finding,
+    name: &str,
+    outside: &mut O,
+    out: &mut W,
+) -> Result<u8, Fault<'static>>
+    ensures { let out : Stream = record { old = W.contents out.old; new = W.contents out.new } in
+        (deeds : List Deed) × Adds (O.deeds outside.old) (O.deeds outside.new) deeds × ((holds : List ℕ → Option Found) → All (WasHeld holds) deeds) × MakesFinding name.now finding.now deeds result out }
+{
+    match finding {
+        Finding::Order { certificate, line } => {
+            make_certificate(certificate, line, name, outside, out)
+        }
+        Finding::Stuck(list) => put_stuck(list, out),
+    }
+}
+
+/// Opens a recording and searches it; then makes the file of its certificate, if it has one.
+fn audit_named<'a, O: Outside, W: Write>(
+    alloc: Global,
+    names: (&'a str, &'a str),
+    outside: &mut O,
+    out: &mut W,
+) -> Result<u8, Fault<'a>>
+    ensures { let out : Stream = record { old = W.contents out.old; new = W.contents out.new } in
+        (deeds : List Deed) × Adds (O.deeds outside.old) (O.deeds outside.new) deeds × All (WasHeld (O.holds outside.old)) deeds × AuditsFile names.entry.0.now names.entry.1.now deeds result out }
+{
+    let (searched, certificate) = names;
+    match outside.open(searched) {
+        Ok(file) => match search(alloc, file) {
+            Ok(finding) => make_found(&finding, certificate, outside, out),
+            Err(fault) => Err(fault),
+        },
+        Err(error) => Err(unopened(searched, &error)),
     }
 }
 
@@ -85,13 +200,18 @@ fn run_task<'a, O: Outside, R: Read + Drop, W: Write>(
         Task::Check(recording, certificate) => {
             check_named(alloc, (recording, certificate), outside, out)
         }
+        Task::Audit(recording, certificate) => {
+            audit_named(alloc, (recording, certificate), outside, out)
+        }
+        Task::World(script, recording) => world_named(alloc, (script, recording), outside, out),
     }
 }
 
 /// Runs the program: does what the words of its command line ask for, the program's name first, and
 /// answers the status to exit with, and whether what was to be told on `errors` was written. Files
-/// are opened in the order of the words before any of them is read; answers and help go to `out`,
-/// faults to `errors`.
+/// to be read are opened in the order of the words before any of them is read; the file that a
+/// command writes is made when there is something to write; answers and help go to `out`, faults to
+/// `errors`.
 pub fn run<O: Outside, R: Read + Drop, W: Write, E: Write>(
     alloc: Global,
     words: io::Result<Vec<String>>,

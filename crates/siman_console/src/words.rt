@@ -6,7 +6,7 @@ ghost use Rattle.std.specs.IoError.{error_kind};
 ghost use Rattle.clap.specs.Values.{kind_of};
 ghost use Rattle.siman_console.specs.Ending.{Wrote};
 ghost use Rattle.siman_console.specs.Outcome.{Outcome, EndsUsage, IsUnread};
-ghost use Rattle.siman_console.specs.Words.{asked_by, is_option, pdu_asked, show_asked, check_asked, asked};
+ghost use Rattle.siman_console.specs.Words.{asked_by, is_option, pdu_asked, show_asked, check_asked, audit_asked, world_asked, command_asked, asked};
 
 use crate::fault::{Ended, Fault, end};
 use byte_files::put_shown;
@@ -28,6 +28,11 @@ pub enum Task<'a> {
     Show(&'a str),
     /// `check REC CERT`: judge the recording of the first file by the certificate of the second.
     Check(&'a str, &'a str),
+    /// `audit REC CERT`: search the recording of the first file for an order that explains it, and
+    /// make the second of its certificate.
+    Audit(&'a str, &'a str),
+    /// `world SCRIPT REC`: run the script of the first file, and make the second of its recording.
+    World(&'a str, &'a str),
 }
 
 /// The version of the program.
@@ -35,15 +40,17 @@ const VERSION: &str = "0.1.0";
 
 /// What the exit statuses tell, for the help.
 const STATUSES: &str = "Exit status:
-  0  the answer is on standard output; of `check` it is yes
-  1  the datagram is refused, or the answer of `check` is no
-  2  a fault of usage, hex text, files or writing, told on standard error
+  0  the answer is on standard output; of `check` it is yes, of `audit` explained
+  1  the datagram is refused, or the answer of `check` is no, of `audit` blocked
+  2  a fault of usage, hex text, files, scripts, worlds or writing, told on standard error
   3  memory ran out
 
 Examples:
   siman pdu 07010B0500000000001C000000010001000000020003000700000001
   siman show exercise.dsrc
-  siman check exercise.dsrc exercise.dsct";
+  siman check exercise.dsrc exercise.dsct
+  siman audit exercise.dsrc exercise.dsct
+  siman world exercise.script exercise.dsrc";
 
 fn pdu<'a>(alloc: Global) -> Result<Command<'a>, Error> {
     let hex = Arg::new(alloc, "HEX")
@@ -91,6 +98,42 @@ fn check<'a>(alloc: Global) -> Result<Command<'a>, Error> {
     )
 }
 
+fn audit<'a>(alloc: Global) -> Result<Command<'a>, Error> {
+    let recording = Arg::new(alloc, "REC")
+        .required(true)
+        .action(ArgAction::Set)
+        .help("The file of the recording");
+    let certificate = Arg::new(alloc, "CERT")
+        .required(true)
+        .action(ArgAction::Set)
+        .help("The file of the certificate, which is made anew where there is one");
+    Ok(
+        Command::new(alloc, "audit")
+            .about("Searches a recording for an order that explains it, and writes its certificate")
+            .after_help("Example:\n  siman audit exercise.dsrc exercise.dsct")
+            .arg(recording)?
+            .arg(certificate)?,
+    )
+}
+
+fn world<'a>(alloc: Global) -> Result<Command<'a>, Error> {
+    let script = Arg::new(alloc, "SCRIPT")
+        .required(true)
+        .action(ArgAction::Set)
+        .help("The file of the script");
+    let recording = Arg::new(alloc, "REC")
+        .required(true)
+        .action(ArgAction::Set)
+        .help("The file of the recording, which is made anew");
+    Ok(
+        Command::new(alloc, "world")
+            .about("Runs the exercise that a script describes, and writes its recording")
+            .after_help("Example:\n  siman world exercise.script exercise.dsrc")
+            .arg(script)?
+            .arg(recording)?,
+    )
+}
+
 fn siman<'a>(alloc: Global) -> Result<Command<'a>, Error> {
     Ok(
         Command::new(alloc, "siman")
@@ -101,7 +144,9 @@ fn siman<'a>(alloc: Global) -> Result<Command<'a>, Error> {
             )
             .subcommand(pdu(alloc)?)?
             .subcommand(show(alloc)?)?
-            .subcommand(check(alloc)?)?,
+            .subcommand(check(alloc)?)?
+            .subcommand(audit(alloc)?)?
+            .subcommand(world(alloc)?)?,
     )
 }
 
@@ -143,18 +188,50 @@ fn check_task<S: AsStr>(words: &[S]) -> Option<Task<'_>>
     }
 }
 
+fn audit_task<S: AsStr>(words: &[S]) -> Option<Task<'_>>
+    ensures { option_map asked_by result ≡ audit_asked (map S.text words.now) }
+{
+    match words {
+        [recording, certificate]
+            if !is_option(recording.as_str()) && !is_option(certificate.as_str()) => {
+            Some(Task::Audit(recording.as_str(), certificate.as_str()))
+        }
+        _ => None,
+    }
+}
+
+fn world_task<S: AsStr>(words: &[S]) -> Option<Task<'_>>
+    ensures { option_map asked_by result ≡ world_asked (map S.text words.now) }
+{
+    match words {
+        [script, recording] if !is_option(script.as_str()) && !is_option(recording.as_str()) => {
+            Some(Task::World(script.as_str(), recording.as_str()))
+        }
+        _ => None,
+    }
+}
+
+/// The task that the words of a command ask for.
+fn command_task<'a, S: AsStr>(command: &str, words: &'a [S]) -> Option<Task<'a>>
+    ensures { option_map asked_by result ≡ command_asked command.now (map S.text words.now) }
+{
+    match command {
+        "pdu" => pdu_task(words),
+        "show" => show_task(words),
+        "check" => check_task(words),
+        "audit" => audit_task(words),
+        "world" => world_task(words),
+        _ => None,
+    }
+}
+
 /// The task that words ask for by the table of commands, the program's name first.
 fn task_of<S: AsStr>(words: &[S]) -> Option<Task<'_>>
     ensures { option_map asked_by result ≡ asked (map S.text words.now) }
 {
     match words {
         [] | [_] => Some(Task::Input),
-        [_, command, rest @ ..] => match command.as_str() {
-            "pdu" => pdu_task(rest),
-            "show" => show_task(rest),
-            "check" => check_task(rest),
-            _ => None,
-        },
+        [_, command, rest @ ..] => command_task(command.as_str(), rest),
     }
 }
 
@@ -185,7 +262,7 @@ pub fn read_words<S: AsStr>(alloc: Global, words: &[S]) -> Result<Task<'_>, Erro
 /// usage, told on `errors`, or a failed write of the help (`output: write`); 3 want of memory
 /// (`memory`).
 pub fn usage_command<W: Write, E: Write>(error: &Error, out: &mut W, errors: &mut E) -> u8
-    ensures { (wrote : Wrote) × (let o : Outcome = record { ended = record { status = result; told = wrote }; out = record { old = W.contents out.old; new = W.contents out.new }; errors = record { old = E.contents errors.old; new = E.contents errors.new } } in
+    ensures { (wrote : Wrote) × (let o : Outcome = record { ended = record { status = result; written = wrote }; out = record { old = W.contents out.old; new = W.contents out.new }; errors = record { old = E.contents errors.old; new = E.contents errors.new } } in
         EndsUsage (kind_of error.now) o) }
 {
     end_usage(error, out, errors).status
@@ -202,7 +279,7 @@ pub(crate) fn end_usage<W: Write, E: Write>(error: &Error, out: &mut W, errors: 
     if error.use_stderr() {
         return Ended {
             status: 2,
-            told: put_shown(errors, error),
+            written: put_shown(errors, error),
         };
     }
     match put_shown(out, error) {

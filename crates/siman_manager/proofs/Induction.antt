@@ -52,7 +52,7 @@ counts s (Ticked now stamp ∷ past) = length-changed_through (is_ready s now) (
 
 -- Each order is as it was made.
 
-both_true : {X : Type 0} (a b : Bool) (x y : X) → (if a then (if b then None else Some x) else Some y) ≡ None → (a ≡ true) × (b ≡ true)
+pub both_true : {X : Type 0} (a b : Bool) (x y : X) → (if a then (if b then None else Some x) else Some y) ≡ None → (a ≡ true) × (b ≡ true)
 both_true true true x y e = (refl, refl)
 both_true true false x y e = absurd cc
 both_true false b x y e = absurd cc
@@ -81,11 +81,11 @@ order_kept s k f o same are l e =
     let from : (x : Life) × (o ≡ Some x) × (l ≡ f x) = mapped_from f o l e in
     subst (λ (p : Pdu). IsOrder s k p) (sym (ap (λ (x : Life). x.order) from.2 ∙ same from.0)) (are from.0 from.1)
 
-came_same : (b : Bool) (l : Life) → (if b then with_standing standings.Answered l else l).order ≡ l.order
+pub came_same : (b : Bool) (l : Life) → (if b then with_standing standings.Answered l else l).order ≡ l.order
 came_same true l = refl
 came_same false l = refl
 
-ticked_same : (s : Settings) (now stamp : ℕ) (b : Bool) (l : Life) → (if b then life_ticked s now stamp l else l).order ≡ l.order
+pub ticked_same : (s : Settings) (now stamp : ℕ) (b : Bool) (l : Life) → (if b then life_ticked s now stamp l else l).order ≡ l.order
 ticked_same s now stamp false l = refl
 ticked_same s now stamp true l = tested (is_due_at s now l) (nat_lt (length l.sends) s.tries) where
   tested : (due fewer : Bool) → (if due then (if fewer then with_send now stamp l else with_standing standings.GivenUp l) else l).order ≡ l.order

@@ -2,8 +2,12 @@ pub mod Steps
 pub mod Taking
 pub mod Tables
 pub mod Places
+pub mod Quiet
+pub mod Walks
+pub mod Right
 pub mod Lives
 pub mod Induction
 pub mod Sends
 pub mod Consequences
 pub mod Settled
+pub mod Offered

@@ -13,7 +13,7 @@ use Rattle.siman_manager.specs.declared.kept.Standing.{Standing}
 use Rattle.siman_manager.specs.declared.kept.Standing.TheVariants as standings
 use Rattle.siman_manager.specs.declared.order.Taken.TheVariants as taken
 use Rattle.siman_manager.specs.declared.settings.Settings.{Settings}
-use Rattle.siman_manager.specs.Book.{refusal, is_waiting, is_given_up, settles, order_of, taken_as, taken_under, taken_after, judged, judged_if, settled, settled_if, settled_under, after_take}
+use Rattle.siman_manager.specs.Book.{refusal, is_waiting, is_given_up, settles, order_of, taken_as, taken_under, taken_after, taken_by, taken_by_found, settled, settled_if, settled_under, after_take}
 use Rattle.siman_manager.specs.Calls.{Call, Requested, Came, Ticked, AreRequests, kept, count_made, one_more, Life, life, life_made, life_ticked, kept_as, none_before, passes, is_ready_at, is_due_at, last_at, settles_order, with_standing, with_send, is_answered, came_since, is_given_up_life, count_below, AnswersNone}
 use Rattle.siman_manager.proofs.Lives.{eq-true, answer_id, order_of-place, order_of-low}
 use Rattle.siman_manager.proofs.Induction.{counts, agrees, made_as, mapped_from}
@@ -114,7 +114,7 @@ taken_own s past are p k l e same answer =
     let id : request_id_of p.body ≡ Some (s.first_id + k) = answer_id p l.order answer ∙ (made_as s past are k l e).id in
     if_true (p.exercise == s.exercise) (taken_under s p (kept s past) (request_id_of p.body)) taken.Foreign (eq-eqb p.exercise s.exercise same)
     ∙ ap (taken_under s p (kept s past)) id
-    ∙ ap (judged_if (s.first_id + k) p) (found s past are k ∙ ap (option_map kept_as) e)
+    ∙ ap (taken_by_found (s.first_id + k) p) (found s past are k ∙ ap (option_map kept_as) e)
     ∙ if_true (is_answer_to p l.order) (taken_after (s.first_id + k) (settles p.body) l.standing) taken.Foreign answer
 
 pub taken_none : (s : Settings) (past : List Call) → AreRequests past → (p : Pdu) → AnswersNone s past p → taken_as s p (kept s past) ≡ taken.Foreign
@@ -124,14 +124,14 @@ taken_none s past are p none =
           (request_id_of p.body)
       | false ↦ refl
     ] where
-      not_answered : (id : ℕ) (y : KeptOrder) (o : Option Life) → life s past (id - s.first_id) ≡ o → option_map kept_as o ≡ Some y → judged id p y ≡ taken.Foreign
+      not_answered : (id : ℕ) (y : KeptOrder) (o : Option Life) → life s past (id - s.first_id) ≡ o → option_map kept_as o ≡ Some y → taken_by id p y ≡ taken.Foreign
       not_answered id y None e u = absurd cc
       not_answered id y (Some l) e u =
           let is : kept_as l ≡ y = cc in
-          subst (λ (x : KeptOrder). judged id p x ≡ taken.Foreign) is
+          subst (λ (x : KeptOrder). taken_by id p x ≡ taken.Foreign) is
           (ap (λ (b : Bool). if b then taken_after id (settles p.body) l.standing else taken.Foreign) (none (id - s.first_id) l e))
 
-      kept_one : (id : ℕ) (o : Option KeptOrder) → order_of s (kept s past) id ≡ o → judged_if id p o ≡ taken.Foreign
+      kept_one : (id : ℕ) (o : Option KeptOrder) → order_of s (kept s past) id ≡ o → taken_by_found id p o ≡ taken.Foreign
       kept_one id None e = refl
       kept_one id (Some y) e =
           let known : (s.first_id ≤ id) × (slice_get (kept s past) (id - s.first_id) ≡ Some y) = order_of-low s (kept s past) id y e in
@@ -154,7 +154,7 @@ set_same [] i x y at e = refl
 set_same (z ∷ zs) zero x y at e = let same : y ≡ z = cc in ap (λ w. w ∷ zs) same
 set_same (z ∷ zs) (suc i) x y at e = ap (λ ws. z ∷ ws) (set_same zs i x y at e)
 
-not_settled : (id : ℕ) (p : Pdu) (k : KeptOrder) → (judged id p k ≢ taken.Answered id) → settled p k ≡ k
+not_settled : (id : ℕ) (p : Pdu) (k : KeptOrder) → (taken_by id p k ≢ taken.Answered id) → settled p k ≡ k
 not_settled id p k h = tested (is_answer_to p k.pdu) (settles p.body) k.standing refl h where
   tested : (answers settling : Bool) (standing : Standing) → k.standing ≡ standing → ((if answers then taken_after id settling standing else taken.Foreign) ≢ taken.Answered id)
       → (if answers then (if settling then record k { standing = standings.Answered } else k) else k) ≡ k
@@ -167,7 +167,7 @@ not_settled id p k h = tested (is_answer_to p k.pdu) (settles p.body) k.standing
 pub unchanged_unless : (s : Settings) (orders : List KeptOrder) (p : Pdu) → ((id : ℕ) → taken_as s p orders ≢ taken.Answered id)
     → after_take s p orders ≡ orders
 unchanged_unless s orders p h = side (p.exercise == s.exercise) h where
-  known : (id : ℕ) (o : Option KeptOrder) → order_of s orders id ≡ o → (judged_if id p o ≢ taken.Answered id) → settled_if (id - s.first_id) p orders o ≡ orders
+  known : (id : ℕ) (o : Option KeptOrder) → order_of s orders id ≡ o → (taken_by_found id p o ≢ taken.Answered id) → settled_if (id - s.first_id) p orders o ≡ orders
   known id None e u = refl
   known id (Some k) e u =
       let at : (s.first_id ≤ id) × (slice_get orders (id - s.first_id) ≡ Some k) = order_of-low s orders id k e in

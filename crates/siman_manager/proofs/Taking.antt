@@ -7,7 +7,7 @@ use Rattle.siman_pdus.specs.Role.{request_id_of}
 use Rattle.siman_manager.specs.declared.kept.KeptOrder.{KeptOrder}
 use Rattle.siman_manager.specs.declared.order.Taken.TheVariants as taken
 use Rattle.siman_manager.specs.declared.settings.Settings.{Settings}
-use Rattle.siman_manager.specs.Book.{order_of, judged, judged_if, settled, settled_if, taken_under, settled_under, taken_as, after_take}
+use Rattle.siman_manager.specs.Book.{order_of, taken_by, taken_by_found, settled, settled_if, taken_under, settled_under, taken_as, after_take}
 use Rattle.siman_manager.proofs.Places.{slice_get-past}
 
 pub if_true : {X : Type 0} (b : Bool) (x y : X) → b ≡ true → (if b then x else y) ≡ x
@@ -25,10 +25,10 @@ order_known s orders id place x low is at =
 
 pub taken_known : (s : Settings) (p : Pdu) (orders : List KeptOrder) (id place : ℕ) (x : KeptOrder) → p.exercise ≡ s.exercise
     → request_id_of p.body ≡ Some id
-    → s.first_id ≤ id → place ≡ id - s.first_id → slice_get orders place ≡ Some x → taken_as s p orders ≡ judged id p x
+    → s.first_id ≤ id → place ≡ id - s.first_id → slice_get orders place ≡ Some x → taken_as s p orders ≡ taken_by id p x
 taken_known s p orders id place x e r low is at =
     if_true (p.exercise == s.exercise) (taken_under s p orders (request_id_of p.body)) taken.Foreign (eq-eqb p.exercise s.exercise e)
-    ∙ ap (taken_under s p orders) r ∙ ap (judged_if id p) (order_known s orders id place x low is at)
+    ∙ ap (taken_under s p orders) r ∙ ap (taken_by_found id p) (order_known s orders id place x low is at)
 
 pub settled_known : (s : Settings) (p : Pdu) (orders : List KeptOrder) (id place : ℕ) (x : KeptOrder) → p.exercise ≡ s.exercise
     → request_id_of p.body ≡ Some id

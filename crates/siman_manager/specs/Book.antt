@@ -106,20 +106,20 @@ taken_after id settling standings.Waiting = if settling then taken.Answered id e
 taken_after id settling standings.GivenUp = if settling then taken.Answered id else taken.Pending id
 
 -- what a PDU means to an order with this identifier
-abbrev pub judged : ℕ → Pdu → KeptOrder → Taken
-judged id p k = if is_answer_to p k.pdu then taken_after id (settles p.body) k.standing else taken.Foreign
+abbrev pub taken_by : ℕ → Pdu → KeptOrder → Taken
+taken_by id p k = if is_answer_to p k.pdu then taken_after id (settles p.body) k.standing else taken.Foreign
 
 -- an order after a PDU of the exercise was taken
 abbrev pub settled : Pdu → KeptOrder → KeptOrder
 settled p k = if is_answer_to p k.pdu then (if settles p.body then record k { standing = standings.Answered } else k) else k
 
-abbrev pub judged_if : ℕ → Pdu → Option KeptOrder → Taken
-judged_if id p None = taken.Foreign
-judged_if id p (Some k) = judged id p k
+abbrev pub taken_by_found : ℕ → Pdu → Option KeptOrder → Taken
+taken_by_found id p None = taken.Foreign
+taken_by_found id p (Some k) = taken_by id p k
 
 abbrev pub taken_under : Settings → Pdu → List KeptOrder → Option ℕ → Taken
 taken_under s p orders None = taken.Foreign
-taken_under s p orders (Some id) = judged_if id p (order_of s orders id)
+taken_under s p orders (Some id) = taken_by_found id p (order_of s orders id)
 
 -- the answer to a PDU that came
 abbrev pub taken_as : Settings → Pdu → List KeptOrder → Taken

@@ -1,5 +1,6 @@
 pub mod Book
 pub mod Table
+pub mod Blocks
 pub mod Answers
 pub mod Lending
 pub mod Calls

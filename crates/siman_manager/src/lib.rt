@@ -7,6 +7,7 @@
 //! [`orders_are_kept`], which says what these steps come to over every list of calls.
 #![tactic(auto)]
 
+mod blocks;
 mod fault;
 mod kept;
 mod laws;

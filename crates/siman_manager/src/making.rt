@@ -3,10 +3,11 @@
 ghost use Rattle.std.specs.Prelude.{◌≡◌, ◌+◌, ◌<◌, ◌^◌, OnOk, IfOk, OnErr, IfErr, IfSome, None, Some, Err};
 ghost use Rattle.std.specs.Option.{SomeIff};
 ghost use Rattle.indexmap.specs.IndexMap.{values, index_map_len};
-ghost use Rattle.siman_manager.specs.Table.{IsNumbered};
+ghost use Rattle.siman_manager.specs.Blocks.{IsRight};
 ghost use Rattle.siman_manager.specs.Book.{numbered, order_pdu, next_id, refusal, with_order};
 ghost use Rattle.siman_manager.specs.Answers.{told_by};
 
+use crate::blocks::{note, quiet_until};
 use crate::fault::OrderFault;
 use crate::kept::{KeptOrder, OrderTable, Standing};
 use crate::order::Order;
@@ -87,13 +88,14 @@ fn next_id(settings: &Settings, count: usize) -> Option<u32>
 /// Makes an order, which goes last. Its identifier.
 pub(crate) fn make(
     orders: &mut OrderTable,
+    times: &mut Vec<u64>,
     settings: &Settings,
     order: Order,
     now: u64,
     stamp: u32,
 ) -> Result<u32, OrderFault>
-    requires { IsNumbered settings.now.first_id orders.old }
-    ensures numbered { IsNumbered settings.now.first_id orders.new }
+    requires { IsRight settings.now times.old.items orders.old }
+    ensures right { IsRight settings.now times.new.items orders.new }
     ensures refused { IfSome (refusal settings.now (index_map_len orders.old) order stamp) (λ fault. result ≡ Err fault) }
     ensures only { IfErr result (λ fault. refusal settings.now (index_map_len orders.old) order stamp ≡ told_by fault) }
     ensures err { OnErr result (values orders.new ≡ values orders.old) }
@@ -101,7 +103,8 @@ pub(crate) fn make(
     ensures made { OnOk result (values orders.new ≡ with_order settings.now order now stamp (values orders.old)) }
     ensures len { OnOk result (index_map_len orders.new ≡ index_map_len orders.old + 1) }
 {
-    let Some(id) = next_id(settings, orders.len()) else {
+    let place = orders.len();
+    let Some(id) = next_id(settings, place) else {
         return Err(OrderFault::IdsSpent);
     };
     let pdu = order_pdu(settings, id, order, stamp);
@@ -114,6 +117,9 @@ pub(crate) fn make(
         last: now,
         standing: Standing::Waiting,
     };
+    let time = quiet_until(&kept, settings);
+    times.reserve(1)?;
     orders.insert(id, kept)?;
+    note(times, place, time);
     Ok(id)
 }

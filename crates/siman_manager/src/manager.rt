@@ -25,13 +25,15 @@ use std::marker::Model;
 /// making.
 ///
 /// Only [`request`](Manager::request) takes memory. [`take`](Manager::take) and
-/// [`status`](Manager::status) look one order up by its identifier; [`tick`](Manager::tick) and
-/// [`given_up`](Manager::given_up) go through the orders from the oldest on, the settled ones
-/// too, so they take the longer the more orders were made.
+/// [`status`](Manager::status) look one order up by its identifier. [`tick`](Manager::tick) looks
+/// at orders in blocks of 64, and passes a block in one step until one of its orders is due.
+/// [`given_up`](Manager::given_up) goes through all orders.
 #[derive(Drop)]
 pub struct Manager {
     settings: Settings,
     orders: OrderTable,
+    /// Of each block of orders, a time before which none of them is due.
+    times: Vec<u64>,
 }
 
 impl Model for Manager {
@@ -40,11 +42,11 @@ impl Model for Manager {
     ghost Value = { Book };
 
     ghost use Rattle.indexmap.specs.IndexMap.{values};
-    ghost use Rattle.siman_manager.specs.Table.{IsNumbered};
+    ghost use Rattle.siman_manager.specs.Blocks.{IsRight};
 
     ghost view = { λ m. record { settings = m.settings; orders = values m.orders } };
 
-    ghost invariant = { λ m. IsNumbered m.settings.first_id m.orders };
+    ghost invariant = { λ m. IsRight m.settings m.times.items m.orders };
 }
 
 impl Manager {
@@ -72,6 +74,7 @@ impl Manager {
                 wait,
             },
             orders: OrderTable::new(alloc),
+            times: Vec::new(alloc),
         }
     }
 
@@ -100,7 +103,14 @@ impl Manager {
         ensures only { IfErr result (λ fault. refusal_of self.old order stamp ≡ told_by fault) }
         ensures id { IfOk result (λ id. id ≡ next_id self.old.settings (length self.old.orders)) }
     {
-        make(&mut self.orders, &self.settings, order, now, stamp)
+        make(
+            &mut self.orders,
+            &mut self.times,
+            &self.settings,
+            order,
+            now,
+            stamp,
+        )
     }
 
     /// Looks for an order that is to be sent once more, at a time and with a timestamp: the first,
@@ -121,7 +131,13 @@ impl Manager {
             (λ place. option_map (λ k. k.pdu) (slice_get self.new.orders place) ≡ repeated self.old.settings now stamp self.old.orders) }
         ensures within { IfSome result (λ place. place < length self.new.orders) }
     {
-        walk(&mut self.orders, &self.settings, now, stamp)
+        walk(
+            &mut self.orders,
+            &mut self.times,
+            &self.settings,
+            now,
+            stamp,
+        )
     }
 
     /// Takes a PDU that came. Only a PDU that is [`Taken::Answered`] changes anything: its order

@@ -1,10 +1,11 @@
 //! Whether an answer settles an order.
 
-ghost use Rattle.std.specs.Prelude.{◌≡◌, ◌≤◌, ◌<◌, ◌-◌, ◌+◌};
+ghost use Rattle.std.specs.Prelude.{◌≡◌, ◌≤◌, ◌<◌, ◌-◌, ◌+◌, ℕ, List};
 ghost use Rattle.std.specs.Option.{SomeIff};
 ghost use Rattle.indexmap.specs.IndexMap.{keys, values, index_map_len};
 ghost use Rattle.siman_manager.specs.Table.{IsNumbered};
-ghost use Rattle.siman_manager.specs.Book.{settles, judged, settled, taken_as, after_take};
+ghost use Rattle.siman_manager.specs.Blocks.{IsRight};
+ghost use Rattle.siman_manager.specs.Book.{settles, taken_by, settled, taken_as, after_take};
 
 use crate::kept::{KeptOrder, OrderTable, Standing};
 use crate::order::Taken;
@@ -33,7 +34,7 @@ fn settles(body: &Body) -> bool
 
 /// What a PDU of the exercise means to an order with this identifier, which it may settle.
 fn judge(kept: &mut KeptOrder, id: u32, pdu: &Pdu) -> Taken
-    ensures answer { result ≡ judged id pdu.now kept.old }
+    ensures answer { result ≡ taken_by id pdu.now kept.old }
     ensures after { kept.new ≡ settled pdu.now kept.old }
 {
     if !answers(pdu, &kept.pdu) {
@@ -69,6 +70,7 @@ pub(crate) fn take(orders: &mut OrderTable, settings: &Settings, pdu: &Pdu) -> T
     requires { IsNumbered settings.now.first_id orders.old }
     ensures keys { keys orders.new ≡ keys orders.old }
     ensures len { index_map_len orders.new ≡ index_map_len orders.old }
+    ensures right { (times : List ℕ) → IsRight settings.now times orders.old → IsRight settings.now times orders.new }
     ensures answer { result ≡ taken_as settings.now pdu.now (values orders.old) }
     ensures after { values orders.new ≡ after_take settings.now pdu.now (values orders.old) }
 {

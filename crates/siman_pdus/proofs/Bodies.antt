@@ -6,26 +6,27 @@ use Rattle.dis_records.specs.declared.kind.Kind.{Kind}
 use Rattle.dis_records.specs.declared.kind.Kind.TheVariants as kinds
 use Rattle.dis_records.specs.declared.clock_time.ClockTime.{ClockTime}
 use Rattle.dis_records.specs.declared.datum.FixedDatum.{FixedDatum}
-use Rattle.dis_records.specs.Layout.{StandAt, size, total, number_at}
+use Rattle.dis_records.specs.Layout.{StandAt, size, total, spelled_number}
 use Rattle.dis_records.specs.Datum.{Datum, canonical, fixed_layouts, variable_layouts, id_layouts}
 use Rattle.dis_records.specs.Records.{fixed_at, variable_at, variable_sizes, ids_at}
+use Rattle.dis_records.specs.Views.{DatumsFit, IdsFit, variable_start, ids_start, shown_datums, shown_ids}
 use Rattle.dis_records.proofs.Offered.{size-append, join, split, size-fixed_layouts, length-fixed_at, fixed_stand, fixed_is, length-variable_at, variable_stand, variable_is, size-id_layouts, length-ids_at, ids_stand, ids_are}
 use Rattle.siman_pdus.specs.DatumLists.{DatumLists, IdLists}
 use Rattle.siman_pdus.specs.declared.pdu.Body.{Body}
 use Rattle.siman_pdus.specs.declared.pdu.Body.TheVariants.{CreateEntity, RemoveEntity, StartResume, StopFreeze, Acknowledge, ActionRequest, ActionResponse, DataQuery, SetData, DataPdu, EventReport, Comment}
 use Rattle.siman_pdus.specs.Spelling.{datums_layout, ids_layout, body_kind, body_layout}
-use Rattle.siman_pdus.specs.Shape.{variable_start, datum_sizes, id_sizes, IsWhole}
-use Rattle.siman_pdus.specs.Reading.{datums_at, id_lists_at, body_at, DatumsFit, IdsFit}
+use Rattle.siman_pdus.specs.Shape.{datum_sizes, id_sizes, IsWhole}
+use Rattle.siman_pdus.specs.Reading.{datums_at, id_lists_at, shown_body, body_at}
 use Rattle.siman_pdus.proofs.Ends.{total-append, total-replicate}
 
 -- ---- datums
 
 pub total-datum_sizes : (counts : ℕ) (b : List ℕ)
-    → total (datum_sizes counts b) ≡ 8 * number_at w32 counts b + total (variable_sizes (number_at w32 (counts + 4) b) (variable_start counts b) b)
+    → total (datum_sizes counts b) ≡ 8 * spelled_number w32 counts b + total (variable_sizes (spelled_number w32 (counts + 4) b) (variable_start counts b) b)
 total-datum_sizes counts b =
-    let ms : List ℕ = replicate (number_at w32 counts b) 8 in
-    let ns : List ℕ = variable_sizes (number_at w32 (counts + 4) b) (variable_start counts b) b in
-    omega (arith, total-append ms ns, total-replicate (number_at w32 counts b) 8)
+    let ms : List ℕ = replicate (spelled_number w32 counts b) 8 in
+    let ns : List ℕ = variable_sizes (spelled_number w32 (counts + 4) b) (variable_start counts b) b in
+    omega (arith, total-append ms ns, total-replicate (spelled_number w32 counts b) 8)
 
 pub datums_fit : (counts : ℕ) (b : List ℕ) → counts + 8 + total (datum_sizes counts b) ≤ length b → DatumsFit counts b
 datums_fit counts b le =
@@ -34,10 +35,10 @@ datums_fit counts b le =
 -- what is read of datums stands there
 pub datums_stand : (counts : ℕ) (b : List ℕ)
     → StandAt (datums_layout (datums_at counts b)) counts b × (size (datums_layout (datums_at counts b)) ≡ 8 + total (datum_sizes counts b))
-unfolding datums_at
+unfolding shown_datums
 datums_stand counts b =
-    let m = number_at w32 counts b in
-    let n = number_at w32 (counts + 4) b in
+    let m = spelled_number w32 counts b in
+    let n = spelled_number w32 (counts + 4) b in
     let start = variable_start counts b in
     let fixed = fixed_at m (counts + 8) b in
     let variable = map canonical (variable_at n start b) in
@@ -60,10 +61,10 @@ same_datums d fixed variable p q = rw (← p, ← q) refl
 -- datums that stand there are read
 pub datums_again : (d : DatumLists) (counts : ℕ) (b : List ℕ) → StandAt (datums_layout d) counts b
     → (d ≡ datums_at counts b) × (size (datums_layout d) ≡ 8 + total (datum_sizes counts b))
-unfolding datums_at
+unfolding shown_datums
 datums_again d counts b stand =
-    let m = number_at w32 counts b in
-    let n = number_at w32 (counts + 4) b in
+    let m = spelled_number w32 counts b in
+    let n = spelled_number w32 (counts + 4) b in
     let fixed_count : length d.fixed ≡ m = stand.0 in
     let variable_count : length d.variable ≡ n = stand.1.0 in
     let first : counts + 4 + 4 ≡ counts + 8 = omega arith in
@@ -83,26 +84,22 @@ datums_again d counts b stand =
 
 -- ---- identifiers
 
-total-id_sizes : (counts : ℕ) (b : List ℕ) → total (id_sizes counts b) ≡ 4 * number_at w32 counts b + 4 * number_at w32 (counts + 4) b
+total-id_sizes : (counts : ℕ) (b : List ℕ) → total (id_sizes counts b) ≡ 4 * spelled_number w32 counts b + 4 * spelled_number w32 (counts + 4) b
 total-id_sizes counts b =
-    let m = number_at w32 counts b in
-    let n = number_at w32 (counts + 4) b in
+    let m = spelled_number w32 counts b in
+    let n = spelled_number w32 (counts + 4) b in
     omega (arith, total-append (replicate m 4) (replicate n 4), total-replicate m 4, total-replicate n 4)
 
 pub ids_fit : (counts : ℕ) (b : List ℕ) → counts + 8 + total (id_sizes counts b) ≤ length b → IdsFit counts b
 ids_fit counts b le = let e = total-id_sizes counts b in record { counts_fit = omega arith; all_fit = omega arith }
 
--- where the identifiers of variable datums begin
-abbrev ids_start : ℕ → List ℕ → ℕ
-ids_start counts b = counts + 8 + 4 * number_at w32 counts b
-
 -- what is read of identifiers stands there
 pub id_lists_stand : (counts : ℕ) (b : List ℕ)
     → StandAt (ids_layout (id_lists_at counts b)) counts b × (size (ids_layout (id_lists_at counts b)) ≡ 8 + total (id_sizes counts b))
-unfolding id_lists_at
+unfolding shown_ids
 id_lists_stand counts b =
-    let m = number_at w32 counts b in
-    let n = number_at w32 (counts + 4) b in
+    let m = spelled_number w32 counts b in
+    let n = spelled_number w32 (counts + 4) b in
     let start = ids_start counts b in
     let fixed = ids_at m (counts + 8) b in
     let variable = ids_at n start b in
@@ -124,10 +121,10 @@ same_id_lists d fixed variable p q = rw (← p, ← q) refl
 -- identifiers that stand there are read
 pub ids_again : (d : IdLists) (counts : ℕ) (b : List ℕ) → StandAt (ids_layout d) counts b
     → (d ≡ id_lists_at counts b) × (size (ids_layout d) ≡ 8 + total (id_sizes counts b))
-unfolding id_lists_at
+unfolding shown_ids
 ids_again d counts b stand =
-    let m = number_at w32 counts b in
-    let n = number_at w32 (counts + 4) b in
+    let m = spelled_number w32 counts b in
+    let n = spelled_number w32 (counts + 4) b in
     let start = ids_start counts b in
     let fixed_count : length d.fixed ≡ m = stand.0 in
     let variable_count : length d.variable ≡ n = stand.1.0 in
@@ -154,7 +151,7 @@ pub record BodyStands (kind : Kind) (body : Body) (b : List ℕ) : Type 0 where
   pub whole_is : length b ≡ 24 + size (body_layout body)
 
 pub body_stands : (kind : Kind) (b : List ℕ) → IsWhole kind b → BodyStands kind (body_at kind b) b
-unfolding body_at
+unfolding shown_body
 body_stands kinds.CreateEntity b e = record { kind_is = refl; stand = (refl, tt); whole_is = omega arith }
 body_stands kinds.RemoveEntity b e = record { kind_is = refl; stand = (refl, tt); whole_is = omega arith }
 body_stands kinds.StartResume b e = record { kind_is = refl; stand = (refl, (refl, (refl, (refl, (refl, tt))))); whole_is = omega arith }
@@ -183,17 +180,17 @@ pub record BodyAgain (body : Body) (b : List ℕ) : Type 0 where
   pub whole : IsWhole (body_kind body) b
 
 pub body_again : (body : Body) (b : List ℕ) → StandAt (body_layout body) 24 b → length b ≡ 24 + size (body_layout body) → BodyAgain body b
-unfolding body_at
+unfolding shown_body
 body_again (CreateEntity request) b stand all = record { read = ap (λ (n : ℕ). CreateEntity n) stand.0; whole = omega arith }
 body_again (RemoveEntity request) b stand all = record { read = ap (λ (n : ℕ). RemoveEntity n) stand.0; whole = omega arith }
 body_again (StartResume real sim request) b stand all =
-    let x = same_time real (number_at w32 24 b) (number_at w32 28 b) stand.0 stand.1.0 in
-    let y = same_time sim (number_at w32 32 b) (number_at w32 36 b) stand.1.1.0 stand.1.1.1.0 in
+    let x = same_time real (spelled_number w32 24 b) (spelled_number w32 28 b) stand.0 stand.1.0 in
+    let y = same_time sim (spelled_number w32 32 b) (spelled_number w32 36 b) stand.1.1.0 stand.1.1.1.0 in
     let z = stand.1.1.1.1.0 in
     record { read = cc; whole = omega arith }
 body_again (StopFreeze real reason behaviour request) b stand all =
-    let time = same_time real (number_at w32 24 b)
-    (number_at w32 28 b) stand.0 stand.1.0 in let p = stand.1.1.0 in let q = stand.1.1.1.0 in let r = stand.1.1.1.1.1.0 in
+    let time = same_time real (spelled_number w32 24 b)
+    (spelled_number w32 28 b) stand.0 stand.1.0 in let p = stand.1.1.0 in let q = stand.1.1.1.0 in let r = stand.1.1.1.1.1.0 in
     record { read = cc; whole = omega arith }
 body_again (Acknowledge flag response request) b stand all =
     record { read = let p = stand.0 in let q = stand.1.0 in let r = stand.1.1.0 in cc; whole = omega arith }

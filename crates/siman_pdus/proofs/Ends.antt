@@ -2,15 +2,15 @@
 use Rattle.std.proofs.Common.{◌≡◌, ℕ, zero, suc, ◌+◌, ◌-◌, ◌*◌, ◌<◌, ◌≤◌, inl, inr, true, false, ltb, List, [], ◌∷◌, ◌++◌, length, replicate, None, Result, Ok, Err, refl, sym, ap, ◌∙◌, arith}
 use Rattle.std.proofs.lemmas.Bool.{cases_lt, lt-ltb, le-ltb}
 use Rattle.std.specs.Int.{w32}
-use Rattle.dis_records.specs.Layout.{number_at, total}
+use Rattle.dis_records.specs.Layout.{spelled_number, total}
 use Rattle.dis_records.specs.Datum.{padded}
 use Rattle.dis_records.specs.Records.{variable_sizes}
 use Rattle.dis_records.proofs.Offered.{sizes_more}
-use Rattle.siman_pdus.specs.declared.fault.PduFault.{PduFault}
+use Rattle.siman_pdus.specs.declared.fault.ViewFault.{ViewFault}
 use Rattle.dis_records.specs.declared.kind.Kind.{Kind}
-use Rattle.siman_pdus.specs.Shape.{ends, judged, part_sizes, body_refusal, IsWhole}
+use Rattle.siman_pdus.specs.Shape.{ends, body_fault, part_sizes, body_refusal, IsWhole}
 
-abbrev pub continued : Result ℕ PduFault → List ℕ → ℕ → Result ℕ PduFault
+abbrev pub continued : Result ℕ ViewFault → List ℕ → ℕ → Result ℕ ViewFault
 continued (Ok end) ns len = ends end ns len
 continued (Err fault) ns len = Err fault
 
@@ -23,16 +23,16 @@ ends-append at (m ∷ ms) ns len =
     ]
 
 -- a part that is there, and the others after it
-pub goes_on : (at n end len : ℕ) (ns : List ℕ) (all : Result ℕ PduFault) → ends at (n ∷ []) len ≡ Ok end → ends at (n ∷ ns) len ≡ all
+pub goes_on : (at n end len : ℕ) (ns : List ℕ) (all : Result ℕ ViewFault) → ends at (n ∷ []) len ≡ Ok end → ends at (n ∷ ns) len ≡ all
     → ends end ns len ≡ all
 goes_on at n end len ns all here so_far = sym (ends-append at (n ∷ []) ns len ∙ rw here refl) ∙ so_far
 
-pub stops : (at n len : ℕ) (fault : PduFault) (ns : List ℕ) (all : Result ℕ PduFault) → ends at (n ∷ []) len ≡ Err fault → ends at (n ∷ ns) len ≡ all
+pub stops : (at n len : ℕ) (fault : ViewFault) (ns : List ℕ) (all : Result ℕ ViewFault) → ends at (n ∷ []) len ≡ Err fault → ends at (n ∷ ns) len ≡ all
     → all ≡ Err fault
 stops at n len fault ns all here so_far = sym so_far ∙ ends-append at (n ∷ []) ns len ∙ rw here refl
 
 -- a part whose head is not there
-pub short_head : (at head n len : ℕ) (fault : PduFault) → head ≤ n → ends at (head ∷ []) len ≡ Err fault → ends at (n ∷ []) len ≡ Err fault
+pub short_head : (at head n len : ℕ) (fault : ViewFault) → head ≤ n → ends at (head ∷ []) len ≡ Err fault → ends at (n ∷ []) len ≡ Err fault
 short_head at head n len fault le short =
     elim (cases_lt len (at + head)) [
       | inl lt ↦ let here : ltb len (at + head) ≡ true = lt-ltb len (at + head) lt in
@@ -46,7 +46,7 @@ one_more count i lt = omega arith
 
 -- the first variable record of those that are left
 abbrev pub first_size : ℕ → List ℕ → ℕ
-first_size at b = padded (number_at w32 (at + 4) b)
+first_size at b = padded (spelled_number w32 (at + 4) b)
 
 pub sizes_step : (count i at : ℕ) (b : List ℕ) → i < count
     → variable_sizes (count - i) at b ≡ first_size at b ∷ variable_sizes (count - (i + 1)) (at + first_size at b) b
@@ -78,23 +78,23 @@ ends_ok at (n ∷ ns) len end le e =
           (omega (arith, others.0), others.1)
     ]
 
-judged_cases : (r : Result ℕ PduFault) (len : ℕ) → judged r len ≡ None → (end : ℕ) × (r ≡ Ok end) × (len ≤ end)
-judged_cases (Err fault) len e = absurd cc
-judged_cases (Ok end) len e =
+body_fault_cases : (r : Result ℕ ViewFault) (len : ℕ) → body_fault r len ≡ None → (end : ℕ) × (r ≡ Ok end) × (len ≤ end)
+body_fault_cases (Err fault) len e = absurd cc
+body_fault_cases (Ok end) len e =
     elim (cases_lt end len) [
       | inl lt ↦ absurd (let more : ltb end len ≡ true = lt-ltb end len lt in let clash = rw more at e in cc)
       | inr le ↦ (end, refl, le)
     ]
 
 -- what is not refused is whole
-pub whole : (ns : List ℕ) (len : ℕ) → 12 ≤ len → judged (ends 12 ns len) len ≡ None → 12 + total ns ≡ len
+pub whole : (ns : List ℕ) (len : ℕ) → 12 ≤ len → body_fault (ends 12 ns len) len ≡ None → 12 + total ns ≡ len
 whole ns len room e =
-    let found = judged_cases (ends 12 ns len) len e in
+    let found = body_fault_cases (ends 12 ns len) len e in
     let is = ends_ok 12 ns len found.0 room found.1 in
     omega (arith, is.0, is.1, found.2)
 
 -- what is whole is not refused
-pub not_refused : (ns : List ℕ) (len : ℕ) → 12 + total ns ≡ len → judged (ends 12 ns len) len ≡ None
+pub not_refused : (ns : List ℕ) (len : ℕ) → 12 + total ns ≡ len → body_fault (ends 12 ns len) len ≡ None
 not_refused ns len e =
     let there : ends 12 ns len ≡ Ok (12 + total ns) = ends_all 12 ns len (omega arith) in
     let end : ltb (12 + total ns) len ≡ false = le-ltb (12 + total ns) len (omega arith) in

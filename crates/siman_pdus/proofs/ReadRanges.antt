@@ -12,18 +12,21 @@ use Rattle.dis_records.specs.ClockTime.{clock_time_at}
 use Rattle.dis_records.specs.Datum.{Datum, canonical, padded}
 use Rattle.dis_records.specs.Entity.{entity_at}
 use Rattle.dis_records.specs.Header.{header_at, header_refusal}
-use Rattle.dis_records.specs.Layout.{number_at, bytes_for, first_bits, cleared, total}
+use Rattle.dis_records.specs.Layout.{spelled_number, bytes_for, first_bits, cleared, total}
 use Rattle.dis_records.specs.Records.{fixed_at, variable_at, variable_sizes, ids_at}
+use Rattle.dis_records.specs.Views.{variable_start, shown_datums, shown_ids}
 use Rattle.dis_records.proofs.Offered.{length-cleared, cleared-cleared, header_reads}
 use Rattle.siman_pdus.specs.declared.fault.PduFault.{PduFault}
+use Rattle.siman_pdus.specs.declared.fault.ViewFault.{ViewFault}
 use Rattle.siman_pdus.specs.declared.pdu.Pdu.{Pdu}
+use Rattle.siman_pdus.specs.declared.views.PduView.{PduView}
 use Rattle.siman_pdus.specs.Ranges.{IsEntityIdInRange, IsTimeInRange, IsFixedInRange, IsVariableInRange, AreDatumsInRange, AreIdsInRange, IsBodyInRange, IsInRange}
-use Rattle.siman_pdus.specs.Reading.{datums_at, id_lists_at, body_at, pdu_from, refusal_of, reading}
-use Rattle.siman_pdus.specs.Shape.{IsWhole, body_refusal, variable_start, datum_sizes}
+use Rattle.siman_pdus.specs.Reading.{datums_at, id_lists_at, shown_body, body_at, pdu_of, view_from, pdu_from, view_refusal, refusal_of, reading}
+use Rattle.siman_pdus.specs.Shape.{IsWhole, body_refusal, datum_sizes}
 use Rattle.siman_pdus.proofs.Bodies.{datums_fit}
 use Rattle.siman_pdus.proofs.Carried.{IsByte}
 use Rattle.siman_pdus.proofs.Ends.{refused_whole}
-use Rattle.siman_pdus.proofs.Spellings.{not_refused_parts, passed}
+use Rattle.siman_pdus.proofs.Spellings.{not_refused, not_refused_parts, passed}
 
 -- Each is a byte, what is past the end among them.
 abbrev pub AreBytes : List ℕ → Type 0
@@ -41,16 +44,16 @@ AreBytes-take n b h i =
 
 -- ---- numbers
 
-below8 : (at : ℕ) (b : List ℕ) → AreBytes b → number_at w8 at b < 2 ^ 8
-unfolding number_at
+below8 : (at : ℕ) (b : List ℕ) → AreBytes b → spelled_number w8 at b < 2 ^ 8
+unfolding spelled_number
 below8 at b h = let x = AreBytes-take 1 (drop at b) (AreBytes-drop at b h) in omega (arith, x 0)
 
-below16 : (at : ℕ) (b : List ℕ) → AreBytes b → number_at w16 at b < 2 ^ 16
-unfolding number_at
+below16 : (at : ℕ) (b : List ℕ) → AreBytes b → spelled_number w16 at b < 2 ^ 16
+unfolding spelled_number
 below16 at b h = let x = AreBytes-take 2 (drop at b) (AreBytes-drop at b h) in omega (arith, x 0, x 1)
 
-below32 : (at : ℕ) (b : List ℕ) → AreBytes b → number_at w32 at b < 2 ^ 32
-unfolding number_at
+below32 : (at : ℕ) (b : List ℕ) → AreBytes b → spelled_number w32 at b < 2 ^ 32
+unfolding spelled_number
 below32 at b h = let x = AreBytes-take 4 (drop at b) (AreBytes-drop at b h) in omega (arith, x 0, x 1, x 2, x 3)
 
 -- ---- records
@@ -70,7 +73,7 @@ module _ (b : List ℕ) (bytes : AreBytes b) where
   ids_in_range : (n at : ℕ) → All (λ id. id < 2 ^ 32) (ids_at n at b)
   unfolding ids_at
   ids_in_range zero at = All-nil (λ id. id < 2 ^ 32)
-  ids_in_range (suc n) at = All-cons (λ id. id < 2 ^ 32) (number_at w32 at b) (ids_at n (at + 4) b) (below32 at b bytes) (ids_in_range n (at + 4))
+  ids_in_range (suc n) at = All-cons (λ id. id < 2 ^ 32) (spelled_number w32 at b) (ids_at n (at + 4) b) (below32 at b bytes) (ids_in_range n (at + 4))
 
 first_bits_least : (bits byte : ℕ) → first_bits bits byte ≤ byte
 first_bits_least bits byte =
@@ -101,12 +104,12 @@ module _ (b : List ℕ) (bytes : AreBytes b) where
   unfolding variable_at variable_sizes
   variable_in_range zero at le = All-nil IsVariableInRange
   variable_in_range (suc n) at le =
-      let bits = number_at w32 (at + 4) b in
+      let bits = spelled_number w32 (at + 4) b in
       let value = take (bytes_for bits) (drop (at + 8) b) in
       let len : length value ≡ bytes_for bits = omega (arith, length-take (bytes_for bits) (drop (at + 8) b), length-drop (at + 8) b) in
       let small = AreBytes-take (bytes_for bits) (drop (at + 8) b) (AreBytes-drop (at + 8) b bytes) in
       All-cons IsVariableInRange _ (map canonical (variable_at n (at + padded bits) b))
-      (canonical_in_range (record { id = number_at w32 at b; bits = bits; bytes = value }) (below32 at b bytes) (below32 (at + 4) b bytes)
+      (canonical_in_range (record { id = spelled_number w32 at b; bits = bits; bytes = value }) (below32 at b bytes) (below32 (at + 4) b bytes)
       (All-from_get_or IsByte value 0 (λ i lt. small i)) len)
       (variable_in_range n (at + padded bits) (omega arith))
 
@@ -114,22 +117,22 @@ module _ (b : List ℕ) (bytes : AreBytes b) where
 
 module _ (b : List ℕ) (bytes : AreBytes b) where
   datums_in_range : (counts : ℕ) → counts + 8 + total (datum_sizes counts b) ≤ length b → AreDatumsInRange (datums_at counts b)
-  unfolding datums_at
+  unfolding shown_datums
   datums_in_range counts le = (
-    fixed_in_range b bytes (number_at w32 counts b) (counts + 8),
-    variable_in_range b bytes (number_at w32 (counts + 4) b) (variable_start counts b) (datums_fit counts b le).variable_fit,
+    fixed_in_range b bytes (spelled_number w32 counts b) (counts + 8),
+    variable_in_range b bytes (spelled_number w32 (counts + 4) b) (variable_start counts b) (datums_fit counts b le).variable_fit,
   )
 
   id_lists_in_range : (counts : ℕ) → AreIdsInRange (id_lists_at counts b)
-  unfolding id_lists_at
+  unfolding shown_ids
   id_lists_in_range counts = (
-    ids_in_range b bytes (number_at w32 counts b) (counts + 8),
-    ids_in_range b bytes (number_at w32 (counts + 4) b)
-        (counts + 8 + 4 * number_at w32 counts b),
+    ids_in_range b bytes (spelled_number w32 counts b) (counts + 8),
+    ids_in_range b bytes (spelled_number w32 (counts + 4) b)
+        (counts + 8 + 4 * spelled_number w32 counts b),
   )
 
   body_in_range : (kind : Kind) → IsWhole kind b → IsBodyInRange (body_at kind b)
-  unfolding body_at
+  unfolding shown_body
   body_in_range kinds.CreateEntity e = below32 24 b bytes
   body_in_range kinds.RemoveEntity e = below32 24 b bytes
   body_in_range kinds.StartResume e = (time_in_range b bytes 24, time_in_range b bytes 32, below32 40 b bytes)
@@ -143,7 +146,7 @@ module _ (b : List ℕ) (bytes : AreBytes b) where
   body_in_range kinds.EventReport e = (below32 24 b bytes, datums_in_range 32 (omega arith))
   body_in_range kinds.Comment e = datums_in_range 24 (omega arith)
 
-  pdu_in_range : refusal_of b ≡ None → IsInRange (pdu_from (header_at b) b)
+  pdu_in_range : view_refusal b ≡ None → IsInRange (pdu_from (header_at b) b)
   pdu_in_range passes =
       let kind = (header_at b).kind in
       let parts = not_refused_parts (header_refusal b) (body_refusal kind b) passes in
@@ -159,10 +162,16 @@ module _ (b : List ℕ) (bytes : AreBytes b) where
 pub read_in_range : (b : List ℕ) (p : Pdu) → AreBytes b → reading b ≡ Some p → IsInRange p
 read_in_range b p bytes e =
     let found = passed (refusal_of b) (pdu_from (header_at b) b) p e in
-    subst IsInRange found.1 (pdu_in_range b bytes found.0)
+    subst IsInRange found.1 (pdu_in_range b bytes (not_refused (view_refusal b) found.0))
 
 -- what decode answers
 pub decoded_in_range : (r : Result Pdu PduFault) (b : List ℕ) → AreBytes b → IfOk r (λ p. (refusal_of b ≡ None) × (p ≡ pdu_from (header_at b) b))
     → IfOk r IsInRange
-decoded_in_range (Ok p) b bytes e = subst IsInRange (sym e.1) (pdu_in_range b bytes e.0)
+decoded_in_range (Ok p) b bytes e = subst IsInRange (sym e.1) (pdu_in_range b bytes (not_refused (view_refusal b) e.0))
 decoded_in_range (Err fault) b bytes e = tt
+
+-- what view answers
+pub shown_in_range : (r : Result PduView ViewFault) (b : List ℕ) → AreBytes b
+    → IfOk r (λ v. (view_refusal b ≡ None) × (v ≡ view_from (header_at b) b)) → IfOk r (λ v. IsInRange (pdu_of v))
+shown_in_range (Ok v) b bytes e = subst (λ (w : PduView). IsInRange (pdu_of w)) (sym e.1) (pdu_in_range b bytes e.0)
+shown_in_range (Err fault) b bytes e = tt

@@ -98,7 +98,19 @@ same_pdu_fields p q v x s u o t b = rw (v, x, s, u, o, t, b) refl
 pub pdu_decides : (p q : Pdu) → Decides (is_same_pdu p q) (p ≡ q)
 pdu_decides p q =
     Decides-like (is_same_pdu p q) (λ r. same_pdu_fields p q r.0 r.1.0 r.1.1.0 r.1.1.1.0 r.1.1.1.1.0 r.1.1.1.1.1.0 r.1.1.1.1.1.1)
-    (λ e. (ap (λ (x : Pdu). x.version) e, (ap (λ (x : Pdu). x.exercise) e, (ap (λ (x : Pdu). x.stamp) e, (ap (λ (x : Pdu). x.status) e, (ap (λ (x : Pdu). x.origin) e, (ap (λ (x : Pdu). x.target) e, ap (λ (x : Pdu). x.body) e)))))))
+    (λ e. (
+      ap (λ (x : Pdu). x.version) e,
+      (
+        ap (λ (x : Pdu). x.exercise) e,
+        (
+          ap (λ (x : Pdu). x.stamp) e,
+          (
+            ap (λ (x : Pdu). x.status) e,
+            (ap (λ (x : Pdu). x.origin) e, (ap (λ (x : Pdu). x.target) e, ap (λ (x : Pdu). x.body) e)),
+          ),
+        ),
+      ),
+    ))
     (Decides-and (same_version p.version q.version) _ (version_decides p.version q.version)
     (number_and p.exercise q.exercise _ _
     (number_and p.stamp q.stamp _ _

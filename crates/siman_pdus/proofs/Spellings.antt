@@ -7,7 +7,7 @@ use Rattle.std.proofs.lemmas.List.{length-append}
 use Rattle.dis_records.specs.declared.header.TheConstants.{LARGEST_DATAGRAM}
 use Rattle.dis_records.specs.declared.entity.EntityId.{EntityId}
 use Rattle.dis_records.specs.declared.header.Header.{Header}
-use Rattle.dis_records.specs.Layout.{Fit, Spell, number_at}
+use Rattle.dis_records.specs.Layout.{Fit, Spell, spelled_number}
 use Rattle.dis_records.specs.Header.{IsHeader, header_at, header_refusal}
 use Rattle.dis_records.specs.Entity.{entity_at}
 use Rattle.dis_records.specs.Kind.{kind_code}
@@ -15,40 +15,48 @@ use Rattle.dis_records.specs.declared.header.HeaderFault.{HeaderFault}
 use Rattle.dis_records.proofs.Offered.{length-text, text_spells, number_at-append, header_is, header_reads, header_stands}
 use Rattle.siman_pdus.specs.declared.fault.PduFault.{PduFault}
 use Rattle.siman_pdus.specs.declared.fault.PduFault.TheVariants as faults
+use Rattle.siman_pdus.specs.declared.fault.ViewFault.{ViewFault}
+use Rattle.siman_pdus.specs.declared.fault.ViewFault.TheVariants as view_faults
 use Rattle.siman_pdus.specs.declared.pdu.Body.{Body}
 use Rattle.siman_pdus.specs.declared.pdu.Pdu.{Pdu}
+use Rattle.siman_pdus.specs.declared.views.PduView.{PduView}
 use Rattle.siman_pdus.specs.Spelling.{body_kind, header_of, pdu_layout, pdu_size, pdu_text, Spells}
 use Rattle.siman_pdus.specs.Shape.{body_refusal}
-use Rattle.siman_pdus.specs.Reading.{body_at, pdu_from, first_refusal, refusal_of, reading, unless_refused}
+use Rattle.siman_pdus.specs.Reading.{body_at, pdu_of, view_from, pdu_from, first_refusal, view_refusal, pdu_refusal, refusal_of, viewed, reading, unless_refused}
 use Rattle.siman_pdus.proofs.Ends.{refused_whole, whole_not_refused}
 use Rattle.siman_pdus.proofs.Bodies.{body_stands, body_again}
 
 -- ---- refusals
 
-pub head_refused : (b : List ℕ) (fault : HeaderFault) → header_refusal b ≡ Some fault → refusal_of b ≡ Some (faults.Header fault)
+pub head_refused : (b : List ℕ) (fault : HeaderFault) → header_refusal b ≡ Some fault → view_refusal b ≡ Some (view_faults.Header fault)
 head_refused b fault e = ap (λ (o : Option HeaderFault). first_refusal o (body_refusal (header_at b).kind b)) e
 
-pub body_refused : (b : List ℕ) (header : Header) (refusal : Option PduFault) → header_refusal b ≡ None → header ≡ header_at b
-    → body_refusal header.kind b ≡ refusal → refusal_of b ≡ refusal
+pub body_refused : (b : List ℕ) (header : Header) (refusal : Option ViewFault) → header_refusal b ≡ None → header ≡ header_at b
+    → body_refusal header.kind b ≡ refusal → view_refusal b ≡ refusal
 body_refused b header refusal e is body =
     ap (λ (o : Option HeaderFault). first_refusal o (body_refusal (header_at b).kind b)) e ∙ ap (λ (h : Header). body_refusal h.kind b) (sym is) ∙ body
 
 -- what is not refused has a header and a body that are not
-pub not_refused_parts : (head : Option HeaderFault) (body : Option PduFault) → first_refusal head body ≡ None → (head ≡ None) × (body ≡ None)
+pub not_refused_parts : (head : Option HeaderFault) (body : Option ViewFault) → first_refusal head body ≡ None → (head ≡ None) × (body ≡ None)
 not_refused_parts None body e = (refl, e)
 not_refused_parts (Some fault) body e = absurd cc
 
+-- what decoding does not refuse is not refused
+pub not_refused : (refusal : Option ViewFault) → pdu_refusal refusal ≡ None → refusal ≡ None
+not_refused None e = refl
+not_refused (Some fault) e = absurd cc
+
 -- ---- what is read is spelled so
 
-pub reading_spells : (b : List ℕ) → refusal_of b ≡ None → Spells (pdu_from (header_at b) b) b
+pub reading_spells : (b : List ℕ) → view_refusal b ≡ None → Spells (pdu_from (header_at b) b) b
 reading_spells b passes =
     let h = header_at b in
     let parts = not_refused_parts (header_refusal b) (body_refusal h.kind b) passes in
     let is_header = header_reads b parts.0 in
     let x = is_header.stands in
     let body = body_stands h.kind b (refused_whole h.kind b is_header.room parts.1) in
-    let kind : kind_code (body_kind (body_at h.kind b)) ≡ number_at w8 2 b = ap kind_code body.kind_is ∙ x.1.1.0 in
-    let own : length b ≡ number_at w16 8 b = sym is_header.length_is ∙ x.1.1.1.1.1.0 in
+    let kind : kind_code (body_kind (body_at h.kind b)) ≡ spelled_number w8 2 b = ap kind_code body.kind_is ∙ x.1.1.0 in
+    let own : length b ≡ spelled_number w16 8 b = sym is_header.length_is ∙ x.1.1.1.1.1.0 in
     record {
       spell = record {
         stand = (x.0, (x.1.0, (kind, (x.1.1.1.0, (x.1.1.1.1.0, (own, (x.1.1.1.1.1.1.0, (tt, (refl, (refl, (refl, (refl, (refl, (refl, body.stand))))))))))))));
@@ -69,7 +77,7 @@ same_pdu p origin target body a b c = rw (← a, ← b, ← c) refl
 
 -- The datagram is not refused, and its reading is the PDU.
 pub record IsRead (p : Pdu) (b : List ℕ) : Type 0 where
-  pub passes : refusal_of b ≡ None
+  pub passes : view_refusal b ≡ None
   pub is : p ≡ pdu_from (header_at b) b
 
 pub spelled_read : (p : Pdu) (b : List ℕ) → Spells p b → IsRead p b
@@ -86,8 +94,8 @@ spelled_read p b spells =
     } in
     let at : h ≡ header_at b = header_is h b is_header in
     let own : p ≡ pdu_from h b = same_pdu p (entity_at 12 b) (entity_at 18 b) (body_at (body_kind p.body) b)
-    (same_entity p.origin (number_at w16 12 b) (number_at w16 14 b) (number_at w16 16 b) ids.0 ids.1.0 ids.1.1.0)
-    (same_entity p.target (number_at w16 18 b) (number_at w16 20 b) (number_at w16 22 b) ids.1.1.1.0 ids.1.1.1.1.0 ids.1.1.1.1.1.0)
+    (same_entity p.origin (spelled_number w16 12 b) (spelled_number w16 14 b) (spelled_number w16 16 b) ids.0 ids.1.0 ids.1.1.0)
+    (same_entity p.target (spelled_number w16 18 b) (spelled_number w16 20 b) (spelled_number w16 22 b) ids.1.1.1.0 ids.1.1.1.1.0 ids.1.1.1.1.1.0)
     body.read in
     record {
       passes = body_refused b h None (header_stands h b is_header) at (whole_not_refused (body_kind p.body) b body.whole);
@@ -99,7 +107,7 @@ spelled_read p b spells =
 pub reading_is : (p : Pdu) (b : List ℕ) → Spells p b → reading b ≡ Some p
 reading_is p b spells =
     let read = spelled_read p b spells in
-    ap (λ (o : Option PduFault). unless_refused o (pdu_from (header_at b) b)) read.passes ∙ ap (λ (q : Pdu). Some q) (sym read.is)
+    ap (λ (o : Option ViewFault). unless_refused (pdu_refusal o) (pdu_from (header_at b) b)) read.passes ∙ ap (λ (q : Pdu). Some q) (sym read.is)
 
 pub passed : (refusal : Option PduFault) (q p : Pdu) → unless_refused refusal q ≡ Some p → (refusal ≡ None) × (q ≡ p)
 passed None q p e = (refl, cc)
@@ -108,7 +116,7 @@ passed (Some fault) q p e = absurd cc
 pub reading_spelled : (p : Pdu) (b : List ℕ) → reading b ≡ Some p → Spells p b
 reading_spelled p b e =
     let found = passed (refusal_of b) (pdu_from (header_at b) b) p e in
-    subst (λ (q : Pdu). Spells q b) found.1 (reading_spells b found.0)
+    subst (λ (q : Pdu). Spells q b) found.1 (reading_spells b (not_refused (view_refusal b) found.0))
 
 pub one_spelled : (p q : Pdu) (b : List ℕ) → Spells p b → Spells q b → p ≡ q
 one_spelled p q b left right = (spelled_read p b left).is ∙ sym (spelled_read q b right).is
@@ -120,18 +128,41 @@ nothing (byte ∷ more) e = absurd (omega arith)
 -- The length field of a spelling is its own length, so that no byte can follow it.
 pub no_prefix : (p q : Pdu) (b more : List ℕ) → Spells p b → Spells q (b ++ more) → more ≡ []
 no_prefix p q b more left right =
-    let short : length b ≡ number_at w16 8 b = left.spell.stand.1.1.1.1.1.0 in
-    let long : length (b ++ more) ≡ number_at w16 8 (b ++ more) = right.spell.stand.1.1.1.1.1.0 in
-    let same : number_at w16 8 (b ++ more) ≡ number_at w16 8 b = number_at-append w16 8 b more (omega (arith, left.spell.whole)) in
+    let short : length b ≡ spelled_number w16 8 b = left.spell.stand.1.1.1.1.1.0 in
+    let long : length (b ++ more) ≡ spelled_number w16 8 (b ++ more) = right.spell.stand.1.1.1.1.1.0 in
+    let same : spelled_number w16 8 (b ++ more) ≡ spelled_number w16 8 b = number_at-append w16 8 b more (omega (arith, left.spell.whole)) in
     nothing more (omega (arith, length-append b more, short, long, same))
+
+-- ---- what view answers
+
+-- The datagram is shown in place, or its refusal.
+abbrev pub Shows : Result PduView ViewFault → List ℕ → Type 0
+Shows r b = IfOk r (λ v. (view_refusal b ≡ None) × (v ≡ view_from (header_at b) b)) × IfErr r (λ fault. view_refusal b ≡ Some fault)
+
+pub shows_reads : (r : Result PduView ViewFault) (b : List ℕ) → Shows r b → viewed r ≡ reading b
+shows_reads (Ok v) b shows =
+    ap (λ (w : PduView). Some (pdu_of w)) shows.0.1 ∙ ap (λ (o : Option ViewFault). unless_refused (pdu_refusal o) (pdu_from (header_at b) b))
+    (sym shows.0.0)
+shows_reads (Err fault) b shows = ap (λ (o : Option ViewFault). unless_refused (pdu_refusal o) (pdu_from (header_at b) b)) (sym shows.1)
+
+pub shows_spelled : (r : Result PduView ViewFault) (b : List ℕ) → Shows r b → IfOk r (λ v. Spells (pdu_of v) b)
+shows_spelled (Ok v) b shows = subst (λ (w : PduView). Spells (pdu_of w) b) (sym shows.0.1) (reading_spells b shows.0.0)
+shows_spelled (Err fault) b shows = tt
+
+pub shows_only : (r : Result PduView ViewFault) (b : List ℕ) → Shows r b → (p : Pdu) → Spells p b → viewed r ≡ Some p
+shows_only r b shows p spells = shows_reads r b shows ∙ reading_is p b spells
+
+pub shows_stands : (r : Result PduView ViewFault) (b : List ℕ) → Shows r b → IfOk r (λ v. v ≡ view_from (header_at b) b)
+shows_stands (Ok v) b shows = shows.0.1
+shows_stands (Err fault) b shows = tt
 
 -- ---- what decode answers
 
-only_read : (b : List ℕ) (p q : Pdu) → refusal_of b ≡ None → q ≡ pdu_from (header_at b) b → Spells p b → q ≡ p
+only_read : (b : List ℕ) (p q : Pdu) → view_refusal b ≡ None → q ≡ pdu_from (header_at b) b → Spells p b → q ≡ p
 only_read b p q passes is spells = is ∙ sym (spelled_read p b spells).is
 
 never_refused : (p : Pdu) (b : List ℕ) (fault : PduFault) → Spells p b → refusal_of b ≡ Some fault → ⊥
-never_refused p b fault spells refused = let clash = sym (spelled_read p b spells).passes ∙ refused in cc
+never_refused p b fault spells refused = let clash = sym (ap pdu_refusal (spelled_read p b spells).passes) ∙ refused in cc
 
 -- The reading of the datagram is answered, or its refusal, unless memory runs out.
 abbrev pub Answered : Result Pdu PduFault → List ℕ → Type 0
@@ -139,14 +170,14 @@ Answered r b =
     IfOk r (λ q. (refusal_of b ≡ None) × (q ≡ pdu_from (header_at b) b)) × IfErr r (λ fault. (fault ≡ faults.Memory) ⊎ (refusal_of b ≡ Some fault))
 
 pub answered_only : (r : Result Pdu PduFault) (b : List ℕ) → Answered r b → (p : Pdu) → Spells p b → (r ≡ Ok p) ⊎ (r ≡ Err faults.Memory)
-answered_only (Ok q) b answered p spells = inl (ap (λ (x : Pdu). Ok x) (only_read b p q answered.0.0 answered.0.1 spells))
+answered_only (Ok q) b answered p spells = inl (ap (λ (x : Pdu). Ok x) (only_read b p q (not_refused (view_refusal b) answered.0.0) answered.0.1 spells))
 answered_only (Err fault) b answered p spells = elim answered.1 [
   | inl memory ↦ inr (ap (λ (x : PduFault). Err x) memory)
   | inr refused ↦ absurd (never_refused p b fault spells refused)
 ]
 
 pub answered_spelled : (r : Result Pdu PduFault) (b : List ℕ) → Answered r b → IfOk r (λ q. Spells q b)
-answered_spelled (Ok q) b answered = subst (λ (p : Pdu). Spells p b) (sym answered.0.1) (reading_spells b answered.0.0)
+answered_spelled (Ok q) b answered = subst (λ (p : Pdu). Spells p b) (sym answered.0.1) (reading_spells b (not_refused (view_refusal b) answered.0.0))
 answered_spelled (Err fault) b answered = tt
 
 pub answered_reads : (r : Result Pdu PduFault) (b : List ℕ) → Answered r b → (r ≡ Err faults.Memory) ⊎ (result_ok r ≡ reading b)

@@ -5,7 +5,7 @@ use Rattle.dis_records.specs.declared.kind.Kind.{Kind}
 use Rattle.dis_records.specs.declared.kind.Kind.TheVariants as kinds
 use Rattle.dis_records.specs.Entity.{pair_of, is_addressed, are_fitting}
 use Rattle.siman_pdus.specs.declared.pdu.Body.{Body}
-use Rattle.siman_pdus.specs.declared.pdu.Body.TheVariants.{CreateEntity, RemoveEntity, StartResume, StopFreeze, Acknowledge, ActionRequest, ActionResponse, DataQuery, SetData, DataPdu, EventReport, Comment}
+use Rattle.siman_pdus.specs.declared.pdu.Body.TheVariants.{Acknowledge, ActionResponse, DataPdu}
 use Rattle.siman_pdus.specs.declared.pdu.Pdu.{Pdu}
 use Rattle.siman_pdus.specs.Role.{request_id_of}
 use Rattle.siman_pdus.specs.Spelling.{body_kind}
@@ -16,59 +16,25 @@ acknowledges flag kinds.CreateEntity = flag == 1
 acknowledges flag kinds.RemoveEntity = flag == 2
 acknowledges flag kinds.StartResume = flag == 3
 acknowledges flag kinds.StopFreeze = flag == 4
-acknowledges flag kinds.Acknowledge = false
-acknowledges flag kinds.ActionRequest = false
-acknowledges flag kinds.ActionResponse = false
-acknowledges flag kinds.DataQuery = false
-acknowledges flag kinds.SetData = false
-acknowledges flag kinds.DataPdu = false
-acknowledges flag kinds.EventReport = false
-acknowledges flag kinds.Comment = false
+acknowledges flag kind = false
 
 -- An Action Response answers an Action Request.
 abbrev pub is_action_request : Kind → Bool
-is_action_request kinds.CreateEntity = false
-is_action_request kinds.RemoveEntity = false
-is_action_request kinds.StartResume = false
-is_action_request kinds.StopFreeze = false
-is_action_request kinds.Acknowledge = false
 is_action_request kinds.ActionRequest = true
-is_action_request kinds.ActionResponse = false
-is_action_request kinds.DataQuery = false
-is_action_request kinds.SetData = false
-is_action_request kinds.DataPdu = false
-is_action_request kinds.EventReport = false
-is_action_request kinds.Comment = false
+is_action_request kind = false
 
 -- A Data answers a Data Query or a Set Data.
 abbrev pub asks_for_data : Kind → Bool
-asks_for_data kinds.CreateEntity = false
-asks_for_data kinds.RemoveEntity = false
-asks_for_data kinds.StartResume = false
-asks_for_data kinds.StopFreeze = false
-asks_for_data kinds.Acknowledge = false
-asks_for_data kinds.ActionRequest = false
-asks_for_data kinds.ActionResponse = false
 asks_for_data kinds.DataQuery = true
 asks_for_data kinds.SetData = true
-asks_for_data kinds.DataPdu = false
-asks_for_data kinds.EventReport = false
-asks_for_data kinds.Comment = false
+asks_for_data kind = false
 
 -- the body answers a request of this kind
 abbrev pub matches_kind : Body → Kind → Bool
-matches_kind (CreateEntity request) kind = false
-matches_kind (RemoveEntity request) kind = false
-matches_kind (StartResume real sim request) kind = false
-matches_kind (StopFreeze real reason behaviour request) kind = false
 matches_kind (Acknowledge flag response request) kind = acknowledges flag kind
-matches_kind (ActionRequest request action datums) kind = false
 matches_kind (ActionResponse request status datums) kind = is_action_request kind
-matches_kind (DataQuery request interval ids) kind = false
-matches_kind (SetData request datums) kind = false
 matches_kind (DataPdu request datums) kind = asks_for_data kind
-matches_kind (EventReport event datums) kind = false
-matches_kind (Comment datums) kind = false
+matches_kind body kind = false
 
 -- two request identifiers that are there and equal
 abbrev pub same_id : Option ℕ → Option ℕ → Bool

@@ -24,7 +24,8 @@ same_datum_lists d e p q = rw (p, q) refl
 pub datums_decide : (d e : DatumLists) → Decides (same_datums d e) (d ≡ e)
 datums_decide d e =
     Decides-like (same_datums d e) (λ p. same_datum_lists d e p.0 p.1) (λ s. (ap (λ (x : DatumLists). x.fixed) s, ap (λ (x : DatumLists). x.variable) s))
-    (Decides-and (pointwise same_fixed d.fixed e.fixed) (pointwise same_datum d.variable e.variable) (pointwise_decides fixed_decides d.fixed e.fixed) (pointwise_decides datum_decides d.variable e.variable))
+    (Decides-and (pointwise same_fixed d.fixed e.fixed) (pointwise same_datum d.variable e.variable)
+    (pointwise_decides fixed_decides d.fixed e.fixed) (pointwise_decides datum_decides d.variable e.variable))
 
 same_id_lists : (d e : IdLists) → d.fixed ≡ e.fixed → d.variable ≡ e.variable → d ≡ e
 same_id_lists d e p q = rw (p, q) refl

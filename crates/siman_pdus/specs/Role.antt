@@ -25,9 +25,7 @@ role_of (Comment datums) = roles.Notice
 
 abbrev pub is_request_role : Role → Bool
 is_request_role roles.Request = true
-is_request_role roles.Answer = false
-is_request_role roles.Notice = false
-is_request_role roles.Outside = false
+is_request_role role = false
 
 abbrev pub is_request_body : Body → Bool
 is_request_body body = is_request_role (role_of body)

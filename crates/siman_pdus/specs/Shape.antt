@@ -1,15 +1,16 @@
 -- The parts of a body, as the counts and lengths in the datagram say, and which of them is missing.
-use Rattle.std.specs.Prelude.{◌≡◌, ℕ, ◌+◌, ◌*◌, nat_lt, List, [], ◌∷◌, ◌++◌, length, replicate, Option, Some, None, Result, Ok, Err, if◌then◌else◌}
+use Rattle.std.specs.Prelude.{◌≡◌, ℕ, ◌+◌, nat_lt, List, [], ◌∷◌, ◌++◌, length, replicate, Option, Some, None, Result, Ok, Err, if◌then◌else◌}
 use Rattle.std.specs.Int.{w32}
 use Rattle.dis_records.specs.declared.kind.Kind.{Kind}
 use Rattle.dis_records.specs.declared.kind.Kind.TheVariants as kinds
-use Rattle.dis_records.specs.Layout.{number_at, total}
+use Rattle.dis_records.specs.Layout.{spelled_number, total}
 use Rattle.dis_records.specs.Records.{variable_sizes}
-use Rattle.siman_pdus.specs.declared.fault.PduFault.{PduFault}
-use Rattle.siman_pdus.specs.declared.fault.PduFault.TheVariants as faults
+use Rattle.dis_records.specs.Views.{variable_start}
+use Rattle.siman_pdus.specs.declared.fault.ViewFault.{ViewFault}
+use Rattle.siman_pdus.specs.declared.fault.ViewFault.TheVariants as faults
 
 -- where parts of these sizes end that follow one another from an offset on, or the start of the first that is not wholly there
-abbrev pub ends : ℕ → List ℕ → ℕ → Result ℕ PduFault
+abbrev pub ends : ℕ → List ℕ → ℕ → Result ℕ ViewFault
 ends at [] len = Ok at
 ends at (n ∷ ns) len = if nat_lt len (at + n) then Err (faults.BodyShort at) else ends (at + n) ns len
 
@@ -28,17 +29,13 @@ fixed_part kinds.DataPdu = 28
 fixed_part kinds.EventReport = 28
 fixed_part kinds.Comment = 20
 
--- where the variable records begin whose counts stand at an offset
-abbrev pub variable_start : ℕ → List ℕ → ℕ
-variable_start counts b = counts + 8 + 8 * number_at w32 counts b
-
 -- the sizes of the records whose counts stand at an offset: fixed records of 8 bytes, then variable records
 abbrev pub datum_sizes : ℕ → List ℕ → List ℕ
-datum_sizes counts b = replicate (number_at w32 counts b) 8 ++ variable_sizes (number_at w32 (counts + 4) b) (variable_start counts b) b
+datum_sizes counts b = replicate (spelled_number w32 counts b) 8 ++ variable_sizes (spelled_number w32 (counts + 4) b) (variable_start counts b) b
 
 -- the sizes of the identifiers whose counts stand at an offset: 4 bytes each
 abbrev pub id_sizes : ℕ → List ℕ → List ℕ
-id_sizes counts b = replicate (number_at w32 counts b) 4 ++ replicate (number_at w32 (counts + 4) b) 4
+id_sizes counts b = replicate (spelled_number w32 counts b) 4 ++ replicate (spelled_number w32 (counts + 4) b) 4
 
 -- the sizes of the records after the fixed part
 abbrev pub record_sizes : Kind → List ℕ → List ℕ
@@ -60,12 +57,12 @@ abbrev pub part_sizes : Kind → List ℕ → List ℕ
 part_sizes kind b = fixed_part kind ∷ record_sizes kind b
 
 -- The last part ends with the datagram, or a byte is left after it.
-abbrev pub judged : Result ℕ PduFault → ℕ → Option PduFault
-judged (Err fault) len = Some fault
-judged (Ok end) len = if nat_lt end len then Some (faults.BodyLong end) else None
+abbrev pub body_fault : Result ℕ ViewFault → ℕ → Option ViewFault
+body_fault (Err fault) len = Some fault
+body_fault (Ok end) len = if nat_lt end len then Some (faults.BodyLong end) else None
 
-abbrev pub body_refusal : Kind → List ℕ → Option PduFault
-body_refusal kind b = judged (ends 12 (part_sizes kind b) (length b)) (length b)
+abbrev pub body_refusal : Kind → List ℕ → Option ViewFault
+body_refusal kind b = body_fault (ends 12 (part_sizes kind b) (length b)) (length b)
 
 -- The parts of the body are all of the datagram after its header.
 abbrev pub IsWhole : Kind → List ℕ → Type 0

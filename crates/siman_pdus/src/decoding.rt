@@ -1,26 +1,23 @@
 //! Datagrams to PDUs.
 
-ghost use Rattle.std.specs.Prelude.{◌≡◌, ◌+◌, ◌*◌, ◌≤◌, ◌⊎◌, ℕ, List, [], ◌++◌, length, IfOk, IfErr, IsSome, Ok, Err, ◌<◌, Some, None};
+ghost use Rattle.std.specs.Prelude.{◌≡◌, ◌+◌, ◌≤◌, ◌⊎◌, ℕ, List, [], ◌++◌, length, IfOk, IfErr, Ok, Err, Some, None};
 ghost use Rattle.std.specs.Result.{result_ok};
 ghost use Rattle.dis_records.specs.ClockTime.{clock_time_at};
-ghost use Rattle.dis_records.specs.Datum.{canonical};
 ghost use Rattle.dis_records.specs.Entity.{entity_at};
 ghost use Rattle.dis_records.specs.Header.{header_at};
-ghost use Rattle.dis_records.specs.Records.{shown};
 ghost use Rattle.siman_pdus.specs.declared.pdu.Pdu.{Pdu};
 ghost use Rattle.siman_pdus.specs.Spelling.{Spells};
 ghost use Rattle.siman_pdus.specs.Ranges.{IsInRange};
 ghost use Rattle.siman_pdus.specs.Shape.{IsWhole};
-ghost use Rattle.siman_pdus.specs.Reading.{datums_at, id_lists_at, body_at, pdu_from, refusal_of, reading, with_last, DatumsFit, IdsFit};
+ghost use Rattle.siman_pdus.specs.Reading.{shown_body, pdu_of, view_from, pdu_from, view_refusal, refusal_of, viewed, reading};
 
-use crate::datums::{DatumIds, Datums};
-use crate::fault::PduFault;
-use crate::pdu::{Body, Pdu};
+use crate::fault::{PduFault, ViewFault};
+use crate::pdu::Pdu;
 use crate::shape::check_body;
+use crate::views::{BodyView, PduView};
 use dis_records::field::{u8_at, u16_at, u32_at};
-use dis_records::records::{DatumIdRecords, FixedRecords, VariableRecords};
-use dis_records::{ClockTime, EntityId, Header, Kind, VariableDatum, VariableView, read_header};
-use std::alloc::{AllocError, Global};
+use dis_records::{ClockTime, DatumsView, EntityId, Header, IdsView, Kind, read_header};
+use std::alloc::Global;
 
 fn read_entity(bytes: &[u8], at: usize) -> EntityId
     requires { at + 6 ≤ length bytes.now }
@@ -43,150 +40,123 @@ fn read_time(bytes: &[u8], at: usize) -> ClockTime
     }
 }
 
-/// Puts a byte, if there is one, in the place of the last.
-fn set_last(bytes: &mut Vec<u8>, last: Option<u8>)
-    requires { IsSome last → 0 < length bytes.old.items }
-    ensures { bytes.new.items ≡ with_last last bytes.old.items }
-{
-    if let Some(last) = last {
-        let end = bytes.len() - 1;
-        bytes[end] = last;
-    }
-}
-
-/// The datum of a record, its unused bits zero.
-fn read_variable(alloc: Global, view: VariableView<'_>) -> Result<VariableDatum, AllocError>
-    ensures { IfOk result (λ datum. datum ≡ canonical (shown view.entry)) }
-{
-    let mut bytes = Vec::from_slice(alloc, view.bytes)?;
-    set_last(&mut bytes, view.last());
-    Ok(VariableDatum::new(view.id, view.bits, bytes).unwrap())
-}
-
-#[tactic(auto, unfolding(crate::specs::Reading::datums_at))]
-fn read_datums(alloc: Global, bytes: &[u8], counts: usize) -> Result<Datums, AllocError>
-    requires { DatumsFit counts bytes.now }
-    ensures { IfOk result (λ datums. datums ≡ datums_at counts bytes.now) }
-{
-    let fixed_count = u32_at(bytes, counts);
-    let variable_count = u32_at(bytes, counts + 4);
-    let start = counts + 8;
-    let fixed = FixedRecords::over(bytes, start, fixed_count).collect(alloc)?;
-    let mut variable = Vec::new(alloc);
-    for record in VariableRecords::over(bytes, start + 8 * fixed_count as usize, variable_count) {
-        variable.push(read_variable(alloc, record)?)?;
-    }
-    Ok(Datums { fixed, variable })
-}
-
-#[tactic(auto, unfolding(crate::specs::Reading::id_lists_at))]
-fn read_ids(alloc: Global, bytes: &[u8], counts: usize) -> Result<DatumIds, AllocError>
-    requires { IdsFit counts bytes.now }
-    ensures { IfOk result (λ ids. ids ≡ id_lists_at counts bytes.now) }
-{
-    let fixed_count = u32_at(bytes, counts);
-    let variable_count = u32_at(bytes, counts + 4);
-    let start = counts + 8;
-    let fixed = DatumIdRecords::over(bytes, start, fixed_count).collect(alloc)?;
-    let variable = DatumIdRecords::over(
-        bytes,
-        start + 4 * fixed_count as usize,
-        variable_count,
-    ).collect(alloc)?;
-    Ok(DatumIds { fixed, variable })
-}
-
 /// The body of a kind, whose parts are all there.
-#[tactic(auto, unfolding(crate::specs::Reading::body_at))]
-fn read_body(alloc: Global, kind: Kind, bytes: &[u8]) -> Result<Body, AllocError>
+#[tactic(auto, unfolding(crate::specs::Reading::shown_body))]
+fn body_view(kind: Kind, bytes: &[u8]) -> BodyView<'_>
     requires { IsWhole kind bytes.now }
-    ensures { IfOk result (λ body. body ≡ body_at kind bytes.now) }
+    ensures { result ≡ shown_body kind bytes.now }
 {
-    let body = match kind {
-        Kind::CreateEntity => Body::CreateEntity {
+    match kind {
+        Kind::CreateEntity => BodyView::CreateEntity {
             request: u32_at(bytes, 24),
         },
-        Kind::RemoveEntity => Body::RemoveEntity {
+        Kind::RemoveEntity => BodyView::RemoveEntity {
             request: u32_at(bytes, 24),
         },
-        Kind::StartResume => Body::StartResume {
+        Kind::StartResume => BodyView::StartResume {
             real: read_time(bytes, 24),
             sim: read_time(bytes, 32),
             request: u32_at(bytes, 40),
         },
-        Kind::StopFreeze => Body::StopFreeze {
+        Kind::StopFreeze => BodyView::StopFreeze {
             real: read_time(bytes, 24),
             reason: u8_at(bytes, 32),
             behaviour: u8_at(bytes, 33),
             request: u32_at(bytes, 36),
         },
-        Kind::Acknowledge => Body::Acknowledge {
+        Kind::Acknowledge => BodyView::Acknowledge {
             flag: u16_at(bytes, 24),
             response: u16_at(bytes, 26),
             request: u32_at(bytes, 28),
         },
-        Kind::ActionRequest => Body::ActionRequest {
+        Kind::ActionRequest => BodyView::ActionRequest {
             request: u32_at(bytes, 24),
             action: u32_at(bytes, 28),
-            datums: read_datums(alloc, bytes, 32)?,
+            datums: DatumsView::over(bytes, 32),
         },
-        Kind::ActionResponse => Body::ActionResponse {
+        Kind::ActionResponse => BodyView::ActionResponse {
             request: u32_at(bytes, 24),
             result: u32_at(bytes, 28),
-            datums: read_datums(alloc, bytes, 32)?,
+            datums: DatumsView::over(bytes, 32),
         },
-        Kind::DataQuery => Body::DataQuery {
+        Kind::DataQuery => BodyView::DataQuery {
             request: u32_at(bytes, 24),
             interval: u32_at(bytes, 28),
-            ids: read_ids(alloc, bytes, 32)?,
+            ids: IdsView::over(bytes, 32),
         },
-        Kind::SetData => Body::SetData {
+        Kind::SetData => BodyView::SetData {
             request: u32_at(bytes, 24),
-            datums: read_datums(alloc, bytes, 32)?,
+            datums: DatumsView::over(bytes, 32),
         },
-        Kind::DataPdu => Body::DataPdu {
+        Kind::DataPdu => BodyView::DataPdu {
             request: u32_at(bytes, 24),
-            datums: read_datums(alloc, bytes, 32)?,
+            datums: DatumsView::over(bytes, 32),
         },
-        Kind::EventReport => Body::EventReport {
+        Kind::EventReport => BodyView::EventReport {
             event: u32_at(bytes, 24),
-            datums: read_datums(alloc, bytes, 32)?,
+            datums: DatumsView::over(bytes, 32),
         },
-        Kind::Comment => Body::Comment {
-            datums: read_datums(alloc, bytes, 24)?,
+        Kind::Comment => BodyView::Comment {
+            datums: DatumsView::over(bytes, 24),
         },
-    };
-    Ok(body)
+    }
 }
 
 /// The header of a datagram that is not refused.
-fn checked_header(bytes: &[u8]) -> Result<Header, PduFault>
-    ensures ok { IfOk result (λ header. (refusal_of bytes.now ≡ None) × (header ≡ header_at bytes.now)) }
+fn checked_header(bytes: &[u8]) -> Result<Header, ViewFault>
+    ensures ok { IfOk result (λ header. (view_refusal bytes.now ≡ None) × (header ≡ header_at bytes.now)) }
     ensures whole { IfOk result (λ header. IsWhole header.kind bytes.now) }
-    ensures refused { IfErr result (λ fault. refusal_of bytes.now ≡ Some fault) }
+    ensures refused { IfErr result (λ fault. view_refusal bytes.now ≡ Some fault) }
 {
-    let header = read_header(bytes).map_err(PduFault::Header)?;
+    let header = read_header(bytes).map_err(ViewFault::Header)?;
     check_body(header.kind, bytes)?;
     Ok(header)
 }
 
-fn read(alloc: Global, bytes: &[u8]) -> Result<Pdu, PduFault>
-    ensures ok { IfOk result (λ pdu. (refusal_of bytes.now ≡ None) × (pdu ≡ pdu_from (header_at bytes.now) bytes.now)) }
-    ensures refused { IfErr result (λ fault. (fault ≡ PduFault.Memory) ⊎ (refusal_of bytes.now ≡ Some fault)) }
+fn show(bytes: &[u8]) -> Result<PduView<'_>, ViewFault>
+    ensures ok { IfOk result (λ view. (view_refusal bytes.now ≡ None) × (view ≡ view_from (header_at bytes.now) bytes.now)) }
+    ensures refused { IfErr result (λ fault. view_refusal bytes.now ≡ Some fault) }
 {
     let header = checked_header(bytes)?;
-    Ok(Pdu {
+    Ok(PduView {
         version: header.version,
         exercise: header.exercise,
         stamp: header.stamp,
         status: header.status,
         origin: read_entity(bytes, 12),
         target: read_entity(bytes, 18),
-        body: read_body(alloc, header.kind, bytes)?,
+        body: body_view(header.kind, bytes),
     })
 }
 
-/// The PDU that a datagram spells. It is refused with the first fault that holds, in the order of
+/// The PDU that a datagram spells, in place: its records are those that stand in the datagram. It
+/// takes no memory, and is refused with the first fault that holds, in the order of [`ViewFault`].
+pub fn view(bytes: &[u8]) -> Result<PduView<'_>, ViewFault>
+    // What is shown is what stands in the datagram.
+    ensures stands { IfOk result (λ view. view ≡ view_from (header_at bytes.now) bytes.now) }
+    // The datagram spells the PDU that is shown.
+    ensures spelled { IfOk result (λ view. Spells (pdu_of view) bytes.now) }
+    // A PDU that it spells is shown: so a refused datagram spells no PDU.
+    ensures only { (pdu : Pdu) → Spells pdu bytes.now → viewed result ≡ Some pdu }
+    // What is shown is in its ranges.
+    ensures in_range { IfOk result (λ view. IsInRange (pdu_of view)) }
+    // A refusal is the first that holds.
+    ensures refused { IfErr result (λ fault. view_refusal bytes.now ≡ Some fault) }
+    // What is shown is the reading of the datagram.
+    ensures reads { viewed result ≡ reading bytes.now }
+{
+    show(bytes)
+}
+
+fn read(alloc: Global, bytes: &[u8]) -> Result<Pdu, PduFault>
+    ensures ok { IfOk result (λ pdu. (refusal_of bytes.now ≡ None) × (pdu ≡ pdu_from (header_at bytes.now) bytes.now)) }
+    ensures refused { IfErr result (λ fault. (fault ≡ PduFault.Memory) ⊎ (refusal_of bytes.now ≡ Some fault)) }
+{
+    let view = show(bytes)?;
+    Ok(view.to_pdu(alloc)?)
+}
+
+/// The PDU that a datagram spells: that of its [`view`]. It is refused with the first fault that holds, in the order of
 /// [`PduFault`], or for want of memory. No count of the datagram reserves memory.
 pub fn decode(alloc: Global, bytes: &[u8]) -> Result<Pdu, PduFault>
     // What is read is spelled so.

@@ -3,11 +3,44 @@
 ghost use Rattle.std.specs.Prelude.{◌≡◌};
 ghost use Rattle.siman_pdus.specs.Texts.{refusal_number};
 ghost use Rattle.siman_pdus.specs.declared.fault.PduFault.TheVariants.{Memory};
+ghost use Rattle.siman_pdus.specs.Reading.{pdu_fault};
 
 use dis_records::HeaderFault;
 use std::alloc::{AllocError, AllocFailed};
 use std::error::Error;
 use std::fmt;
+
+/// Why a datagram is no PDU, where no memory is taken: the first of these, in this order, that
+/// holds.
+#[derive(Clone, Copy, Debug, PartialEq, Eq)]
+pub enum ViewFault {
+    /// Its header is refused.
+    Header(HeaderFault),
+    /// A part of its body is not wholly there, the first of them from this offset on, as in
+    /// [`PduFault::BodyShort`].
+    BodyShort(usize),
+    /// Bytes are left after the last part of its body, from this offset on.
+    BodyLong(usize),
+}
+
+/// As the [`PduFault`] that it is.
+impl fmt::Display for ViewFault {
+    ghost use Rattle.std.specs.Prelude.{Some};
+    ghost use Rattle.siman_pdus.specs.Reading.{pdu_fault};
+    ghost use Rattle.siman_pdus.specs.Texts.{pdu_fault_text};
+
+    ghost output = { λ fault. Some (pdu_fault_text (pdu_fault fault)) };
+
+    fn fmt<W: fmt::Write>(&self, f: &mut fmt::Formatter<W>) -> fmt::Result {
+        match self {
+            ViewFault::Header(fault) => write!(f, "{fault}"),
+            ViewFault::BodyShort(offset) => write!(f, "body-short at {offset}"),
+            ViewFault::BodyLong(offset) => write!(f, "body-long at {offset}"),
+        }
+    }
+}
+
+impl Error for ViewFault {}
 
 /// Why a datagram is no PDU: the first of these, in this order, that holds.
 #[derive(Clone, Copy, Debug, PartialEq, Eq)]
@@ -61,6 +94,18 @@ impl fmt::Display for PduFault {
 }
 
 impl Error for PduFault {}
+
+impl From<ViewFault> for PduFault {
+    ghost from_gives = { λ fault e. e ≡ pdu_fault fault };
+
+    fn from(fault: ViewFault) -> PduFault {
+        match fault {
+            ViewFault::Header(fault) => PduFault::Header(fault),
+            ViewFault::BodyShort(offset) => PduFault::BodyShort(offset),
+            ViewFault::BodyLong(offset) => PduFault::BodyLong(offset),
+        }
+    }
+}
 
 impl From<AllocError> for PduFault {
     ghost from_gives = { λ _ e. e ≡ Memory };

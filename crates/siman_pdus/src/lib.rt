@@ -2,8 +2,9 @@
 //! grammar of their datagrams, and what they do in an exchange.
 //!
 //! It knows no station and no history. The layers above rest on [`decode`], which accepts exactly
-//! the grammar and answers the reading of a datagram, on [`encode`], which appends the canonical
-//! text of a PDU, and on exact tests: [`role`], [`same_order`], [`request_id`] and [`answers`].
+//! the grammar and answers the reading of a datagram, on [`view`], which shows the same in place
+//! and takes no memory, on [`encode`], which appends the canonical text of a PDU, and on exact
+//! tests: [`role`], [`same_order`], [`request_id`] and [`answers`].
 #![tactic(auto)]
 
 mod datums;
@@ -17,14 +18,16 @@ mod ranges;
 mod roles;
 mod shape;
 mod size;
+mod views;
 
 pub use datums::{DatumIds, Datums};
-pub use decoding::{decode, spellings_are_apart};
+pub use decoding::{decode, spellings_are_apart, view};
 pub use encoding::{encode, kind_of};
 pub use exchange::{request_id, role};
-pub use fault::{EncodeFault, PduFault};
+pub use fault::{EncodeFault, PduFault, ViewFault};
 pub use order::{answers, is_under_identifier, same_order, same_pdu};
 pub use pdu::{ABLE, Body, Pdu, UNABLE};
 pub use ranges::{datums_are_in_range, numbers_are_in_range, ranges_and_texts_agree};
 pub use roles::Role;
 pub use size::encoded_size;
+pub use views::{BodyView, PduView};

@@ -4,7 +4,7 @@ ghost use Rattle.std.specs.Prelude.{◌≡◌, ◌+◌, ◌*◌, ◌≤◌, leng
 ghost use Rattle.dis_records.specs.Records.{variable_sizes};
 ghost use Rattle.siman_pdus.specs.Shape.{ends, fixed_part, datum_sizes, id_sizes, part_sizes, body_refusal, IsWhole};
 
-use crate::fault::PduFault;
+use crate::fault::ViewFault;
 use dis_records::field::u32_at;
 use dis_records::{HEADER_SIZE, Kind, padded_size};
 
@@ -19,19 +19,19 @@ const COMMENT_COUNTS: usize = 24;
 const COUNTS: usize = 32;
 
 /// Where a part ends, if it is wholly there.
-fn part_end(bytes: &[u8], at: usize, size: usize) -> Result<usize, PduFault>
+fn part_end(bytes: &[u8], at: usize, size: usize) -> Result<usize, ViewFault>
     requires { at ≤ length bytes.now }
     ensures ends { result ≡ ends at (size ∷ []) (length bytes.now) }
     ensures within { IfOk result (λ end. (end ≡ at + size) × (end ≤ length bytes.now)) }
 {
     if bytes.len() - at < size {
-        return Err(PduFault::BodyShort(at));
+        return Err(ViewFault::BodyShort(at));
     }
     Ok(at + size)
 }
 
 /// Where so many parts of one size end.
-fn parts_end(bytes: &[u8], start: usize, count: u32, size: usize) -> Result<usize, PduFault>
+fn parts_end(bytes: &[u8], start: usize, count: u32, size: usize) -> Result<usize, ViewFault>
     requires room { start ≤ length bytes.now }
     ensures ends { result ≡ ends start (replicate count size) (length bytes.now) }
     ensures within { IfOk result (λ end. (end ≡ start + size * count) × (end ≤ length bytes.now)) }
@@ -44,7 +44,7 @@ fn parts_end(bytes: &[u8], start: usize, count: u32, size: usize) -> Result<usiz
 }
 
 /// Where variable datum records end.
-fn variable_end(bytes: &[u8], start: usize, count: u32) -> Result<usize, PduFault>
+fn variable_end(bytes: &[u8], start: usize, count: u32) -> Result<usize, ViewFault>
     requires { start ≤ length bytes.now }
     ensures ends { result ≡ ends start (variable_sizes count start bytes.now) (length bytes.now) }
 {
@@ -58,7 +58,7 @@ fn variable_end(bytes: &[u8], start: usize, count: u32) -> Result<usize, PduFaul
 }
 
 /// Where datums end whose counts stand at an offset.
-fn datums_end(bytes: &[u8], counts: usize) -> Result<usize, PduFault>
+fn datums_end(bytes: &[u8], counts: usize) -> Result<usize, ViewFault>
     requires { counts + 8 ≤ length bytes.now }
     ensures { result ≡ ends (counts + 8) (datum_sizes counts bytes.now) (length bytes.now) }
 {
@@ -67,7 +67,7 @@ fn datums_end(bytes: &[u8], counts: usize) -> Result<usize, PduFault>
 }
 
 /// Where identifiers end whose counts stand at an offset.
-fn ids_end(bytes: &[u8], counts: usize) -> Result<usize, PduFault>
+fn ids_end(bytes: &[u8], counts: usize) -> Result<usize, ViewFault>
     requires { counts + 8 ≤ length bytes.now }
     ensures { result ≡ ends (counts + 8) (id_sizes counts bytes.now) (length bytes.now) }
 {
@@ -93,7 +93,7 @@ fn fixed_size(kind: Kind) -> usize
     }
 }
 
-fn body_end(kind: Kind, bytes: &[u8]) -> Result<usize, PduFault>
+fn body_end(kind: Kind, bytes: &[u8]) -> Result<usize, ViewFault>
     requires { 12 ≤ length bytes.now }
     ensures { result ≡ ends 12 (part_sizes kind bytes.now) (length bytes.now) }
 {
@@ -116,14 +116,14 @@ fn body_end(kind: Kind, bytes: &[u8]) -> Result<usize, PduFault>
 
 /// Refuses a body whose parts are not all there, or after which bytes are left.
 #[tactic(auto, using(crate::proofs::Ends::refused_whole))]
-pub fn check_body(kind: Kind, bytes: &[u8]) -> Result<(), PduFault>
+pub fn check_body(kind: Kind, bytes: &[u8]) -> Result<(), ViewFault>
     requires { 12 ≤ length bytes.now }
-    ensures judged { MatchResult result (λ _. body_refusal kind bytes.now ≡ None) (λ fault. body_refusal kind bytes.now ≡ Some fault) }
+    ensures refusal { MatchResult result (λ _. body_refusal kind bytes.now ≡ None) (λ fault. body_refusal kind bytes.now ≡ Some fault) }
     ensures whole { OnOk result (IsWhole kind bytes.now) }
 {
     let end = body_end(kind, bytes)?;
     if end < bytes.len() {
-        return Err(PduFault::BodyLong(end));
+        return Err(ViewFault::BodyLong(end));
     }
     Ok(())
 }

@@ -1,6 +1,6 @@
 //! How many bytes the text of a PDU has.
 
-ghost use Rattle.std.specs.Prelude.{◌≡◌, ◌+◌, ◌≤◌, length};
+ghost use Rattle.std.specs.Prelude.{◌+◌, ◌≤◌};
 ghost use Rattle.std.specs.Option.{SomeIff};
 ghost use Rattle.dis_records.specs.declared.header.TheConstants.{LARGEST_DATAGRAM};
 ghost use Rattle.dis_records.specs.Datum.{variable_layouts};

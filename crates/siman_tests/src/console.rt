@@ -1,10 +1,12 @@
 //! The commands of the program, with what goes out.
 
+mod audits;
 mod files;
 mod pdus;
 mod program;
 mod shows;
 mod words;
+mod worlds;
 
 use siman_console::check_command;
 use std::alloc::Global;

@@ -1,8 +1,10 @@
 //! Large cases, with ample memory: none of them may be refused for want of it.
 
 mod commands;
+mod datums;
 mod exchanges;
 mod files;
 mod orders;
 mod records;
+mod ticks;
 mod verdicts;

@@ -3,6 +3,7 @@
 mod datagrams;
 mod exchanges;
 mod refusals;
+mod views;
 
 use dis_records::EntityId;
 

@@ -5,8 +5,6 @@ use crate::worlds::Seen::{Received, Sent, Told};
 use dis_records::{Address, EntityId, EntityState};
 use exercise_audit::{Audit, audit};
 use exercise_model::{EntryView, ExerciseLog, Recording, Station};
-use exercise_recording::write_recording;
-use siman_console::show_command;
 use siman_manager::{Order, OrderFault};
 use siman_pdus::{Body, Datums, Pdu, decode};
 use siman_worlds::{Act, Move, MoveFault, WorldFault, WorldStation, read_script, run_world};
@@ -108,7 +106,7 @@ fn stops(alloc: Global, text: &str, fault: WorldFault) -> bool {
 }
 
 /// The datagram 0 is lost, 4 comes twice, and before 3.
-const WORKED: &str = "exercise 1
+pub(crate) const WORKED: &str = "exercise 1
 station 1:1
 station 2:3
 create 1:1 2:3:7
@@ -306,43 +304,5 @@ fn stations_and_moves_are_refused(rt: HostRuntime) -> Result<(), Fail> {
             WorldFault::Move(0, MoveFault::NotARequest)
         )?
     );
-    Ok(())
-}
-
-/// What `show` prints of a world's recording.
-fn shown(alloc: Global, text: &str) -> Result<Vec<u8>, Fail> {
-    let recording = recorded(alloc, text)?;
-    let mut file = Vec::new(alloc);
-    write_recording(&recording, &mut file)?;
-    let mut out = Vec::new(alloc);
-    let mut told = Vec::new(alloc);
-    let _status = show_command(alloc, file.as_slice(), &mut out, &mut told);
-    Ok(out)
-}
-
-const WORKED_SHOWN: &str = "exercise=1 stations=2 records=16
-station 0 1:1
-station 1 2:3
-0 sent 0 stamp=0 create-entity version=7 exercise=1 stamp=0 status=0 from=1:1:0 to=2:3:7 request=1
-1 sent 0 stamp=10 create-entity version=7 exercise=1 stamp=20 status=0 from=1:1:0 to=2:3:7 request=1
-2 received 1 stamp=10 create-entity version=7 exercise=1 stamp=20 status=0 from=1:1:0 to=2:3:7 request=1
-3 sent 1 stamp=10 acknowledge version=7 exercise=1 stamp=20 status=0 from=2:3:7 to=1:1:0 flag=1 response=1 request=1
-4 sent 0 stamp=10 start-resume version=7 exercise=1 stamp=20 status=0 from=1:1:0 to=2:3:7 real=0/0 sim=0/0 request=2
-5 sent 0 stamp=10 stop-freeze version=7 exercise=1 stamp=20 status=0 from=1:1:0 to=2:3:7 real=0/0 reason=0 behaviour=0 request=3
-6 received 1 stamp=10 stop-freeze version=7 exercise=1 stamp=20 status=0 from=1:1:0 to=2:3:7 real=0/0 reason=0 behaviour=0 request=3
-7 sent 1 stamp=10 acknowledge version=7 exercise=1 stamp=20 status=0 from=2:3:7 to=1:1:0 flag=4 response=1 request=3
-8 received 1 stamp=10 start-resume version=7 exercise=1 stamp=20 status=0 from=1:1:0 to=2:3:7 real=0/0 sim=0/0 request=2
-9 sent 1 stamp=10 acknowledge version=7 exercise=1 stamp=20 status=0 from=2:3:7 to=1:1:0 flag=3 response=1 request=2
-10 received 1 stamp=10 stop-freeze version=7 exercise=1 stamp=20 status=0 from=1:1:0 to=2:3:7 real=0/0 reason=0 behaviour=0 request=3
-11 sent 1 stamp=10 acknowledge version=7 exercise=1 stamp=20 status=0 from=2:3:7 to=1:1:0 flag=4 response=1 request=3
-12 told 1 7 running
-13 received 0 stamp=10 acknowledge version=7 exercise=1 stamp=20 status=0 from=2:3:7 to=1:1:0 flag=1 response=1 request=1
-14 received 0 stamp=10 acknowledge version=7 exercise=1 stamp=20 status=0 from=2:3:7 to=1:1:0 flag=3 response=1 request=2
-15 received 0 stamp=10 acknowledge version=7 exercise=1 stamp=20 status=0 from=2:3:7 to=1:1:0 flag=4 response=1 request=3
-";
-
-#[test]
-fn a_loss_a_copy_and_a_swap_are_shown(rt: HostRuntime) -> Result<(), Fail> {
-    assert!(rt; shown(rt.alloc(), WORKED)?.as_slice() == WORKED_SHOWN.as_bytes());
     Ok(())
 }

@@ -1,7 +1,8 @@
 -- What a reply that is due, or is not, leaves.
-use Rattle.std.proofs.Common.{◌≡◌, ◌⊎◌, inl, inr, ℕ, Result, Ok, Err, ◌∙◌, true, false, List, [], ◌∷◌, Option, Some, None, is_some, refl, sym, subst, ap}
+use Rattle.std.proofs.Common.{◌≡◌, ◌≤◌, length, ◌⊎◌, inl, inr, ℕ, Result, Ok, Err, ◌∙◌, true, false, List, [], ◌∷◌, Option, Some, None, is_some, refl, sym, subst, ap}
 use Rattle.std.specs.Option.{IfSome}
 use Rattle.std.specs.Result.{result_ok}
+use Rattle.dis_records.specs.declared.header.TheConstants.{LARGEST_DATAGRAM}
 use Rattle.siman_pdus.specs.declared.pdu.Pdu.{Pdu}
 use Rattle.siman_pdus.specs.declared.fault.PduFault.{PduFault}
 use Rattle.siman_pdus.specs.declared.fault.PduFault.TheVariants.{Memory}
@@ -24,19 +25,19 @@ nothing_said P None h = tt
 nothing_said P (Some p) h = cc
 
 unsent_if : {R F : Type 0} (refuses : R → Entry → F → R → Type 0) (s now : ℕ) (q : Pdu) (fault : F) (old new : R) (before after : Standing) (due : Option Pdu) (sent : List ℕ)
-    → reply_due before (Some q) (stamp_of now) ≡ due → true ≡ is_some due → IfSome due (λ p. sent ≡ pdu_text p)
+    → reply_due before (Some q) (stamp_of now) ≡ due → true ≡ is_some due → IfSome due (λ p. sent ≡ pdu_text p) → length sent ≤ LARGEST_DATAGRAM
     → refuses old (Sent s now sent) fault new → Takes before q after → IsUnsent refuses s now q fault old new before after
-unsent_if refuses s now q fault old new before after None sent e h t r k = cc
-unsent_if refuses s now q fault old new before after (Some p) sent e h t r k =
-    record { answer = p; due = e; refused = subst (λ (b : List ℕ). refuses old (Sent s now b) fault new) t r; application = k }
+unsent_if refuses s now q fault old new before after None sent e h t z r k = cc
+unsent_if refuses s now q fault old new before after (Some p) sent e h t z r k =
+    record { answer = p; due = e; size = subst (λ (b : List ℕ). length b ≤ LARGEST_DATAGRAM) t z; refused = subst (λ (b : List ℕ). refuses old (Sent s now b) fault new) t r; application = k }
 
 -- a reply that is due, with this timestamp and text, and was not recorded
 pub unsent : {R F : Type 0} (refuses : R → Entry → F → R → Type 0) (s now : ℕ) (q : Pdu) (fault : F) (old new : R) (before after : Standing) (stamp : ℕ) (text sent : List ℕ)
     → stamp ≡ stamp_of now → sent ≡ text → true ≡ is_some (reply_due before (Some q) stamp)
-    → IfSome (reply_due before (Some q) stamp) (λ p. text ≡ pdu_text p) → refuses old (Sent s now sent) fault new → Takes before q after
+    → IfSome (reply_due before (Some q) stamp) (λ p. text ≡ pdu_text p) → length text ≤ LARGEST_DATAGRAM → refuses old (Sent s now sent) fault new → Takes before q after
     → IsUnsent refuses s now q fault old new before after
-unsent refuses s now q fault old new before after stamp text sent at same h t r k =
-    unsent_if refuses s now q fault old new before after (reply_due before (Some q) stamp) sent (ap (λ (n : ℕ). reply_due before (Some q) n) (sym at)) h (subst (λ (b : List ℕ). IfSome (reply_due before (Some q) stamp) (λ p. b ≡ pdu_text p)) (sym same) t) r k
+unsent refuses s now q fault old new before after stamp text sent at same h t z r k =
+    unsent_if refuses s now q fault old new before after (reply_due before (Some q) stamp) sent (ap (λ (n : ℕ). reply_due before (Some q) n) (sym at)) h (subst (λ (b : List ℕ). IfSome (reply_due before (Some q) stamp) (λ p. b ≡ pdu_text p)) (sym same) t) (subst (λ (b : List ℕ). length b ≤ LARGEST_DATAGRAM) (sym same) z) r k
 
 -- what is said of the reply to a PDU is said of the reply to the datagram that is read as it
 pub said_of_reading : (a : Standing) (bytes : List ℕ) (q : Pdu) (stamp : ℕ) (P : Pdu → Type 0) (r : Result Pdu PduFault) → r ≡ Ok q

@@ -6,3 +6,7 @@ pub mod Script
 pub mod Recording
 pub mod Turn
 pub mod World
+pub mod Acts
+pub mod Moves
+pub mod WorldLaw
+pub mod Holds

@@ -1,5 +1,6 @@
 -- The turn of a station at which a datagram comes (profile).
-use Rattle.std.specs.Prelude.{◌≡◌, ◌⊎◌, ℕ, ◌*◌, ◌%◌, ◌^◌, List, [], ◌∷◌, Option, Some, None}
+use Rattle.std.specs.Prelude.{◌≡◌, ◌≤◌, ◌⊎◌, ℕ, ◌*◌, ◌%◌, ◌^◌, List, [], ◌∷◌, length, Option, Some, None}
+use Rattle.dis_records.specs.declared.header.TheConstants.{LARGEST_DATAGRAM}
 use Rattle.siman_pdus.specs.declared.pdu.Pdu.{Pdu}
 use Rattle.siman_pdus.specs.Reading.{reading}
 use Rattle.siman_pdus.specs.Spelling.{pdu_text}
@@ -41,10 +42,11 @@ turn_entries a s now b = Received s now b ∷ sent_as s now (reply_due a (readin
 
 -- Of an answer.
 
--- The application took the PDU, and the reply that is due was not recorded.
+-- The application took the PDU, and the reply that is due, which a datagram can carry, was not recorded.
 pub record IsUnsent {R F : Type 0} (refuses : R → Entry → F → R → Type 0) (s now : ℕ) (q : Pdu) (fault : F) (old new : R) (before after : Standing) : Type 0 where
   pub answer : Pdu
   pub due : reply_due before (Some q) (stamp_of now) ≡ Some answer
+  pub size : length (pdu_text answer) ≤ LARGEST_DATAGRAM
   pub refused : refuses old (Sent s now (pdu_text answer)) fault new
   pub application : Takes before q after
 

@@ -1,7 +1,7 @@
 //! What the lines of a script so far give.
 
-ghost use Rattle.std.specs.Prelude.{◌≡◌, ◌<◌, ◌≤◌, [], map, length, position, IfOk, IfSome, Some, None, Ok, true, Result};
-ghost use Rattle.siman_worlds.specs.Draft.{DraftData, blank, is_at, index_of, last_address, after, in_part, wants_exercise, takes_outfits, takes_moves, Leaves, Finds};
+ghost use Rattle.std.specs.Prelude.{◌≡◌, ◌<◌, ◌≤◌, length, position, IfOk, IfSome, Some, None, Ok, Result};
+ghost use Rattle.siman_worlds.specs.Draft.{DraftData, blank, is_at, index_of, last_address, after, wants_exercise, takes_outfits, takes_moves, Leaves, Finds};
 ghost use Rattle.siman_worlds.specs.Script.{is_whole, script_of};
 
 use crate::act::{Act, Move};

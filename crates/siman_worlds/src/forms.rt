@@ -1,6 +1,6 @@
 //! The forms of lines: of the exercise, its stations and the clock.
 
-ghost use Rattle.std.specs.Prelude.{◌≡◌, Some, None, ◌∷◌, [], map, codes, length, IfOk, IfSome};
+ghost use Rattle.std.specs.Prelude.{◌≡◌, Some, None, [], map, IfOk};
 ghost use Rattle.std.specs.Option.{option_map};
 ghost use Rattle.siman_worlds.specs.Text.{number_to};
 ghost use Rattle.siman_worlds.specs.Statement.{address_of, value_of, state_of, datum_of, number_named, rules_of, exercise_form, station_form, opening_form, fixed_form, action_form, at_form, station_line, is_passed_over, form_of, statement_of};

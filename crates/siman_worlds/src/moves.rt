@@ -1,6 +1,6 @@
 //! The forms of lines: of moves.
 
-ghost use Rattle.std.specs.Prelude.{◌≡◌, Some, None, ◌∷◌, [], map, IfOk};
+ghost use Rattle.std.specs.Prelude.{◌≡◌, Some, None, [], map, IfOk};
 ghost use Rattle.std.specs.Option.{option_map};
 ghost use Rattle.siman_worlds.specs.Statement.{target_of, numbers_of, alone, action_body, query_body, set_body, plain_body, body_of, command_act, tell_act, act_of, acting_form, deliver_form};
 

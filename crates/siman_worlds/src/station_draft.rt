@@ -1,7 +1,6 @@
 //! Stations of a script that is being read.
 
-ghost use Rattle.std.specs.Prelude.{◌≡◌, ◌++◌, ◌∷◌, [], map, Some, None, Ok, Err, true, IfOk, OnOk, IsTrue};
-ghost use Rattle.dis_records.specs.Address.{Pair};
+ghost use Rattle.std.specs.Prelude.{◌≡◌, ◌++◌, ◌∷◌, [], Some, None, Ok, Err, true, OnOk};
 ghost use Rattle.exercise_model.specs.Station.{is_opening};
 ghost use Rattle.siman_worlds.specs.Draft.{new_station, is_at, last_number, opened_with, holding, knowing};
 

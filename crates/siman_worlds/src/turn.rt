@@ -1,10 +1,9 @@
 //! The turn of one station: what it does with a datagram that comes.
 
-ghost use Rattle.std.specs.Prelude.{◌≡◌, ◌≤◌, ◌+◌, ◌∷◌, [], ◌⊎◌, Err, Some, None, is_some, IfOk, IfErr, IfSome, OnOk, vec_len, vec_capacity};
+ghost use Rattle.std.specs.Prelude.{◌≡◌, ◌≤◌, ◌+◌, [], length, true, Err, Some, None, is_some, IfOk, IfErr, IfSome, OnOk, vec_len, vec_capacity};
 ghost use Rattle.dis_records.specs.declared.header.TheConstants.{LARGEST_DATAGRAM};
 ghost use Rattle.siman_pdus.specs.Reading.{reading};
 ghost use Rattle.siman_pdus.specs.Spelling.{pdu_text};
-ghost use Rattle.exercise_model.specs.Entry.{Sent, Received};
 ghost use Rattle.siman_application.specs.Standing.{Leaves, Takes};
 ghost use Rattle.siman_worlds.specs.Turn.{stamp_of, sent_as, reply_due, RecordsAll, TakesBoth, turn_entries, FailsAnswer, FailsTurn};
 
@@ -53,6 +52,7 @@ fn reply(
     ensures leaves { Leaves application.old pdu.now result application.new }
     ensures due { IfOk result (λ due. due ≡ is_some (reply_due application.old (Some pdu.now) stamp)) }
     ensures text { OnOk result (IfSome (reply_due application.old (Some pdu.now) stamp) (λ p. text.new.items ≡ pdu_text p)) }
+    ensures size { IfOk result (λ due. due ≡ true → length text.new.items ≤ LARGEST_DATAGRAM) }
 {
     match application.take(pdu, stamp)? {
         Some(answer) => {

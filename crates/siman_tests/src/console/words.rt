@@ -21,6 +21,8 @@ fn words_ask_for_a_task(rt: HostRuntime) {
     assert!(rt; is_task(alloc, &["siman", "show", "a"], Task::Show("a")));
     assert!(rt; is_task(alloc, &["siman", "show", "-"], Task::Show("-")));
     assert!(rt; is_task(alloc, &["siman", "check", "a", "b"], Task::Check("a", "b")));
+    assert!(rt; is_task(alloc, &["siman", "audit", "a", "b"], Task::Audit("a", "b")));
+    assert!(rt; is_task(alloc, &["siman", "world", "a", "b"], Task::World("a", "b")));
 }
 
 /// What goes out and what is told of faults, and the status, where words ask for no task.
@@ -60,7 +62,7 @@ fn first_helped_otherwise(alloc: Global, rows: &[&[&str]], help: &str) -> Option
 #[test]
 fn help_goes_out_with_status_0(rt: HostRuntime) {
     let help =
-        "Shows Simulation Management PDUs of DIS (IEEE 1278.1-2012). With no command, the hex text of a datagram is read from standard input\n\nUsage: siman [COMMAND]\n\nCommands:\n  pdu    Shows the PDU of a datagram\n  show   Shows a recording, a line for each entry\n  check  Checks whether a certificate explains a recording, and reports what it says\n  help   Print this message or the help of the given subcommand(s)\n\nOptions:\n  -h, --help     Print help\n  -V, --version  Print version\n\nExit status:\n  0  the answer is on standard output; of `check` it is yes\n  1  the datagram is refused, or the answer of `check` is no\n  2  a fault of usage, hex text, files or writing, told on standard error\n  3  memory ran out\n\nExamples:\n  siman pdu 07010B0500000000001C000000010001000000020003000700000001\n  siman show exercise.dsrc\n  siman check exercise.dsrc exercise.dsct\n";
+        "Shows Simulation Management PDUs of DIS (IEEE 1278.1-2012). With no command, the hex text of a datagram is read from standard input\n\nUsage: siman [COMMAND]\n\nCommands:\n  pdu    Shows the PDU of a datagram\n  show   Shows a recording, a line for each entry\n  check  Checks whether a certificate explains a recording, and reports what it says\n  audit  Searches a recording for an order that explains it, and writes its certificate\n  world  Runs the exercise that a script describes, and writes its recording\n  help   Print this message or the help of the given subcommand(s)\n\nOptions:\n  -h, --help     Print help\n  -V, --version  Print version\n\nExit status:\n  0  the answer is on standard output; of `check` it is yes, of `audit` explained\n  1  the datagram is refused, or the answer of `check` is no, of `audit` blocked\n  2  a fault of usage, hex text, files, scripts, worlds or writing, told on standard error\n  3  memory ran out\n\nExamples:\n  siman pdu 07010B0500000000001C000000010001000000020003000700000001\n  siman show exercise.dsrc\n  siman check exercise.dsrc exercise.dsct\n  siman audit exercise.dsrc exercise.dsct\n  siman world exercise.script exercise.dsrc\n";
     let rows: [&[&str]; 3] = [&["siman", "--help"], &["siman", "-h"], &["siman", "help"]];
     assert_eq!(rt; first_helped_otherwise(rt.alloc(), &rows, help), None);
 }
@@ -80,7 +82,25 @@ fn help_of_a_command_goes_out_with_status_0(rt: HostRuntime) {
         "Shows the PDU of a datagram\n\nUsage: siman pdu <HEX>\n\nArguments:\n  <HEX>  The bytes of the datagram, as pairs of hex digits\n\nOptions:\n  -h, --help  Print help\n\nExample:\n  siman pdu 07010B0500000000001C000000010001000000020003000700000001\n";
     let check_help =
         "Checks whether a certificate explains a recording, and reports what it says\n\nUsage: siman check <REC> <CERT>\n\nArguments:\n  <REC>   The file of the recording\n  <CERT>  The file of the certificate\n\nOptions:\n  -h, --help  Print help\n\nExample:\n  siman check exercise.dsrc exercise.dsct\n";
+    let audit_help =
+        "Searches a recording for an order that explains it, and writes its certificate\n\nUsage: siman audit <REC> <CERT>\n\nArguments:\n  <REC>   The file of the recording\n  <CERT>  The file of the certificate, which is made anew where there is one\n\nOptions:\n  -h, --help  Print help\n\nExample:\n  siman audit exercise.dsrc exercise.dsct\n";
+    let world_help =
+        "Runs the exercise that a script describes, and writes its recording\n\nUsage: siman world <SCRIPT> <REC>\n\nArguments:\n  <SCRIPT>  The file of the script\n  <REC>     The file of the recording, which is made anew\n\nOptions:\n  -h, --help  Print help\n\nExample:\n  siman world exercise.script exercise.dsrc\n";
     assert!(rt; is_usage(rt.alloc(), &["siman", "pdu", "--help"], (0, pdu_help, "")));
+    assert!(rt;
+        is_usage(
+            rt.alloc(),
+            &["siman", "audit", "--help"],
+            (0, audit_help, "")
+        )
+    );
+    assert!(rt;
+        is_usage(
+            rt.alloc(),
+            &["siman", "world", "--help"],
+            (0, world_help, "")
+        )
+    );
     assert!(rt;
         is_usage(
             rt.alloc(),
@@ -112,7 +132,7 @@ fn first_misused_otherwise(alloc: Global, rows: &[(&[&str], &str)]) -> Option<us
 
 #[test]
 fn faults_of_usage_are_told_with_status_2(rt: HostRuntime) {
-    let rows: [(&[&str], &str); 10] = [
+    let rows: [(&[&str], &str); 13] = [
         (
             &["siman", "pdu"],
             "error: the following required arguments were not provided:\n  <HEX>\n\nUsage: siman pdu <HEX>\n",
@@ -133,6 +153,18 @@ fn faults_of_usage_are_told_with_status_2(rt: HostRuntime) {
         (
             &["siman", "show"],
             "error: the following required arguments were not provided:\n  <REC>\n\nUsage: siman show <REC>\n",
+        ),
+        (
+            &["siman", "audit", "a"],
+            "error: the following required arguments were not provided:\n  <CERT>\n\nUsage: siman audit <REC> <CERT>\n",
+        ),
+        (
+            &["siman", "world", "a"],
+            "error: the following required arguments were not provided:\n  <REC>\n\nUsage: siman world <SCRIPT> <REC>\n",
+        ),
+        (
+            &["siman", "world", "a", "-b"],
+            "error: unexpected argument '-b' found\n",
         ),
         (
             &["siman", "pdu", "--", "07"],

@@ -1,5 +1,6 @@
 //! One datagram of each kind, with its bytes written field by field from the layouts.
 
+use super::views::is_shown;
 use super::{ENTITY, MANAGER};
 use crate::datagrams::CREATE;
 use dis_records::{ClockTime, EntityId, FixedDatum, VariableDatum, Version};
@@ -25,7 +26,7 @@ const ACKNOWLEDGE: [u8; 32] = [
     0xFF, 0xFF, 0xFF,
 ];
 
-const ACTION_REQUEST: [u8; 96] = [
+pub(super) const ACTION_REQUEST: [u8; 96] = [
     7, 1, 0x10, 5, 0, 0, 0, 0, 0, 0x60, 0, 0, 0, 1, 0, 1, 0, 0, 0, 2, 0, 3, 0, 7, 0, 0, 0, 5, 0, 0,
     0, 0x4D, 0, 0, 0, 2, 0, 0, 0, 3, 0, 0, 0, 0x0A, 0, 0, 0, 5, 0, 0, 0, 0x0B, 0xFF, 0xFF, 0xFF,
     0xFE, 0, 0, 0, 5, 0, 0, 0, 0x28, 0x48, 0x45, 0x4C, 0x4C, 0x4F, 0, 0, 0, 0, 0, 0, 6, 0, 0, 0, 0,
@@ -38,7 +39,7 @@ const ACTION_RESPONSE: [u8; 64] = [
     0, 0, 0, 0,
 ];
 
-const DATA_QUERY: [u8; 52] = [
+pub(super) const DATA_QUERY: [u8; 52] = [
     7, 1, 0x12, 5, 0, 0, 0, 0, 0, 0x34, 0, 0, 0, 1, 0, 1, 0, 0, 0, 2, 0, 3, 0, 7, 0, 0, 0, 6, 0, 0,
     0, 0x3C, 0, 0, 0, 2, 0, 0, 0, 1, 0, 0, 0, 0x0A, 0, 0, 0, 0x0C, 0, 0, 0, 5,
 ];
@@ -193,13 +194,14 @@ fn is_written(alloc: Global, pdu: &Pdu, bytes: &[u8]) -> bool {
     encode(pdu, &mut out).is_ok() && out.as_slice() == bytes
 }
 
-/// Whether what is read says this, equals its copy, and is written as the bytes that it was read
-/// from.
+/// Whether what is read says this, equals its copy and what its view shows, and is written as the
+/// bytes that it was read from.
 fn is_read_again(alloc: Global, bytes: &[u8], says: Says<'_>) -> bool {
     match decode(alloc, bytes) {
         Ok(pdu) => {
             is_said(alloc, &pdu, says) == Some(true)
                 && is_copied(alloc, &pdu)
+                && is_shown(alloc, bytes, &pdu)
                 && is_written(alloc, &pdu, bytes)
         }
         Err(_) => false,

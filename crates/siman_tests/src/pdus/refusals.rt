@@ -1,6 +1,6 @@
 //! Damaged datagrams, and PDUs that are too long.
 
-use super::{MANAGER, id};
+use super::{MANAGER, id, views};
 use crate::datagrams::CREATE;
 use dis_records::{FixedDatum, HeaderFault, Version};
 use siman_pdus::*;
@@ -15,10 +15,11 @@ fn refusal(alloc: Global, bytes: &[u8]) -> Option<PduFault> {
     decode(alloc, bytes).err()
 }
 
-/// The number of the first datagram, from 0, that is refused otherwise.
+/// The number of the first datagram, from 0, that is refused otherwise, or not shown for another
+/// cause.
 fn first_otherwise(alloc: Global, rows: &[(&[u8], PduFault)]) -> Option<usize> {
     for (i, (bytes, fault)) in rows.iter().enumerate() {
-        if refusal(alloc, bytes) != Some(*fault) {
+        if refusal(alloc, bytes) != Some(*fault) || views::refusal(bytes) != Some(*fault) {
             return Some(i);
         }
     }

@@ -1,6 +1,6 @@
 use Rattle.std.proofs.Common.{◌+◌, ◌*◌}
 use Rattle.byte_files.proofs.Offered.{at_start, whole_text}
-use Rattle.exercise_check.specs.Certificate.{told, steps_of, Answers, whole_at, certificate_at}
+use Rattle.exercise_check.specs.Certificate.{format_of, steps_of, Answers, whole_at, certificate_at}
 use Rattle.exercise_check.proofs.Agreement.{whole_agrees}
 use Rattle.exercise_check.proofs.certificate_reading.read_certificate.Goals as goal
 
@@ -14,4 +14,4 @@ pub returns-clause-text : goal.returns-clause-text
 returns-clause-text g c =
     let n = c.args.limit in
     let read = c.read_whole in
-    whole_text (whole_agrees n) told steps_of (12 + 8 * n) _ _ read.result c.in_ok-source.ensures (read.ensures.whole, read.ensures.taken)
+    whole_text (whole_agrees n) format_of steps_of (12 + 8 * n) _ _ read.result c.in_ok-source.ensures (read.ensures.whole, read.ensures.taken)

@@ -5,7 +5,7 @@ use Rattle.exercise_model.proofs.Offered.{all_pushed}
 use Rattle.byte_files.specs.Fields.{same}
 use Rattle.byte_files.proofs.Offered.{times_done, times_on, times_stop}
 use Rattle.exercise_check.specs.declared.certificate.Step.{Step}
-use Rattle.exercise_check.specs.Certificate.{told, is_step, step_at, steps_at}
+use Rattle.exercise_check.specs.Certificate.{format_of, is_step, step_at, steps_at}
 use Rattle.exercise_check.proofs.certificate_reading.read_steps.Goals as goal
 
 pub returns-in_err-step-clause-steps : goal.returns-in_err-step-clause-steps
@@ -13,7 +13,7 @@ returns-in_err-step-clause-steps g c =
     let p = err_from_is_err_and c.from_residual.result c.from_residual.ensures.1 in
     let n = c.args.count in
     let i = c.loop.counter in
-    rw (p.1, p.2) (times_stop (λ s. tt) (λ u. step_at) n i tt (told c.in_err-step.field-0.0) _ _ c.loop.steps.items (steps_at n)
+    rw (p.1, p.2) (times_stop (λ s. tt) (λ u. step_at) n i tt (format_of c.in_err-step.field-0.0) _ _ c.loop.steps.items (steps_at n)
     c.loop-test.true c.in_err-step.ensures.step c.loop.invariant.read)
 
 pub loop-preserved : goal.loop-preserved
@@ -23,7 +23,7 @@ loop-preserved g c =
     let i = c.loop.counter in
     rw c.in_ok-push.ensures.items (record {
       taken = λ h. c.loop.invariant.taken (c.in_ok-step.ensures.taken h);
-      read = times_on (λ s. tt) (λ u. step_at) n i tt told same s _ _ c.read_step.new.source c.loop.steps.items (steps_at n)
+      read = times_on (λ s. tt) (λ u. step_at) n i tt format_of same s _ _ c.read_step.new.source c.loop.steps.items (steps_at n)
           c.loop-test.true c.in_ok-step.ensures.step c.loop.invariant.read;
       each = all_pushed is_step c.loop.steps.items s c.loop.invariant.each c.in_ok-step.ensures.numbers;
       count = grind (arith, common_steps);
@@ -33,4 +33,4 @@ pub returns-clause-steps : goal.returns-clause-steps
 returns-clause-steps g c =
     let n = c.args.count in
     let i = c.loop.counter in
-    times_done (λ s. tt) (λ u. step_at) n i tt told (λ v. v.items) c.loop.steps _ _ c.loop.steps.items (steps_at n) c.loop-test.false refl c.loop.invariant.read
+    times_done (λ s. tt) (λ u. step_at) n i tt format_of (λ v. v.items) c.loop.steps _ _ c.loop.steps.items (steps_at n) c.loop-test.false refl c.loop.invariant.read

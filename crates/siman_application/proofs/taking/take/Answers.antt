@@ -1,11 +1,12 @@
 use Rattle.std.proofs.Common.{rules}
+use Rattle.siman_application.specs.Holding.{held_in}
 use Rattle.siman_application.proofs.Right.{Again, taken_again}
 use Rattle.siman_application.proofs.taking.take.Goals as goal
 
 again : (c : goal.After-take_again)
-    → Again c.args.outfit.now c.args.kept.now c.take_again.new.kept c.args.entities.now c.args.datums.now c.args.pdu.now c.args.stamp c.take_again.result
+    → Again c.args.outfit.now c.args.kept.now c.take_again.new.kept c.args.entities.now (held_in c.args.held.now) c.args.pdu.now c.args.stamp c.take_again.result
 again c =
-    taken_again c.args.outfit.now c.args.kept.now c.take_again.new.kept c.args.entities.now c.args.datums.now c.args.pdu.now c.args.stamp c.in-Some.place c.take_again.result
+    taken_again c.args.outfit.now c.args.kept.now c.take_again.new.kept c.args.entities.now (held_in c.args.held.now) c.args.pdu.now c.args.stamp c.in-Some.place c.take_again.result
     c.requires (search rules) c.in-Some.ensures c.take_again.ensures.result c.take_again.ensures.kept
 
 pub returns-in-Some-clause-right : goal.returns-in-Some-clause-right

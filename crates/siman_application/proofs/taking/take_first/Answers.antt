@@ -6,20 +6,21 @@ use Rattle.indexmap.specs.IndexMap.{values}
 use Rattle.siman_pdus.specs.declared.pdu.Pdu.{Pdu}
 use Rattle.siman_pdus.specs.DatumLists.{DatumLists}
 use Rattle.siman_application.specs.declared.kept.KeptRequest.{KeptRequest}
-use Rattle.siman_application.specs.Answer.{Knowledge, answer}
+use Rattle.siman_application.specs.Answer.{Knowledge, answer, told_of}
+use Rattle.siman_application.specs.Holding.{Holding, held_in}
 use Rattle.siman_application.specs.Knows.{knows}
 use Rattle.siman_application.proofs.Right.{made_answer, kept_one, right_more, requests_more, given_first}
 use Rattle.siman_application.proofs.taking.take_first.Goals as goal
 
 pub obey-requires-clause-answers : goal.obey-requires-clause-answers
 obey-requires-clause-answers c =
-    (made_answer c.args.outfit.now c.args.entities.now c.args.datums.now c.args.pdu.now c.in_ok-outcome.outcome.answer c.args.stamp c.requires.own c.in_ok-outcome.ensures.answer).answers
+    (made_answer c.args.outfit.now c.args.entities.now (held_in c.args.held.now) c.args.pdu.now c.in_ok-outcome.outcome.answer c.args.stamp c.requires.own c.in_ok-outcome.ensures.answer).answers
 
 pub obey-requires-clause-possible : goal.obey-requires-clause-possible
 obey-requires-clause-possible c =
-    (made_answer c.args.outfit.now c.args.entities.now c.args.datums.now c.args.pdu.now c.in_ok-outcome.outcome.answer c.args.stamp c.requires.own c.in_ok-outcome.ensures.answer).able_can
+    (made_answer c.args.outfit.now c.args.entities.now (held_in c.args.held.now) c.args.pdu.now c.in_ok-outcome.outcome.answer c.args.stamp c.requires.own c.in_ok-outcome.ensures.answer).able_can
 
-kept : (c : goal.After-put_in_place)
+kept : (c : goal.After-store)
     → c.keep-place.new.kept.entries ≡ c.args.kept.now.entries ++ (c.args.key, record { request = c.args.pdu.now; answer = c.in_ok-outcome.outcome.answer }) ∷ []
 kept c =
     kept_one c.args.kept.now c.reserve.new.self c.keep-place.new.kept c.args.key c.args.pdu.now c.in_ok-request.request c.in_ok-outcome.outcome.answer
@@ -27,10 +28,11 @@ kept c =
 
 pub returns-clause-right : goal.returns-clause-right
 returns-clause-right c =
-    right_more c.args.outfit.now c.args.kept.now c.keep-place.new.kept c.args.entities.now c.obey.new.self c.args.datums.now c.put_in_place.new.datums c.args.key c.args.pdu.now c.in_ok-outcome.outcome.answer c.args.stamp
+    right_more c.args.outfit.now c.args.kept.now c.keep-place.new.kept c.args.entities.now c.obey.new.self (held_in c.args.held.now) (held_in c.store.new.held) c.args.key c.args.pdu.now c.in_ok-outcome.outcome.answer c.args.stamp
     c.requires.right c.requires.own c.requires.key c.requires.first c.numbers_are_in_range.ensures c.in_ok-outcome.ensures.answer
     (kept c) c.in_ok-obey.ensures.ok
-    (λ xs. ap (λ (d : DatumLists). knows xs d) c.put_in_place.ensures ∙ c.in_ok-outcome.ensures.datums xs)
+    (λ xs. ap (λ (h : Holding). knows xs h) c.store.ensures
+    ∙ ap (λ (d : DatumLists). told_of d (knows xs (held_in c.args.held.now))) c.in_ok-outcome.ensures.brought)
 
 pub returns-clause-came : goal.returns-clause-came
 returns-clause-came c =

@@ -9,10 +9,10 @@ use Rattle.siman_console.proofs.check.check_command.Goals as goal
 
 pub returns-clause-known : goal.returns-clause-known
 returns-clause-known g c =
-    ends_known_both (λ r k told. TellsCheck (recording_at LARGEST_RECORDING r) (certificate_at LARGEST_CERTIFICATE k) told (g.W.Write.contents c.args.out.now)
-    (g.W.Write.contents c.judged.new.out)) (g.R.Read.remaining c.args.recording) (g.C.Read.remaining c.args.certificate) _ c.end.result _ _ c.judged.ensures.known c.end.ensures
+    ends_known_both (λ r k answered. TellsCheck (recording_at LARGEST_RECORDING r) (certificate_at LARGEST_CERTIFICATE k) answered (g.W.Write.contents c.args.out.now)
+    (g.W.Write.contents c.check_recording.new.out)) (g.R.Read.remaining c.args.recording) (g.C.Read.remaining c.args.certificate) _ c.end.result _ _ c.check_recording.ensures.known c.end.ensures
 
 pub returns-clause-ends : goal.returns-clause-ends
 returns-clause-ends g c =
-    let some = c.judged.ensures.some in
-    (some.0, some.1, (c.judged.result, some.2, ends_with _ c.end.result _ _ c.end.ensures))
+    let some = c.check_recording.ensures.some in
+    (some.0, some.1, (c.check_recording.result, some.2, ends_with _ c.end.result _ _ c.end.ensures))

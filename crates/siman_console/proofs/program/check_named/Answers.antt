@@ -12,12 +12,12 @@ returns-in-Ok-open g c =
     let k = g.O.File.Read.remaining c.in-Ok-open.file in
     let first = Opens c.args.names.0.now (Ok r) in
     let second = Opens c.args.names.1.now (Ok k) in
-    let out : Stream = record { old = g.W.Write.contents c.args.out.now; new = g.W.Write.contents c.judged.new.out } in
+    let out : Stream = record { old = g.W.Write.contents c.args.out.now; new = g.W.Write.contents c.check_recording.new.out } in
     let held = subst (λ (holds : List ℕ → Option Found). IsHeld (holds c.args.names.1.now) (Ok k)) c.in-Ok.ensures.stays c.in-Ok-open.ensures.held in (
       first ∷ second ∷ [],
       adds_two _ _ _ first second c.in-Ok.ensures.done c.in-Ok-open.ensures.done,
       all_two (WasHeld (g.O.Outside.holds c.args.outside.now)) first second c.in-Ok.ensures.held held,
-      (refl, refl, judging r k c.judged.result out c.judged.ensures.known c.judged.ensures.some),
+      (refl, refl, judging r k c.check_recording.result out c.check_recording.ensures.known c.check_recording.ensures.some),
     )
 
 pub returns-in-Err-open : goal.returns-in-Err-open

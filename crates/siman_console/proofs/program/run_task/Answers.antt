@@ -10,12 +10,12 @@ use Rattle.siman_console.proofs.program.run_task.Goals as goal
 pub returns-in-Input : goal.returns-in-Input
 returns-in-Input g c =
     let input = g.R.Read.remaining c.args.input in
-    let told = c.tell_input.result in
+    let answered = c.tell_input.result in
     let out : Stream = record { old = g.W.Write.contents c.args.out.now; new = g.W.Write.contents c.tell_input.new.out } in
-    let tells : TellsTask Input [] input told out = (refl, from_input input told out c.tell_input.ensures.known c.tell_input.ensures.some) in (
+    let tells : TellsTask Input [] input answered out = (refl, from_input input answered out c.tell_input.ensures.known c.tell_input.ensures.some) in (
       [],
       adds_none _,
       all_none (WasHeld (g.O.Outside.holds c.args.outside.now)),
-      subst (λ task. TellsTask (asked_by task) [] input told out)
+      subst (λ task. TellsTask (asked_by task) [] input answered out)
           (sym c.in-Input.is) tells,
     )

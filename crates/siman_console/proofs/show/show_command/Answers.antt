@@ -7,10 +7,10 @@ use Rattle.siman_console.proofs.show.show_command.Goals as goal
 
 pub returns-clause-known : goal.returns-clause-known
 returns-clause-known g c =
-    ends_known (λ bytes told. TellsShow (recording_at LARGEST_RECORDING bytes) told (g.W.Write.contents c.args.out.now) (g.W.Write.contents c.shown.new.out))
-    (g.R.Read.remaining c.args.recording) _ c.end.result _ _ c.shown.ensures.known c.end.ensures
+    ends_known (λ bytes answered. TellsShow (recording_at LARGEST_RECORDING bytes) answered (g.W.Write.contents c.args.out.now) (g.W.Write.contents c.show_recording.new.out))
+    (g.R.Read.remaining c.args.recording) _ c.end.result _ _ c.show_recording.ensures.known c.end.ensures
 
 pub returns-clause-ends : goal.returns-clause-ends
 returns-clause-ends g c =
-    let some = c.shown.ensures.some in
-    (some.0, (c.shown.result, some.1, ends_with _ c.end.result _ _ c.end.ensures))
+    let some = c.show_recording.ensures.some in
+    (some.0, (c.show_recording.result, some.1, ends_with _ c.end.result _ _ c.end.ensures))

@@ -2,4 +2,4 @@
 use Rattle.siman_console.proofs.words.usage_command.Goals as goal
 
 pub returns : goal.returns
-returns g c = (c.end_usage.result.told, c.end_usage.ensures)
+returns g c = (c.end_usage.result.written, c.end_usage.ensures)

@@ -3,6 +3,8 @@ use Rattle.indexmap.specs.IndexMap.{values}
 use Rattle.siman_pdus.specs.Role.{request_id_of}
 use Rattle.siman_manager.proofs.Taking.{taken_known, settled_known}
 use Rattle.siman_manager.proofs.Tables.{values-with_value_at, keys-written, len-written}
+use Rattle.siman_manager.proofs.Quiet.{later-settled}
+use Rattle.siman_manager.proofs.Right.{numbered-written, blocks-written}
 use Rattle.siman_manager.proofs.settling.take.Goals as goal
 
 pub returns-clause-keys : goal.returns-clause-keys
@@ -30,3 +32,11 @@ returns-clause-after c =
     ∙ ap (set (values c.args.orders.now) c.in-Some-place_of.place) c.judge.ensures.after
     ∙ sym (settled_known c.args.settings.now c.args.pdu.now
     (values c.args.orders.now) c.in-Some.id c.in-Some-place_of.place c.index_mut.result.now same known low at c.index_mut.ensures.value)
+
+pub returns-clause-right : goal.returns-clause-right
+returns-clause-right c = λ times right. record {
+  numbered = numbered-written c.args.settings.now.first_id c.args.orders.now c.in-Some-place_of.place c.judge.new.kept right.numbered;
+  blocks =
+      blocks-written c.args.settings.now times c.args.orders.now c.in-Some-place_of.place c.index_mut.result.now c.judge.new.kept c.index_mut.ensures.value
+      (later-settled c.args.settings.now c.args.pdu.now c.index_mut.result.now c.judge.new.kept c.judge.ensures.after) right.blocks;
+}

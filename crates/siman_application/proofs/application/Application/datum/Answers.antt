@@ -7,5 +7,5 @@ use Rattle.siman_application.proofs.application.Application.datum.Goals as goal
 
 pub returns : goal.returns
 returns c =
-    c.value_of.ensures ∙ ap (λ (k : Knowledge). option_map (λ d. d.value) (k.fixed c.args.id)) c.self.invariant.known_is
+    c.value.ensures ∙ ap (λ (k : Knowledge). option_map (λ d. d.value) (k.fixed c.args.id)) c.self.invariant.known_is
     ∙ ap (λ (s : Standing). option_map (λ d. d.value) (fixed_after s.outfit (came s) c.args.id)) c.self.view_is

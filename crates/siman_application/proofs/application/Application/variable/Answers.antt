@@ -6,5 +6,5 @@ use Rattle.siman_application.proofs.application.Application.variable.Goals as go
 
 pub returns : goal.returns
 returns c =
-    c.variable_of.ensures ∙ ap (λ (k : Knowledge). k.variable c.args.id) c.self.invariant.known_is
+    c.variable.ensures ∙ ap (λ (k : Knowledge). k.variable c.args.id) c.self.invariant.known_is
     ∙ ap (λ (s : Standing). variable_after s.outfit (came s) c.args.id) c.self.view_is

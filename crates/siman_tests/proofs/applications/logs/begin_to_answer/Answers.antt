@@ -17,7 +17,8 @@ use Rattle.siman_tests.proofs.applications.logs.begin_to_answer.Goals as goal
 stands : ((a : Outfit) (s : ℕ) (ts : List Turn) (h : History) (qs : List Pdu) → IsOwnLog a s ts h qs → IsClear a ts h → AnswersStand a h)
     → (begun : Outfit) (o : Pdu) (b : List ℕ) (stamp : ℕ) → IsInRange o → ((i : ℕ) → slice_index b i < 256) → stamp < 2 ^ 32
     → (r : Result Standing AppFault) → IfOk r (λ app. app.outfit ≡ begun) → IfOk r (λ app. IsOutfitInRange app.outfit)
-    → IfOk r (λ app. o.exercise ≡ begun.exercise → is_request_body o.body ≡ true → pdu_size o ≤ 8192 → (q : Pdu) → reading b ≡ Some q → AnswersStand app.outfit (log_in app.outfit 0 (Takes b q stamp ∷ Orders o ∷ [])))
+    → IfOk r (λ app. o.exercise ≡ begun.exercise → is_request_body o.body ≡ true → pdu_size o ≤ 8192
+    → (q : Pdu) → reading b ≡ Some q → AnswersStand app.outfit (log_in app.outfit 0 (Takes b q stamp ∷ Orders o ∷ [])))
 stands law begun o b stamp range bytes small (Err fault) is ranges = tt
 stands law begun o b stamp range bytes small (Ok app) is ranges = λ exercise request size q read.
     law app.outfit 0 (Takes b q stamp ∷ Orders o ∷ []) (log_in app.outfit 0 (Takes b q stamp ∷ Orders o ∷ [])) (q ∷ []) (record {

@@ -1,0 +1,108 @@
+//! The datums of a body, and the identifiers of a query, where they stand in a datagram.
+
+ghost use Rattle.std.specs.Prelude.{◌≡◌};
+ghost use Rattle.dis_records.specs.Views.{DatumsFit, IdsFit, shown_datums, shown_ids};
+
+use crate::field::u32_at;
+use crate::records::{DatumIdRecords, FixedRecords, VariableRecords};
+use std::marker::Model;
+
+/// A datum specification (IEEE 1278.1-2012, 6.2.18) in a datagram: fixed datum records, then
+/// variable datum records, walked in order and none copied. Contracts see it as two lists, the
+/// bytes of a variable record as they stand.
+#[derive(Debug, Drop)]
+pub struct DatumsView<'a> {
+    bytes: &'a [u8],
+    counts: usize,
+}
+
+impl<'a> Model for DatumsView<'a> {
+    ghost use Rattle.dis_records.specs.Views.{ShownDatums, DatumsFit, shown_datums};
+
+    ghost Value = { ShownDatums };
+
+    ghost view = { λ s. shown_datums s.counts s.bytes.now };
+
+    ghost invariant = { λ s. DatumsFit s.counts s.bytes.now };
+}
+
+impl<'a> DatumsView<'a> {
+    /// The datums whose two counts stand at an offset in bytes, from 0, and which are all wholly
+    /// there.
+    pub fn over(bytes: &'a [u8], counts: usize) -> DatumsView<'a>
+        requires { DatumsFit counts bytes.now }
+        ensures { result ≡ shown_datums counts bytes.now }
+    {
+        DatumsView { bytes, counts }
+    }
+
+    /// The fixed datum records, in order.
+    #[tactic(auto, unfolding(crate::specs::Views::shown_datums))]
+    pub fn fixed(&self) -> FixedRecords<'a>
+        ensures { result ≡ self.now.fixed }
+    {
+        let count = u32_at(self.bytes, self.counts);
+        FixedRecords::over(self.bytes, self.counts + 8, count)
+    }
+
+    /// The variable datum records, in order.
+    #[tactic(auto, unfolding(crate::specs::Views::shown_datums))]
+    pub fn variable(&self) -> VariableRecords<'a>
+        ensures { result ≡ self.now.variable }
+    {
+        let fixed_count = u32_at(self.bytes, self.counts);
+        let count = u32_at(self.bytes, self.counts + 4);
+        let start = self.counts + 8 + 8 * fixed_count as usize;
+        VariableRecords::over(self.bytes, start, count)
+    }
+}
+
+/// The datum identifiers that a query asks for (IEEE 1278.1-2012, 6.2.17) in a datagram: those of
+/// fixed datums, then those of variable datums, walked in order and none copied. Contracts see it
+/// as two lists.
+#[derive(Debug, Drop)]
+pub struct IdsView<'a> {
+    bytes: &'a [u8],
+    counts: usize,
+}
+
+impl<'a> Model for IdsView<'a> {
+    ghost use Rattle.dis_records.specs.Views.{ShownIds, IdsFit, shown_ids};
+
+    ghost Value = { ShownIds };
+
+    ghost view = { λ s. shown_ids s.counts s.bytes.now };
+
+    ghost invariant = { λ s. IdsFit s.counts s.bytes.now };
+}
+
+impl<'a> IdsView<'a> {
+    /// The identifiers whose two counts stand at an offset in bytes, from 0, and which are all
+    /// wholly there.
+    pub fn over(bytes: &'a [u8], counts: usize) -> IdsView<'a>
+        requires { IdsFit counts bytes.now }
+        ensures { result ≡ shown_ids counts bytes.now }
+    {
+        IdsView { bytes, counts }
+    }
+
+    /// The identifiers of fixed datums, in order.
+    #[tactic(auto, unfolding(crate::specs::Views::shown_ids))]
+    pub fn fixed(&self) -> DatumIdRecords<'a>
+        ensures { result ≡ self.now.fixed }
+    {
+        let count = u32_at(self.bytes, self.counts);
+        DatumIdRecords::over(self.bytes, self.counts + 8, count)
+    }
+
+    /// The identifiers of variable datums, in order.
+    #[tactic(auto, unfolding(crate::specs::Views::shown_ids))]
+    pub fn variable(&self) -> DatumIdRecords<'a>
+        ensures { result ≡ self.now.variable }
+    {
+        let fixed_count = u32_at(self.bytes, self.counts);
+        let count = u32_at(self.bytes, self.counts + 4);
+        let start = self.counts + 8 + 4 * fixed_count as usize;
+        DatumIdRecords::over(self.bytes, start, count)
+    }
+}

@@ -1,0 +1,16 @@
+-- What a yes tells of the changes behind Ables.
+use Rattle.std.proofs.Common.{sym, ◌∙◌}
+use Rattle.exercise_model.specs.Recording.{PlainRecording, IsRecording}
+use Rattle.exercise_model.specs.History.{History}
+use Rattle.exercise_model.specs.Run.{Explains}
+use Rattle.exercise_model.proofs.Offered.{entries_known}
+use Rattle.exercise_check.specs.Checked.{CheckedData, TellsAccount, TellsKnowledge}
+
+-- the changes that a recording says are known in each run that explains it
+pub account_known : (r : PlainRecording) (h : History) (c : CheckedData) → IsRecording r → Explains r h → TellsAccount r c → TellsKnowledge r h c
+account_known r h c limits explains account =
+    let knows = entries_known r h limits explains in
+    record {
+      each = λ i received. let found = knows.each i received in (found.0, account.causes i ∙ found.1, found.2);
+      told = λ i j told. knows.no_others i j (sym (account.causes i) ∙ told);
+    }

@@ -1,6 +1,0 @@
-use Rattle.std.proofs.Common.{◌≡◌, take}
-use Rattle.siman_application.specs.Records.{all_stored, variable_id}
-use Rattle.siman_application.proofs.records.store_variable.Given as goal
-
-abbrev pub invariant-loop-record : goal.invariant-loop-record
-invariant-loop-record l = l.stored.items ≡ all_stored variable_id l.came (take l.record-index l.held)

@@ -1,0 +1,77 @@
+-- The search of a recording, and how `audit` ends with what it found.
+use Rattle.std.proofs.Common.{◌≡◌, ◌<◌, ℕ, zero, suc, List, [], ◌∷◌, ◌++◌, length, Option, Some, None, Result, Ok, Err, refl, inl, inr, subst, arith}
+use Rattle.std.specs.Prelude.{IfSome, string_bytes}
+use Rattle.std.specs.Result.{IsErrAnd}
+use Rattle.std.specs.List.{All}
+use Rattle.std.proofs.lemmas.List.Elements.{All-nil, All-push, All-same, All-weaker}
+use Rattle.exercise_model.specs.Recording.{PlainRecording}
+use Rattle.exercise_model.specs.History.{History}
+use Rattle.exercise_recording.specs.declared.format_fault.RecordingFault.{RecordingFault}
+use Rattle.exercise_recording.specs.declared.format_fault.RecordingFault.TheVariants as recordings
+use Rattle.exercise_recording.specs.Reading.{recording_at, format_of}
+use Rattle.byte_files.specs.Fields.{Fails}
+use Rattle.exercise_check.specs.declared.certificate.Step.{Step}
+use Rattle.exercise_audit.specs.declared.blocks.Block.{Block}
+use Rattle.exercise_audit.specs.Audit.{AreBlocks, IsBlocked}
+use Rattle.siman_console.specs.declared.show.TheConstants.{LARGEST_RECORDING}
+use Rattle.siman_console.specs.declared.fault.Fault.{Fault}
+use Rattle.siman_console.specs.declared.fault.Fault.TheVariants.{Memory}
+use Rattle.siman_console.specs.declared.search.Finding.{Finding}
+use Rattle.siman_console.specs.declared.search.Finding.TheVariants.{Order, Stuck}
+use Rattle.siman_console.specs.Check.{Recorded}
+use Rattle.siman_console.specs.Ending.{of_recording}
+use Rattle.siman_console.specs.Outcome.{Stream}
+use Rattle.siman_console.specs.Search.{explained_line, FindsOrder, IsUnsearched, AreTextsOf, Finds, Searches, PutsBoth, PutsFinding, TellsAudit}
+
+-- each block is of one of the stations
+are_within : (r : PlainRecording) (h : History) (n : ℕ) (blocks : List Block) → AreBlocks r h n blocks → All (λ (b : Block). b.station < n) blocks
+are_within r h zero blocks are = All-same (λ (b : Block). b.station < 0) blocks [] are (All-nil (λ (b : Block). b.station < 0))
+are_within r h (suc s) blocks (inl done) =
+    All-weaker (λ (b : Block). b.station < s) (λ (b : Block). b.station < suc s) (λ b within. omega (arith, within)) blocks (are_within r h s blocks done.1)
+are_within r h (suc s) blocks (inr more) =
+    let others = more.0 in
+    let last = more.1 in
+    let before = All-weaker (λ (b : Block). b.station < s) (λ (b : Block). b.station < suc s) (λ b within. omega (arith, within)) others
+    (are_within r h s others more.3) in
+    let here : last.station < suc s = let at = more.4.station in omega (arith, at) in
+    All-same (λ (b : Block). b.station < suc s) blocks (others ++ last ∷ []) more.2
+    (All-push (λ (b : Block). b.station < suc s) others last before here)
+
+pub blocks_within : (r : PlainRecording) (blocks : List Block) → IsBlocked r blocks → All (λ (b : Block). b.station < length r.setting.stations) blocks
+blocks_within r blocks blocked =
+    are_within r blocked.some_end.0 (length r.setting.stations) blocks (blocked.blocks_are blocked.some_end.0 blocked.some_end.1)
+
+-- a recording that could not be read
+unsearched : (recorded : Recorded) (fault : RecordingFault) → Fails (format_of fault) recorded → IsUnsearched recorded (of_recording fault)
+unsearched recorded (recordings.Format f) why = inl (f, why, refl)
+unsearched recorded recordings.Read why = inr (inl refl)
+unsearched recorded recordings.Memory why = inr (inr refl)
+
+pub unread : (recorded : Recorded) (fault : RecordingFault) (result : Result Finding Fault) → IsErrAnd result (λ e. e ≡ of_recording fault)
+    → Fails (format_of fault) recorded → Searches recorded result
+unread recorded fault (Ok finding) passed why = absurd passed
+unread recorded fault (Err e) passed why = rw passed (unsearched recorded fault why)
+
+-- a recording that was read, for whose search there was no memory
+pub unmade : (recorded : Recorded) (result : Result Finding Fault) → IsErrAnd result (λ e. e ≡ Memory) → Searches recorded result
+unmade recorded (Ok finding) passed = absurd passed
+unmade recorded (Err e) passed = rw passed (inr (inr refl))
+
+-- what was found is told of what was read
+told_order : (recorded : Recorded) (certificate line : List ℕ) (steps : List Step) (answered : Result ℕ Fault) (file out : Stream) → FindsOrder recorded steps
+    → AreTextsOf steps certificate line → PutsBoth certificate line answered file out → TellsAudit recorded answered file out
+told_order recorded certificate line steps answered file out finds texts puts =
+    inr (inl (steps, finds, subst (λ t. PutsBoth t (explained_line (length steps)) answered file out) texts.certificate_is (subst (λ t. PutsBoth certificate t answered file out) texts.line_is puts)))
+
+pub tells_found : (recorded : Recorded) (finding : Finding) (answered : Result ℕ Fault) (file out : Stream) → Finds recorded finding
+    → PutsFinding finding answered file out → TellsAudit recorded answered file out
+tells_found recorded (Order certificate line) answered file out finds puts =
+    told_order recorded certificate.items (string_bytes line) finds.0 answered file out finds.1 finds.2 puts
+tells_found recorded (Stuck text) answered file out finds puts = inr (inr (string_bytes text, finds, puts.0, puts.1))
+
+-- the same of what a reader has, where that is known
+pub tells_found_known : (known : Option (List ℕ)) (finding : Finding) (answered : Result ℕ Fault) (file out : Stream)
+    → IfSome known (λ bytes. Finds (recording_at LARGEST_RECORDING bytes) finding) → PutsFinding finding answered file out
+    → IfSome known (λ bytes. TellsAudit (recording_at LARGEST_RECORDING bytes) answered file out)
+tells_found_known None finding answered file out finds puts = tt
+tells_found_known (Some bytes) finding answered file out finds puts = tells_found (recording_at LARGEST_RECORDING bytes) finding answered file out finds puts

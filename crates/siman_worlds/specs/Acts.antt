@@ -1,0 +1,132 @@
+-- What the acts of a station make of what is kept of a world: of its journal, and of the two halves of the station (profile).
+use Rattle.std.specs.Prelude.{◌≡◌, ℕ, ◌+◌, ◌<◌, ◌≤◌, nat_lt, List, [], ◌∷◌, ◌++◌, length, map, slice_get, Option, Some, None, IfSome, option_map, option_and_then, if◌then◌else◌}
+use Rattle.dis_records.specs.declared.header.TheConstants.{LARGEST_DATAGRAM}
+use Rattle.siman_pdus.specs.declared.pdu.Pdu.{Pdu}
+use Rattle.siman_pdus.specs.Reading.{reading}
+use Rattle.siman_pdus.specs.Role.{is_request_body}
+use Rattle.siman_pdus.specs.Spelling.{pdu_size}
+use Rattle.exercise_model.specs.declared.recording.TheConstants.{MOST_ENTRIES}
+use Rattle.exercise_model.specs.Entry.{Entry, Told}
+use Rattle.exercise_model.specs.declared.fault.LogFault.{LogFault}
+use Rattle.exercise_model.specs.Recording.{PlainRecording, unless_memory}
+use Rattle.exercise_model.specs.Station.{is_entity}
+use Rattle.siman_application.specs.Play.{state_over}
+use Rattle.siman_application.specs.Standing.{Standing, came}
+use Rattle.siman_manager.specs.declared.order.Order.{Order}
+use Rattle.siman_manager.specs.Answers.{refusal_of, with_orders, ticked}
+use Rattle.siman_manager.specs.Book.{Book, order_pdu, next_id, repeated, with_order}
+use Rattle.siman_worlds.specs.declared.act.Act.{Act}
+use Rattle.siman_worlds.specs.declared.act.Act.TheVariants.{Command, Deliver, Tick, Tell}
+use Rattle.siman_worlds.specs.declared.journal.Journal.{Journal}
+use Rattle.siman_worlds.specs.declared.turn.Node.{Node}
+use Rattle.siman_worlds.specs.declared.turn.TurnFault.{TurnFault}
+use Rattle.siman_worlds.specs.declared.turn.TurnFault.TheVariants as turn_faults
+use Rattle.siman_worlds.specs.declared.world_fault.MoveFault.{MoveFault}
+use Rattle.siman_worlds.specs.declared.world_fault.MoveFault.TheVariants as faults
+use Rattle.siman_worlds.specs.declared.world_fault.WorldFault.{WorldFault}
+use Rattle.siman_worlds.specs.declared.world_fault.WorldFault.TheVariants as world_faults
+use Rattle.siman_worlds.specs.declared.moving.StepFault.{StepFault}
+use Rattle.siman_worlds.specs.declared.moving.StepFault.TheVariants as step_faults
+use Rattle.siman_worlds.specs.Turn.{stamp_of, sent_as, turn_entries, TakesBoth}
+use Rattle.siman_worlds.specs.World.{sent_in}
+
+-- Of the journal.
+
+-- the datagrams that were sent, by their numbers
+abbrev pub sends_of : Journal → List (List ℕ)
+sends_of j = map (λ b. b.items) j.sends.items
+
+-- the recording with some more entries
+abbrev pub with_entries : PlainRecording → List Entry → PlainRecording
+with_entries r es = record r { entries = r.entries ++ es }
+
+-- These entries were written down, and no other; what they send has the next numbers.
+pub record Writes (es : List Entry) (old new : Journal) : Type 0 where
+  pub recording : new.recording ≡ with_entries old.recording es
+  pub sends : sends_of new ≡ sends_of old ++ sent_in es
+
+-- The station is one of the recording's, and two more entries fit.
+pub record HasRoom (s : ℕ) (r : PlainRecording) : Type 0 where
+  pub station : s < length r.setting.stations
+  pub two : length r.entries + 2 ≤ MOST_ENTRIES
+
+-- Of the halves.
+
+-- the PDU of the next order
+abbrev pub next_order : Book → ℕ → Order → Pdu
+next_order b now order = order_pdu b.settings (next_id b.settings (length b.orders)) order (stamp_of now)
+
+-- the halves after an order was made
+abbrev pub after_order : Node → ℕ → Order → Node
+after_order n now order = record n { manager = with_orders n.manager (with_order n.manager.settings order now (stamp_of now) n.manager.orders) }
+
+-- the repeat that is due
+abbrev pub next_repeat : Book → ℕ → Option Pdu
+next_repeat b now = repeated b.settings now (stamp_of now) b.orders
+
+-- the halves after a tick
+abbrev pub after_tick : Node → ℕ → Node
+after_tick n now = record n { manager = ticked n.manager now (stamp_of now) }
+
+-- why an order is not made
+abbrev pub order_fault : Book → ℕ → Order → Option MoveFault
+order_fault b now order = if is_request_body order.body then option_map faults.Order (refusal_of b order (stamp_of now)) else Some faults.NotARequest
+
+-- why a datagram is not delivered
+abbrev pub send_fault : List (List ℕ) → ℕ → Option MoveFault
+send_fault sends k = if nat_lt k (length sends) then None else Some faults.NoSuchSend
+
+-- why no state is told
+abbrev pub tell_fault : ℕ → Option MoveFault
+tell_fault e = if is_entity e then None else Some faults.NoSuchEntity
+
+-- the entries of a datagram that comes, if there is one
+abbrev pub turn_if : Standing → ℕ → ℕ → Option (List ℕ) → List Entry
+turn_if a s now None = []
+turn_if a s now (Some b) = turn_entries a s now b
+
+-- Of an act.
+
+-- why an act is not done, after these datagrams were sent
+abbrev pub halves_fault : List (List ℕ) → Node → ℕ → Act → Option MoveFault
+halves_fault sends n now (Command order) = order_fault n.manager now order
+halves_fault sends n now (Deliver k) = send_fault sends k
+halves_fault sends n now Tick = None
+halves_fault sends n now (Tell e) = tell_fault e
+
+-- the entries that an act makes
+abbrev pub halves_entries : List (List ℕ) → Node → ℕ → ℕ → Act → List Entry
+halves_entries sends n s now (Command order) = sent_as s now (Some (next_order n.manager now order))
+halves_entries sends n s now (Deliver k) = turn_if n.application s now (slice_get sends k)
+halves_entries sends n s now Tick = sent_as s now (next_repeat n.manager now)
+halves_entries sends n s now (Tell e) = Told s e (state_over n.application.outfit (came n.application) e) ∷ []
+
+-- how the halves go on in an act
+abbrev pub Goes : List (List ℕ) → ℕ → Act → Node → Node → Type 0
+Goes sends now (Command order) old new = new ≡ after_order old now order
+Goes sends now (Deliver k) old new = TakesBoth (option_and_then reading (slice_get sends k)) old new
+Goes sends now Tick old new = new ≡ after_tick old now
+Goes sends now (Tell e) old new = new ≡ old
+
+-- A fault of a move is the reason against it; any other is want of memory.
+abbrev pub Gives : Option MoveFault → StepFault → Type 0
+Gives reason (step_faults.Move fault) = reason ≡ Some fault
+Gives reason step_faults.Memory = Unit {0}
+
+-- the fault of a world whose move of a number was not made
+abbrev pub at_move : ℕ → StepFault → WorldFault
+at_move number (step_faults.Move fault) = world_faults.Move number fault
+at_move number step_faults.Memory = world_faults.Memory
+
+-- The fault of a turn is want of memory, at its own work or at a record.
+abbrev pub LacksMemory : TurnFault LogFault → Type 0
+LacksMemory (turn_faults.Record fault) = unless_memory fault ≡ None
+LacksMemory turn_faults.Memory = Unit {0}
+
+-- No datagram that was sent is too long.
+abbrev pub AreShort : List (List ℕ) → Type 0
+AreShort sends = (k : ℕ) (b : List ℕ) → slice_get sends k ≡ Some b → length b ≤ LARGEST_DATAGRAM
+
+-- A repeat that is due is not too long.
+abbrev pub RepeatsShort : Book → Type 0
+RepeatsShort b = (now : ℕ) → IfSome (next_repeat b now) (λ p. pdu_size p ≤ LARGEST_DATAGRAM)

@@ -1,0 +1,38 @@
+-- What a move makes of a world as it is kept: of its journal, and of the halves of each station (profile).
+use Rattle.std.specs.Prelude.{◌≡◌, ℕ, ◌+◌, nat_le, List, length, slice_get, slice_set, Option, Some, None, if◌then◌else◌}
+use Rattle.exercise_model.specs.declared.recording.TheConstants.{MOST_ENTRIES}
+use Rattle.siman_worlds.specs.declared.act.Act.{Act}
+use Rattle.siman_worlds.specs.declared.act.Move.{Move}
+use Rattle.siman_worlds.specs.declared.turn.Node.{Node}
+use Rattle.siman_worlds.specs.declared.world.World.{World}
+use Rattle.siman_worlds.specs.declared.world_fault.MoveFault.{MoveFault}
+use Rattle.siman_worlds.specs.declared.world_fault.MoveFault.TheVariants as faults
+use Rattle.siman_worlds.specs.World.{sent_in}
+use Rattle.siman_worlds.specs.Acts.{Writes, Goes, sends_of, halves_entries, halves_fault, RepeatsShort}
+
+-- What a world keeps to: each station has its halves, the datagrams are those that the entries send, and no repeat that is due is too long.
+pub record IsFit (w : World) : Type 0 where
+  pub stations : length w.nodes.items ≡ length w.journal.recording.setting.stations
+  pub sends : sends_of w.journal ≡ sent_in w.journal.recording.entries
+  pub repeats : (s : ℕ) (n : Node) → slice_get w.nodes.items s ≡ Some n → RepeatsShort n.manager
+
+-- The move was made: its station's halves went on, those of the others stand, and the entries were written down.
+pub record Does (m : Move) (old new : World) : Type 0 where
+  pub before : Node
+  pub after : Node
+  pub stood : slice_get old.nodes.items m.station ≡ Some before
+  pub nodes : new.nodes.items ≡ slice_set old.nodes.items m.station after
+  pub halves : Goes (sends_of old.journal) m.now m.act before after
+  pub entries : Writes (halves_entries (sends_of old.journal) before m.station m.now m.act) old.journal new.journal
+
+-- why the halves of a station, if it is there, do not do an act
+abbrev pub node_fault : List (List ℕ) → ℕ → Act → Option Node → Option MoveFault
+node_fault sends now act None = Some faults.NoSuchStation
+node_fault sends now act (Some n) = halves_fault sends n now act
+
+-- why a move is not made
+abbrev pub step_fault : World → Move → Option MoveFault
+step_fault w m =
+    if nat_le (length w.journal.recording.entries + 2) MOST_ENTRIES
+    then node_fault (sends_of w.journal) m.now m.act (slice_get w.nodes.items m.station)
+    else Some faults.Records

@@ -1,0 +1,117 @@
+"""Scripts that are run, and the files of the recordings that they make."""
+import os
+import re
+
+import pages
+from cases.examples import TOP, WORKED_LINE, WORKED_SCRIPT
+from cases.trials import UNWRITTEN, Case, Verdict, told
+from pages import Outcome
+
+HEAD = b"exercise 1\nstation 1:1\nstation 2:3\n"
+
+
+class Ran:
+    """A world that ran, or one of which a move or the stations were refused."""
+
+    def __eq__(self, came):
+        ran = came.status == 0 and re.fullmatch(rb"world records=\d+ sent=\d+\n", came.out) and came.errors == b""
+        stopped = came.status == 2 and came.out == b"" and re.fullmatch(rb"world: [a-z-]+( at move \d+)?\n", came.errors)
+        return bool(ran or stopped)
+
+    def __repr__(self):
+        return "the line of a world, or why it stopped"
+
+
+def after(trials, words, accepted, name, is_right, **more):
+    """A run, and then whether what stands under a name, if anything does, is right."""
+
+    def tried():
+        verdict = trials.verdict(Case(words, accepted, **more))
+        path = trials.folder / name
+        left = path.read_bytes() if path.exists() else None
+        return [verdict, Verdict(told(Case(words, (), **more), f", what it left in {name}"), (True,), is_right(left))]
+
+    trials.tasks.append(tried)
+
+
+def try_worked(trials):
+    """The script of the page, its recording shown, and that of other names for the file."""
+    page = (TOP / "docs" / "SCRIPTS.md").read_text(encoding="utf-8")
+    shown = re.search(r"\$ \./siman show .*\n(exercise=(?:.*\n)*?)```", page).group(1).encode()
+
+    def is_worked(left):
+        return left is not None and pages.answer_to_show(left) == Outcome(0, shown, b"")
+
+    usual = (Outcome(0, WORKED_LINE, b""),)
+    after(trials, ["world", WORKED_SCRIPT, "worked.dsrc"], usual, "worked.dsrc", is_worked)
+    longer = trials.file(b"x" * 100_000)
+    after(trials, ["world", WORKED_SCRIPT, longer], usual, longer, is_worked)
+    for behind in [">/dev/full", ">&-"]:
+        name = f"unheard.{len(behind)}.dsrc"
+        after(trials, ["world", WORKED_SCRIPT, name], (UNWRITTEN,), name, is_worked, behind=behind)
+    trials.expect(["world", WORKED_SCRIPT, "/dev/null"], *usual)
+    trials.expect(["world", "/dev/stdin", "/dev/null"], *usual, given=(TOP / WORKED_SCRIPT).read_bytes())
+
+
+def try_refused(trials, text, fault, name=None):
+    """A script that is refused, with a new name for its recording and with one that stands there."""
+    script, stands = name or trials.file(text), trials.file(b"stays")
+    new = f"{stands}.new"
+    after(trials, ["world", script, new], (pages.fault(fault),), new, lambda left: left is None)
+    after(trials, ["world", script, stands], (pages.fault(fault),), stands, lambda left: left == b"stays")
+
+
+def try_faults(trials):
+    for text, fault in [
+        (b"", "script: bad-line at line 1"), (HEAD + b"fly 1:1\n", "script: bad-line at line 4"),
+        (HEAD + b"tick 1:1\r\n", "script: bad-line at line 4"), (HEAD + b"# \xc3\xa9\n", "script: bad-line at line 4"),
+        (HEAD + b"tick 3:3\n", "script: unknown-station at line 4"), (b"#" * 1_048_577, "script: bad-line at line 0"),
+        (HEAD + b"tick 1:1\ndeliver 0 2:3\n", "world: no-such-send at move 1"),
+        (HEAD + b"at 3\ntell 1:1 0\n", "world: no-such-entity at move 0"),
+        (HEAD + b"tell 1:1 65534\n", "world: no-such-entity at move 0"),
+        (HEAD + b"query 1:1 2:3:0" + b" 9" * 2039 + b"\n", "world: too-long at move 0"),
+        (b"exercise 1\nstation 1:1 first=4294967295 tries=1 wait=0\n" + b"create 1:1 2:3:7\n" * 2,
+         "world: ids-spent at move 1"),
+        (HEAD + b"".join(b"opening 1:1 %d running\n" % number for number in range(1, 4098)), "world: stations"),
+    ]:  # fmt: skip
+        try_refused(trials, text, fault)
+    try_refused(trials, None, "file: none", "none")
+    try_refused(trials, None, "script: read", "examples")
+    for name in ["examples", "none/there.dsrc", "", "x" * 300]:
+        trials.expect(["world", WORKED_SCRIPT, name], UNWRITTEN)
+    trials.expect(["world", WORKED_SCRIPT, "/dev/full"], UNWRITTEN)
+    trials.expect(["world", "/dev/zero", "new"], pages.fault("script: bad-line at line 0"))
+
+
+def changed_scripts():
+    """The script of the page with a line left out, given twice, moved to an end, or with a byte changed."""
+    lines = (TOP / WORKED_SCRIPT).read_bytes().splitlines(keepends=True)
+    for place, line in enumerate(lines):
+        rest = lines[:place] + lines[place + 1 :]
+        yield from (rest, [*lines[:place], line, *lines[place:]], [line, *rest], [*rest, line])
+        for old, new in [(b" ", b"  "), (b":", b" "), (b"1", b"0"), (b"1", b"65535"), (b"2:3", b"2:4"), (b"\n", b"")]:
+            yield [*lines[:place], line.replace(old, new), *lines[place + 1 :]]
+
+
+def try_changed(trials):
+    for number, lines in enumerate(changed_scripts()):
+        text = b"".join(lines)
+        fault = pages.script_fault(text)
+        accepted = pages.fault(f"script: {fault}") if fault else Ran()
+        trials.expect(["world", trials.file(text), f"changed.{number}.dsrc"], accepted)
+
+
+def try_unwritable(trials):
+    if os.geteuid() == 0:
+        trials.skipped.append("files that may not be written: root writes them anyway")
+        return
+    shut = trials.file(b"stays")
+    os.chmod(trials.folder / shut, 0o400)
+    after(trials, ["world", WORKED_SCRIPT, shut], (UNWRITTEN,), shut, lambda left: left == b"stays")
+
+
+def try_all(trials, _):
+    try_worked(trials)
+    try_faults(trials)
+    try_changed(trials)
+    try_unwritable(trials)

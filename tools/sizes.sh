@@ -1,6 +1,6 @@
 #!/bin/sh
 # Prints the table of sizes of docs/HOUSE.md: lines of code, definitions and proofs of each crate as wc counts them, and
-# the wrong bodies in must-fail; behind the sum the crate of the tests, by itself.
+# the wrong bodies in must-fail; behind the sum the crates of the cases and of the tests, by themselves.
 set -eu
 cd -- "$(dirname -- "$0")/../crates"
 
@@ -21,8 +21,13 @@ for name in *; do
         last=$(row "$tests" "$@")
         continue
     fi
+    if [ "$name" = siman_cases ]; then
+        cases="the program of the cases, \`$name\`: $(cat "$name"/data/*.cases | grep -c '^case ') of them, in $(cat "$name"/data/*.cases | wc -l) lines"
+        tried=$(row "$cases" "$@")
+        continue
+    fi
     row "\`$name\`" "$@"
     src=$((src + $1)) specs=$((specs + $2)) proofs=$((proofs + $3)) edits=$((edits + $4))
 done
 row 'in all' "$src" "$specs" "$proofs" "$edits"
-printf '%s\n' "$last"
+printf '%s\n' "$tried" "$last"

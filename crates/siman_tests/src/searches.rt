@@ -6,7 +6,7 @@ use crate::scenes::Done::{Received, Sent, Told};
 use crate::scenes::{ANSWERS, ASKS, Done, GETS, HEARS, add, started};
 use dis_records::EntityState;
 use exercise_audit::{Audit, Block, audit};
-use exercise_check::{NO_LINK, Step, check};
+use exercise_check::{Certificate, NO_LINK, Step, check};
 use exercise_model::{Cause, Recording};
 use std::alloc::Global;
 
@@ -98,4 +98,61 @@ fn a_station_that_can_go_on_is_not_blocked(rt: HostRuntime) {
         cause: Cause::WrongState,
     };
     assert!(rt; finds(rt.alloc(), &done, &Blocks(&[told])));
+}
+
+/// How many entries the recordings have of which all certificates are tried.
+const ENTRIES: u32 = 4;
+
+/// How many steps there are to try: each entry with each link, or with none.
+const CHOICES: u32 = ENTRIES * (ENTRIES + 1);
+
+/// The step of a number below the choices.
+fn chosen(number: u32) -> Step {
+    let link = number % (ENTRIES + 1);
+    let link = if link == ENTRIES { NO_LINK } else { link };
+    step(number / (ENTRIES + 1), link)
+}
+
+/// The certificate of a number: each digit to the base of the choices is a step.
+fn numbered(alloc: Global, number: u32) -> Option<Certificate> {
+    let mut steps = Vec::new(alloc);
+    let mut rest = number;
+    for _ in 0..ENTRIES {
+        steps.push(chosen(rest % CHOICES)).ok()?;
+        rest /= CHOICES;
+    }
+    Some(Certificate { steps })
+}
+
+/// How many of all certificates of so many steps the checker accepts.
+fn accepted(alloc: Global, log: &Recording) -> u32 {
+    let mut accepted = 0u32;
+    for number in 0..CHOICES * CHOICES * CHOICES * CHOICES {
+        if numbered(alloc, number).is_some_and(|tried| check(alloc, log, &tried).is_ok()) {
+            accepted = accepted.wrapping_add(1);
+        }
+    }
+    accepted
+}
+
+/// How many certificates explain what the two stations did.
+fn explanations(alloc: Global, done: &[Done<'_>]) -> Option<u32> {
+    Some(accepted(alloc, &recorded(alloc, done)?))
+}
+
+#[test]
+fn a_blocked_recording_is_explained_by_no_certificate(rt: HostRuntime) {
+    let alloc = rt.alloc();
+    let from_second = comment(NONE);
+    let waiting = [
+        Received(0, &from_second),
+        Sent(0, &FROM_FIRST),
+        Received(1, &FROM_FIRST),
+        Sent(1, &from_second),
+    ];
+    let told = [ASKS, GETS, Told(1, 7, EntityState::Stopped), ANSWERS];
+    let in_no_order = [GETS, ANSWERS, ASKS, HEARS];
+    assert_eq!(rt; explanations(alloc, &waiting), Some(0));
+    assert_eq!(rt; explanations(alloc, &told), Some(0));
+    assert_eq!(rt; explanations(alloc, &in_no_order), Some(1));
 }

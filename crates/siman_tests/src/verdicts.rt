@@ -1,7 +1,5 @@
-//! What is answered to certificates, good and bad, and what `check` prints of it.
+//! What is answered to certificates, good and bad, in memory.
 
 mod exchanges;
-mod histories;
-mod orders;
 mod said;
 mod states;

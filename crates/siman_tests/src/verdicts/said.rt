@@ -1,21 +1,19 @@
-//! What is said of certificates, in memory and as files.
+//! What is said of certificates, in memory.
 
-use crate::console::is_checked;
-use crate::scenes::{Done, Entities, Steps, add, files, started};
+use crate::scenes::{Done, Entities, Steps, add, started};
 use exercise_check::{Certificate, CheckFault, Checked, Step, check};
 use exercise_model::{Cause, ExerciseLog, Recording};
 use std::alloc::Global;
 
 /// What each run says: the entities of each station at the end, from station 0, each answer with
 /// the request that it takes up, each received Able with the change behind it, and how many
-/// datagrams are "other"; and the report that `check` prints.
+/// datagrams are "other".
 #[derive(Clone, Copy)]
 pub(crate) struct Account<'a> {
     pub(crate) entities: &'a [Entities<'a>],
     pub(crate) pairs: &'a [(usize, u32)],
     pub(crate) changes: &'a [(usize, u32)],
     pub(crate) others: u32,
-    pub(crate) report: &'a str,
 }
 
 /// What is said of a certificate: yes, or its first bad step and the cause.
@@ -101,47 +99,9 @@ fn is_said(
     }
 }
 
-/// The number and the name of a cause, as `check` prints them.
-fn printed(cause: Cause) -> &'static str {
-    match cause {
-        Cause::CountDiffers => "1 count-differs",
-        Cause::NoSuchRecord => "2 no-such-record",
-        Cause::OutOfOrder => "3 out-of-order",
-        Cause::BadLink => "4 bad-link",
-        Cause::WrongSender => "5 wrong-sender",
-        Cause::ReusedIdentifier => "6 reused-identifier",
-        Cause::NoRequest => "7 no-request",
-        Cause::WrongAnswer => "8 wrong-answer",
-        Cause::ChangedAnswer => "9 changed-answer",
-        Cause::Impossible => "10 impossible",
-        Cause::Stranger => "11 stranger",
-        Cause::NeverSent => "12 never-sent",
-        Cause::WrongState => "13 wrong-state",
-    }
-}
-
-/// Whether `check` prints this of two files, if there is memory for it.
-fn is_printed(
-    alloc: Global,
-    recording: &[u8],
-    certificate: &[u8],
-    said: &Said<'_>,
-) -> Option<bool> {
-    match *said {
-        Said::Yes(account) => {
-            Some(is_checked(alloc, recording, certificate, (0, account.report, "")))
-        }
-        Said::No(step, cause) => {
-            let cause = printed(cause);
-            let line = format!(in alloc; "no step={step} cause={cause}\n").ok()?;
-            Some(is_checked(alloc, recording, certificate, (1, &line, "")))
-        }
-    }
-}
-
-/// Whether this is said of a certificate of what stations with these openings did, in memory and
-/// as files, if there is memory for both.
-fn is_said_both_ways(
+/// Whether this is said of a certificate of what stations with these openings did, if there is
+/// memory for it.
+fn is_said_of(
     alloc: Global,
     openings: &[Entities<'_>],
     done: &[Done<'_>],
@@ -150,10 +110,7 @@ fn is_said_both_ways(
     let (then, steps, said) = *row;
     let recording = recorded(alloc, openings, done, then)?;
     let certificate = certificate(alloc, steps)?;
-    let recording_file = files::recording(alloc, openings, done, then)?;
-    let certificate_file = files::certificate(alloc, steps)?;
-    let printed = is_printed(alloc, &recording_file, &certificate_file, &said)?;
-    Some(printed && is_said(alloc, &recording, &certificate, &said))
+    Some(is_said(alloc, &recording, &certificate, &said))
 }
 
 /// Of certificates for what stations with these openings did, and then did at last: the number of
@@ -165,7 +122,7 @@ pub(crate) fn first_otherwise(
     rows: &[Row<'_>],
 ) -> Option<usize> {
     for (i, row) in rows.iter().enumerate() {
-        if is_said_both_ways(alloc, openings, done, row) != Some(true) {
+        if is_said_of(alloc, openings, done, row) != Some(true) {
             return Some(i);
         }
     }

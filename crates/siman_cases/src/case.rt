@@ -1,0 +1,204 @@
+//! A case, as its lines fill it.
+
+use crate::calls::{Calls, WELL};
+use crate::lines::{Line, Part};
+use crate::shelf::File;
+use std::alloc::Global;
+use std::io;
+use std::io::ErrorKind;
+
+/// Bytes that are given or must be left, and how the calls go that read or write them.
+#[derive(Drop)]
+pub(crate) struct Stream {
+    pub(crate) bytes: Vec<u8>,
+    pub(crate) calls: Calls,
+}
+
+fn empty(alloc: Global) -> Stream {
+    Stream {
+        bytes: Vec::new(alloc),
+        calls: WELL,
+    }
+}
+
+/// What the program is given, and what it must leave.
+#[derive(Drop)]
+pub(crate) struct Case {
+    alloc: Global,
+    pub(crate) name: String,
+    /// The words behind the program's name, each as bytes of UTF-8.
+    pub(crate) words: Vec<Vec<u8>>,
+    pub(crate) unread: Option<ErrorKind>,
+    pub(crate) files: Vec<File>,
+    pub(crate) input: Stream,
+    pub(crate) out: Stream,
+    pub(crate) errors: Stream,
+    pub(crate) left: Stream,
+    /// Whether a file must be left.
+    pub(crate) is_left: bool,
+    pub(crate) asked: Option<String>,
+    pub(crate) status: u8,
+    pub(crate) half_told: bool,
+    part: Part,
+}
+
+/// The case before the first, with no files.
+pub(crate) fn first(alloc: Global) -> Case {
+    Case {
+        alloc,
+        name: String::new(alloc),
+        words: Vec::new(alloc),
+        unread: None,
+        files: Vec::new(alloc),
+        input: empty(alloc),
+        out: empty(alloc),
+        errors: empty(alloc),
+        left: empty(alloc),
+        is_left: false,
+        asked: None,
+        status: 0,
+        half_told: false,
+        part: Part::Out,
+    }
+}
+
+impl Case {
+    /// A case of a name with the files of this one, of which nothing else is said so far.
+    fn next(&mut self, name: &str) -> io::Result<()> {
+        self.name = String::from_str(self.alloc, name)?;
+        self.words = Vec::new(self.alloc);
+        self.unread = None;
+        self.input = empty(self.alloc);
+        self.out = empty(self.alloc);
+        self.errors = empty(self.alloc);
+        self.left = empty(self.alloc);
+        self.is_left = false;
+        self.asked = None;
+        self.status = 0;
+        self.half_told = false;
+        self.part = Part::Out;
+        Ok(())
+    }
+
+    /// The bytes that the lines behind it fill.
+    fn filled(&mut self) -> Option<&mut Vec<u8>> {
+        match self.part {
+            Part::Word => self.words.last_mut(),
+            Part::File => match self.files.last_mut() {
+                Some(file) => Some(&mut file.bytes),
+                None => None,
+            },
+            Part::Input => Some(&mut self.input.bytes),
+            Part::Out => Some(&mut self.out.bytes),
+            Part::Errors => Some(&mut self.errors.bytes),
+            Part::Left => Some(&mut self.left.bytes),
+        }
+    }
+
+    fn add(&mut self, bytes: &[u8]) -> io::Result<bool> {
+        match self.filled() {
+            Some(filled) => {
+                filled.extend_from_slice(bytes)?;
+                Ok(true)
+            }
+            None => Ok(false),
+        }
+    }
+
+    fn add_times(&mut self, times: u32, text: &str) -> io::Result<bool> {
+        let mut added = true;
+        for _ in 0..times {
+            added = self.add(text.as_bytes())? && added;
+        }
+        Ok(added)
+    }
+
+    fn add_hex(&mut self, text: &str) -> io::Result<bool> {
+        let mut added = true;
+        for digits in text.split(' ') {
+            added = match hex::decode(self.alloc, digits) {
+                Ok(bytes) => self.add(&bytes)? && added,
+                Err(_) => false,
+            };
+        }
+        Ok(added)
+    }
+
+    fn add_words(&mut self, text: &str) -> io::Result<()> {
+        for word in text.split(' ') {
+            self.words
+                .push(Vec::from_slice(self.alloc, word.as_bytes())?)?;
+        }
+        Ok(())
+    }
+
+    fn add_file(&mut self, name: &str, shut: Option<ErrorKind>) -> io::Result<()> {
+        let file = File {
+            name: String::from_str(self.alloc, name)?,
+            bytes: Vec::new(self.alloc),
+            calls: WELL,
+            shut,
+        };
+        self.files.push(file)?;
+        self.part = Part::File;
+        Ok(())
+    }
+
+    fn begin(&mut self, part: Part) -> io::Result<()> {
+        if part == Part::Word {
+            self.words.push(Vec::new(self.alloc))?;
+        }
+        self.is_left = self.is_left || part == Part::Left;
+        self.part = part;
+        Ok(())
+    }
+
+    fn set_calls(&mut self, calls: Calls) -> bool {
+        match self.part {
+            Part::Word => return false,
+            Part::File => match self.files.last_mut() {
+                Some(file) => file.calls = calls,
+                None => return false,
+            },
+            Part::Input => self.input.calls = calls,
+            Part::Out => self.out.calls = calls,
+            Part::Errors => self.errors.calls = calls,
+            Part::Left => self.left.calls = calls,
+        }
+        true
+    }
+
+    fn ask(&mut self, name: &str) -> io::Result<()> {
+        let mut asked = match self.asked.take() {
+            Some(asked) => asked,
+            None => String::new(self.alloc),
+        };
+        asked.push_str(name)?;
+        asked.push('\n')?;
+        self.asked = Some(asked);
+        Ok(())
+    }
+
+    /// Takes what a line says; false where it can't stand here.
+    pub(crate) fn take(&mut self, line: &Line<'_>) -> io::Result<bool> {
+        match *line {
+            Line::Nothing => {}
+            Line::Case(name) => self.next(name)?,
+            Line::Words(words) => self.add_words(words)?,
+            Line::Unread(kind) => self.unread = Some(kind),
+            Line::File(name) => self.add_file(name, None)?,
+            Line::Shut(name, kind) => self.add_file(name, Some(kind))?,
+            Line::Begin(part) => self.begin(part)?,
+            Line::Text(text) => return Ok(self.add(text.as_bytes())? && self.add(b"\n")?),
+            Line::Piece(text) => return self.add(text.as_bytes()),
+            Line::Times(times, text) => return self.add_times(times, text),
+            Line::Hex(text) => return self.add_hex(text),
+            Line::Calls(calls) => return Ok(self.set_calls(calls)),
+            Line::Asked(name) => self.ask(name)?,
+            Line::Status(status) => self.status = status,
+            Line::AskedNothing => self.asked = Some(String::new(self.alloc)),
+            Line::HalfTold => self.half_told = true,
+        }
+        Ok(true)
+    }
+}

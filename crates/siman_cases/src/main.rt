@@ -1,0 +1,69 @@
+//! Tries `siman` on cases, which are data: files that say what the program is given, and what it
+//! must leave. It prints what is otherwise, and for each file how many cases were tried.
+//!
+//! A file of cases is a text of lines. `#` begins a comment, and an empty line says nothing.
+//!
+//! | Line | What it says |
+//! |---|---|
+//! | `case NAME` | here a case begins; files stay for the cases behind it, all else begins anew |
+//! | `words WORD..` | the words of the command line behind the program's name, one space between |
+//! | `word` | one word more, which the lines behind it fill |
+//! | `unread KIND` | the words can't be had: `utf8` or `memory` |
+//! | `file NAME` | a file of that name, which the lines behind it fill |
+//! | `shut NAME`, `full NAME` | a file that can't be opened or made: no permission, no memory |
+//! | `input`, `out`, `errors`, `left` | the lines behind it fill standard input, what must be out, what must be told of faults, what the file must hold that is made |
+//! | `text TEXT`, `piece TEXT` | a line with its line end, a text without |
+//! | `times N TEXT` | a text so many times |
+//! | `hex HEX..` | bytes as pairs of hex digits |
+//! | `calls MOST AT KIND` | each call reads or writes at most so many bytes, and the call of this number fails, from 1: `other`, `interrupted`, or `nothing`, where it takes none |
+//! | `asked NAME`, `asked make NAME` | the next file that must be opened, or made |
+//! | `asked-nothing` | no file must be opened or made |
+//! | `status N` | the status that must be answered |
+//! | `half-told` | what is told of faults can't be written whole |
+#![tactic(auto)]
+
+mod calls;
+mod case;
+mod lines;
+mod shelf;
+mod trial;
+
+use crate::trial::{Tally, try_cases};
+use std::alloc::Global;
+use std::io::Write;
+use std::process::ExitCode;
+use std::{env, fs, io};
+
+/// Tries the cases of a file, and prints how many they were.
+fn try_file(rt: &HostRuntime, alloc: Global, name: &str) -> io::Result<bool> {
+    let text = fs::read_to_string(rt, name)?;
+    let mut out = rt.stdout();
+    let tally = try_cases(alloc, &text, &mut out)?;
+    let Tally {
+        tried,
+        otherwise,
+        ..
+    } = tally;
+    match tally.unread {
+        None => writeln!(out, "{name}: {tried} tried, {otherwise} otherwise")?,
+        Some(line) => writeln!(out, "{name}: line {line} can't be read")?,
+    }
+    Ok(otherwise == 0 && tally.unread.is_none())
+}
+
+/// Tries the files that the words of the command line name.
+fn try_files(rt: &HostRuntime, alloc: Global) -> io::Result<bool> {
+    let mut good = true;
+    for name in env::args(rt)?.skip(1) {
+        good = try_file(rt, alloc, &name)? && good;
+    }
+    Ok(good)
+}
+
+fn main(rt: HostRuntime) -> ExitCode {
+    match try_files(&rt, rt.alloc()) {
+        Ok(true) => ExitCode::from(0),
+        Ok(false) => ExitCode::from(1),
+        Err(_) => ExitCode::from(2),
+    }
+}

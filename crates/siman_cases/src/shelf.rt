@@ -1,0 +1,82 @@
+//! Files in memory, and what was asked for.
+
+use crate::calls::{Calls, Given, Kept, read_from, write_to};
+use siman_console::Outside;
+use std::alloc::Global;
+use std::io;
+use std::io::ErrorKind;
+
+/// A file that stands under a name, and how its calls go.
+#[derive(Drop)]
+pub(crate) struct File {
+    pub(crate) name: String,
+    pub(crate) bytes: Vec<u8>,
+    pub(crate) calls: Calls,
+    /// Why it can't be opened or made.
+    pub(crate) shut: Option<ErrorKind>,
+}
+
+/// Files, what was asked for, each with a line end (the name of a file to be opened, `make` and the
+/// name of one to be made), and what the file that was made was left with.
+#[derive(Drop)]
+pub(crate) struct Shelf<'a> {
+    alloc: Global,
+    files: &'a [File],
+    /// How the calls of a file that is made go.
+    makes: Calls,
+    pub(crate) asked: String,
+    pub(crate) left: Option<Vec<u8>>,
+}
+
+/// A shelf with these files, of which nothing was asked so far.
+pub(crate) fn filled(alloc: Global, files: &[File], makes: Calls) -> Shelf<'_> {
+    Shelf {
+        alloc,
+        files,
+        makes,
+        asked: String::new(alloc),
+        left: None,
+    }
+}
+
+/// The last file of a name.
+fn found<'a>(files: &'a [File], name: &str) -> Option<&'a File> {
+    files.iter().rfind(|file| file.name.as_str() == name)
+}
+
+impl<'a> Outside for Shelf<'a> {
+    type File = Given<'a>;
+
+    type Made = Kept;
+
+    fn open(&mut self, name: &str) -> io::Result<Given<'a>> {
+        self.asked.push_str(name)?;
+        self.asked.push('\n')?;
+        let Some(file) = found(self.files, name) else {
+            return Err(io::Error::from(ErrorKind::NotFound));
+        };
+        match file.shut {
+            None => Ok(read_from(&file.bytes, file.calls)),
+            Some(kind) => Err(io::Error::from(kind)),
+        }
+    }
+
+    fn make(&mut self, name: &str) -> io::Result<Kept> {
+        self.asked.push_str("make ")?;
+        self.asked.push_str(name)?;
+        self.asked.push('\n')?;
+        match found(self.files, name) {
+            Some(
+                File {
+                    shut: Some(kind),
+                    ..
+                },
+            ) => Err(io::Error::from(*kind)),
+            _ => Ok(write_to(self.alloc, self.makes)),
+        }
+    }
+
+    fn close(&mut self, file: Kept) {
+        self.left = Some(file.bytes);
+    }
+}

@@ -1,0 +1,160 @@
+//! Runs cases, and tells what is otherwise.
+
+use crate::calls::{Kept, read_from, write_to};
+use crate::case::{Case, first};
+use crate::lines::{Line, read_line};
+use crate::shelf::{Shelf, filled};
+use siman_console::{Ended, run};
+use std::alloc::Global;
+use std::io;
+use std::io::Write;
+
+/// How many cases of a file were tried, how many went otherwise, and the first line that can't be
+/// read, from 1.
+#[derive(Clone, Copy, Debug, PartialEq, Eq)]
+pub(crate) struct Tally {
+    pub(crate) tried: u32,
+    pub(crate) otherwise: u32,
+    pub(crate) unread: Option<usize>,
+}
+
+/// The words of a case, as the program gets them.
+fn words(alloc: Global, case: &Case) -> io::Result<Vec<String>> {
+    if let Some(kind) = case.unread {
+        return Err(io::Error::from(kind));
+    }
+    let mut words = Vec::new(alloc);
+    words.push(String::from_str(alloc, "siman")?)?;
+    for word in &case.words {
+        words.push(String::from_utf8_lossy(alloc, word)?)?;
+    }
+    Ok(words)
+}
+
+/// What a run left.
+#[derive(Drop)]
+struct Outcome<'a> {
+    ended: Ended,
+    shelf: Shelf<'a>,
+    out: Kept,
+    errors: Kept,
+}
+
+/// Runs the program on a case.
+fn run_case(alloc: Global, case: &Case) -> Outcome<'_> {
+    let mut shelf = filled(alloc, &case.files, case.left.calls);
+    let mut out = write_to(alloc, case.out.calls);
+    let mut errors = write_to(alloc, case.errors.calls);
+    let input = read_from(&case.input.bytes, case.input.calls);
+    let words = words(alloc, case);
+    let ended = run(alloc, words, &mut shelf, input, &mut out, &mut errors);
+    Outcome {
+        ended,
+        shelf,
+        out,
+        errors,
+    }
+}
+
+/// Prints what was left where it is otherwise.
+fn compare<W: Write>(
+    name: &str,
+    part: &str,
+    left: &[u8],
+    wanted: &[u8],
+    out: &mut W,
+) -> io::Result<bool> {
+    if left == wanted {
+        return Ok(true);
+    }
+    writeln!(out, "{name}: {part} is otherwise:")?;
+    out.write_all(left)?;
+    Ok(false)
+}
+
+/// Prints the status where it is otherwise.
+fn compare_ended<W: Write>(case: &Case, ended: Ended, out: &mut W) -> io::Result<bool> {
+    let (name, status, half) = (&case.name, ended.status, ended.written.is_err());
+    if status == case.status && half == case.half_told {
+        return Ok(true);
+    }
+    writeln!(out, "{name}: status {status}, half-told {half}")?;
+    Ok(false)
+}
+
+/// Prints which files were asked for, or left, where it is otherwise.
+fn compare_files<W: Write>(case: &Case, shelf: &Shelf<'_>, out: &mut W) -> io::Result<bool> {
+    let name = &case.name;
+    let asked = match &case.asked {
+        Some(asked) => compare(name, "asked", shelf.asked.as_bytes(), asked.as_bytes(), out)?,
+        None => true,
+    };
+    let left = match (&shelf.left, case.is_left) {
+        (Some(left), true) => compare(name, "left", left, &case.left.bytes, out)?,
+        (None, false) => true,
+        (Some(left), false) => compare(name, "left", left, b"no file", out)?,
+        (None, true) => compare(name, "left", b"no file\n", &case.left.bytes, out)?,
+    };
+    Ok(asked && left)
+}
+
+/// Runs the program on a case, and prints what is otherwise; whether nothing is.
+fn try_case<W: Write>(alloc: Global, case: &Case, out: &mut W) -> io::Result<bool> {
+    let left = run_case(alloc, case);
+    let name = &case.name;
+    let ended = compare_ended(case, left.ended, out)?;
+    let answered = compare(name, "out", &left.out.bytes, &case.out.bytes, out)?;
+    let told = compare(name, "errors", &left.errors.bytes, &case.errors.bytes, out)?;
+    let files = compare_files(case, &left.shelf, out)?;
+    Ok(ended && answered && told && files)
+}
+
+impl Tally {
+    /// Tries a case that is whole; before the first there is none.
+    fn add<W: Write>(&mut self, alloc: Global, case: &Case, out: &mut W) -> io::Result<()> {
+        if case.name.is_empty() {
+            return Ok(());
+        }
+        let good = try_case(alloc, case, out)?;
+        self.tried = self.tried.saturating_add(1);
+        if !good {
+            self.otherwise = self.otherwise.saturating_add(1);
+        }
+        Ok(())
+    }
+
+    /// Takes a line: a case that it ends is tried.
+    fn take<W: Write>(
+        &mut self,
+        alloc: Global,
+        case: &mut Case,
+        line: &str,
+        out: &mut W,
+    ) -> io::Result<bool> {
+        let Some(line) = read_line(line) else {
+            return Ok(false);
+        };
+        if matches!(line, Line::Case(_)) {
+            self.add(alloc, case, out)?;
+        }
+        case.take(&line)
+    }
+}
+
+/// Tries the cases of a text, and prints what is otherwise.
+pub(crate) fn try_cases<W: Write>(alloc: Global, text: &str, out: &mut W) -> io::Result<Tally> {
+    let mut tally = Tally {
+        tried: 0,
+        otherwise: 0,
+        unread: None,
+    };
+    let mut case = first(alloc);
+    for (i, line) in text.lines().enumerate() {
+        if !tally.take(alloc, &mut case, line, out)? {
+            tally.unread = Some(i.saturating_add(1));
+            return Ok(tally);
+        }
+    }
+    tally.add(alloc, &case, out)?;
+    Ok(tally)
+}

@@ -5,7 +5,7 @@ use std::io;
 use std::io::{ErrorKind, Read, Write};
 
 /// How the calls of a reader or a writer go.
-#[derive(Clone, Copy, Debug, PartialEq, Eq)]
+#[derive(Clone, Copy)]
 pub(crate) struct Calls {
     /// How many bytes a call takes at most.
     pub(crate) most: usize,

@@ -4,7 +4,7 @@ use crate::calls::Calls;
 use std::io::ErrorKind;
 
 /// What the lines behind it fill.
-#[derive(Clone, Copy, Debug, PartialEq, Eq)]
+#[derive(Clone, Copy, PartialEq, Eq)]
 pub(crate) enum Part {
     Word,
     File,
@@ -15,7 +15,7 @@ pub(crate) enum Part {
 }
 
 /// What a line says.
-#[derive(Clone, Copy, Debug, PartialEq, Eq)]
+#[derive(Clone, Copy)]
 pub(crate) enum Line<'a> {
     Nothing,
     Case(&'a str),

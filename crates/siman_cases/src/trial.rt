@@ -11,7 +11,7 @@ use std::io::Write;
 
 /// How many cases of a file were tried, how many went otherwise, and the first line that can't be
 /// read, from 1.
-#[derive(Clone, Copy, Debug, PartialEq, Eq)]
+#[derive(Clone, Copy)]
 pub(crate) struct Tally {
     pub(crate) tried: u32,
     pub(crate) otherwise: u32,

@@ -2,7 +2,7 @@
 
 mod datagrams;
 mod exchanges;
-mod refusals;
+mod sizes;
 mod views;
 
 use dis_records::EntityId;

@@ -1,6 +1,5 @@
 //! Scripts that are read, and texts that are refused.
 
-mod lines;
 mod texts;
 
 use crate::scripts::Deed::{
@@ -165,46 +164,6 @@ fn reads_as(
             && are_stations(&script.stations, stations)
             && are_rows(alloc, &script.moves, rows)?,
     )
-}
-
-/// A loss (the datagram 0), a copy (4 comes twice) and a swap (4 comes before 3).
-const WORKED: &str = "exercise 1
-station 1:1
-station 2:3
-create 1:1 2:3:7
-at 10
-tick 1:1
-deliver 1 2:3
-start 1:1 2:3:7
-stop 1:1 2:3:7
-deliver 4 2:3
-deliver 3 2:3
-deliver 4 2:3
-tell 2:3 7
-deliver 2 1:1
-deliver 6 1:1
-deliver 5 1:1
-";
-
-#[test]
-fn a_loss_a_copy_and_a_swap_are_read(rt: HostRuntime) -> Result<(), Fail> {
-    let stations = [(1, 1, 1, 3, 10, 0, 0, 0), (2, 3, 1, 3, 10, 0, 0, 0)];
-    let rows = [
-        (0, 0, Creates),
-        (10, 0, Ticks),
-        (10, 1, Delivers(1)),
-        (10, 0, Starts),
-        (10, 0, Stops),
-        (10, 1, Delivers(4)),
-        (10, 1, Delivers(3)),
-        (10, 1, Delivers(4)),
-        (10, 1, Tells(7)),
-        (10, 0, Delivers(2)),
-        (10, 0, Delivers(6)),
-        (10, 0, Delivers(5)),
-    ];
-    assert!(rt; reads_as(rt.alloc(), WORKED, 1, &stations, &rows)?);
-    Ok(())
 }
 
 /// Each form of line; empty lines and remarks are passed over, and the last line lacks its line

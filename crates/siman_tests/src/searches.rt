@@ -141,18 +141,29 @@ fn explanations(alloc: Global, done: &[Done<'_>]) -> Option<u32> {
 }
 
 #[test]
-fn a_blocked_recording_is_explained_by_no_certificate(rt: HostRuntime) {
-    let alloc = rt.alloc();
+fn stations_that_wait_for_each_other_have_no_explanation(rt: HostRuntime) {
     let from_second = comment(NONE);
-    let waiting = [
+    let done = [
         Received(0, &from_second),
         Sent(0, &FROM_FIRST),
         Received(1, &FROM_FIRST),
         Sent(1, &from_second),
     ];
-    let told = [ASKS, GETS, Told(1, 7, EntityState::Stopped), ANSWERS];
-    let in_no_order = [GETS, ANSWERS, ASKS, HEARS];
-    assert_eq!(rt; explanations(alloc, &waiting), Some(0));
-    assert_eq!(rt; explanations(alloc, &told), Some(0));
-    assert_eq!(rt; explanations(alloc, &in_no_order), Some(1));
+    assert_eq!(rt; explanations(rt.alloc(), &done), Some(0));
+}
+
+#[test]
+fn a_request_that_was_not_received_has_no_explanation(rt: HostRuntime) {
+    assert_eq!(rt;
+        explanations(rt.alloc(), &[ASKS, ASKS, ANSWERS, HEARS]),
+        Some(0)
+    );
+}
+
+#[test]
+fn entries_in_no_common_order_have_one_explanation(rt: HostRuntime) {
+    assert_eq!(rt;
+        explanations(rt.alloc(), &[GETS, ANSWERS, ASKS, HEARS]),
+        Some(1)
+    );
 }

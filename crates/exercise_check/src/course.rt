@@ -106,7 +106,7 @@ impl<'a, L: ExerciseLog> Course<'a, L> {
         ensures judged { IfOk result (λ progress. IfSome (slice_get self.old.recording.entries place) (GoesOn self.old self.new place progress)) }
         ensures memory { OnErr result (self.new ≡ self.old) }
     {
-        match judge(alloc, self.log, &self.steps, place)? {
+        match judge(self.log, &self.steps, place) {
             Judgement::Forbidden(cause) => Ok(Progress::Barred(cause)),
             Judgement::Allowed(link) => {
                 let link = link_number(link);

@@ -4,7 +4,8 @@
 //! It knows no station and no history. The layers above rest on [`decode`], which accepts exactly
 //! the grammar and answers the reading of a datagram, on [`view`], which shows the same in place
 //! and takes no memory, on [`encode`], which appends the canonical text of a PDU, and on exact
-//! tests: [`role`], [`same_order`], [`request_id`] and [`answers`].
+//! tests: [`role`], [`same_order`], [`request_id`] and [`answers`], which are asked of any
+//! [`Message`], a PDU or the view of one.
 #![tactic(auto)]
 
 mod datums;

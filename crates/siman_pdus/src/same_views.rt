@@ -97,11 +97,11 @@ fn same_shown_body(left: &BodyView<'_>, right: &BodyView<'_>) -> bool
         (
             BodyView::StartResume { real, sim, request },
             BodyView::StartResume {
-                real: real2,
-                sim: sim2,
-                request: request2,
+                real: other_real,
+                sim: other_sim,
+                request: other_request,
             },
-        ) => real == real2 && (sim == sim2 && request == request2),
+        ) => real == other_real && (sim == other_sim && request == other_request),
         (
             BodyView::StopFreeze {
                 real,
@@ -110,13 +110,14 @@ fn same_shown_body(left: &BodyView<'_>, right: &BodyView<'_>) -> bool
                 request,
             },
             BodyView::StopFreeze {
-                real: real2,
-                reason: reason2,
-                behaviour: behaviour2,
-                request: request2,
+                real: other_real,
+                reason: other_reason,
+                behaviour: other_behaviour,
+                request: other_request,
             },
-        ) => real == real2
-            && (reason == reason2 && (behaviour == behaviour2 && request == request2)),
+        ) => real == other_real
+            && (reason == other_reason
+                && (behaviour == other_behaviour && request == other_request)),
         (
             BodyView::Acknowledge {
                 flag,
@@ -124,11 +125,11 @@ fn same_shown_body(left: &BodyView<'_>, right: &BodyView<'_>) -> bool
                 request,
             },
             BodyView::Acknowledge {
-                flag: flag2,
-                response: response2,
-                request: request2,
+                flag: other_flag,
+                response: other_response,
+                request: other_request,
             },
-        ) => flag == flag2 && (response == response2 && request == request2),
+        ) => flag == other_flag && (response == other_response && request == other_request),
         (
             BodyView::ActionRequest {
                 request,
@@ -136,11 +137,12 @@ fn same_shown_body(left: &BodyView<'_>, right: &BodyView<'_>) -> bool
                 datums,
             },
             BodyView::ActionRequest {
-                request: request2,
-                action: action2,
-                datums: datums2,
+                request: other_request,
+                action: other_action,
+                datums: other_datums,
             },
-        ) => request == request2 && (action == action2 && same_shown_datums(datums, datums2)),
+        ) => request == other_request
+            && (action == other_action && same_shown_datums(datums, other_datums)),
         (
             BodyView::ActionResponse {
                 request,
@@ -148,11 +150,12 @@ fn same_shown_body(left: &BodyView<'_>, right: &BodyView<'_>) -> bool
                 datums,
             },
             BodyView::ActionResponse {
-                request: request2,
-                result: result2,
-                datums: datums2,
+                request: other_request,
+                result: other_result,
+                datums: other_datums,
             },
-        ) => request == request2 && (result == result2 && same_shown_datums(datums, datums2)),
+        ) => request == other_request
+            && (result == other_result && same_shown_datums(datums, other_datums)),
         (
             BodyView::DataQuery {
                 request,
@@ -160,35 +163,39 @@ fn same_shown_body(left: &BodyView<'_>, right: &BodyView<'_>) -> bool
                 ids,
             },
             BodyView::DataQuery {
-                request: request2,
-                interval: interval2,
-                ids: ids2,
+                request: other_request,
+                interval: other_interval,
+                ids: other_ids,
             },
-        ) => request == request2 && (interval == interval2 && same_shown_ids(ids, ids2)),
+        ) => request == other_request
+            && (interval == other_interval && same_shown_ids(ids, other_ids)),
         (
             BodyView::SetData { request, datums },
             BodyView::SetData {
-                request: request2,
-                datums: datums2,
+                request: other_request,
+                datums: other_datums,
             },
-        ) => request == request2 && same_shown_datums(datums, datums2),
+        ) => request == other_request && same_shown_datums(datums, other_datums),
         (
             BodyView::DataPdu { request, datums },
             BodyView::DataPdu {
-                request: request2,
-                datums: datums2,
+                request: other_request,
+                datums: other_datums,
             },
-        ) => request == request2 && same_shown_datums(datums, datums2),
+        ) => request == other_request && same_shown_datums(datums, other_datums),
         (
             BodyView::EventReport { event, datums },
             BodyView::EventReport {
-                event: event2,
-                datums: datums2,
+                event: other_event,
+                datums: other_datums,
             },
-        ) => event == event2 && same_shown_datums(datums, datums2),
-        (BodyView::Comment { datums }, BodyView::Comment { datums: datums2 }) => same_shown_datums(
-            datums, datums2,
-        ),
+        ) => event == other_event && same_shown_datums(datums, other_datums),
+        (
+            BodyView::Comment { datums },
+            BodyView::Comment {
+                datums: other_datums,
+            },
+        ) => same_shown_datums(datums, other_datums),
         _ => false,
     }
 }

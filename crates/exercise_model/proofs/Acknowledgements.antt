@@ -1,6 +1,6 @@
 -- What an Acknowledge says gives its key and its response flag.
 use Rattle.std.proofs.Common.{◌≡◌, refl}
-use Rattle.std.specs.Prelude.{Option, option_map, ℕ}
+use Rattle.std.specs.Prelude.{option_map}
 use Rattle.siman_pdus.specs.declared.message.Acknowledgement.{Acknowledgement}
 use Rattle.siman_pdus.specs.declared.pdu.Body.{Body}
 use Rattle.siman_pdus.specs.declared.pdu.Body.TheVariants.{CreateEntity, RemoveEntity, StartResume, StopFreeze, Acknowledge, ActionRequest, ActionResponse, DataQuery, SetData, DataPdu, EventReport, Comment}

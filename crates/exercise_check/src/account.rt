@@ -2,6 +2,7 @@
 //! question.
 
 ghost use Rattle.std.specs.Prelude.{◌≡◌, ◌<◌, ◌+◌, length, map, IfOk, IfSome, if◌then◌else◌};
+ghost use Rattle.siman_pdus.specs.Reading.{pdu_of};
 ghost use Rattle.exercise_model.specs.Held.{shown};
 ghost use Rattle.exercise_check.specs.Checked.{TellsAccount};
 ghost use Rattle.exercise_model.specs.Account.{pair_of, sender_of, first_able, change_behind_pdu, change_behind, is_other, others_of, entities_of, values_below};
@@ -12,9 +13,9 @@ use crate::link::pair_of_sent;
 use crate::state::entities;
 use dis_records::EntityState;
 use exercise_model::{
-    AcknowledgeKey, EntryView, ExerciseLog, is_from, key_of, meaning_of, responds,
+    AcknowledgeKey, EntryView, ExerciseLog, is_from, key_of, meaning_view, responds,
 };
-use siman_pdus::{ABLE, Pdu};
+use siman_pdus::{ABLE, PduView};
 use std::alloc::{AllocError, Global};
 
 /// The number of an entry, which every one is in 32 bits.
@@ -30,28 +31,24 @@ fn number(entry: Option<usize>) -> Option<u32>
 
 /// The entry of the request that an entry's answer takes up, where it is an answer that was sent.
 #[tactic(auto, unfolding(exercise_model::specs::Account::pair_of))]
-fn pair_of<L: ExerciseLog>(
-    alloc: Global,
-    log: &L,
-    entry: usize,
-) -> Result<Option<usize>, AllocError>
+fn pair_of<L: ExerciseLog>(log: &L, entry: usize) -> Option<usize>
     requires { entry < length (L.recording log.now).entries }
-    ensures pair { IfOk result (λ pair. pair ≡ pair_of (L.recording log.now) entry) }
-    ensures within { IfOk result (λ pair. IfSome pair (λ e. e < length (L.recording log.now).entries)) }
+    ensures pair { result ≡ pair_of (L.recording log.now) entry }
+    ensures within { IfSome result (λ e. e < length (L.recording log.now).entries) }
 {
     match log.entry(entry) {
-        EntryView::Sent { station, bytes, .. } => match meaning_of(alloc, log.exercise(), bytes)? {
-            Some(pdu) => pair_of_sent(alloc, log, usize::from(station), entry, &pdu),
-            None => Ok(None),
+        EntryView::Sent { station, bytes, .. } => match meaning_view(log.exercise(), bytes) {
+            Some(pdu) => pair_of_sent(log, usize::from(station), entry, &pdu),
+            None => None,
         },
-        EntryView::Received { .. } | EntryView::Told { .. } => Ok(None),
+        EntryView::Received { .. } | EntryView::Told { .. } => None,
     }
 }
 
 /// The recorded station that a PDU comes from.
 #[tactic(auto, unfolding(exercise_model::specs::Account::sender_of), using(exercise_model::proofs::Offered::account_steps))]
-fn sender_of<L: ExerciseLog>(log: &L, pdu: &Pdu) -> Option<usize>
-    ensures { result ≡ sender_of (L.recording log.now) pdu.now }
+fn sender_of<L: ExerciseLog>(log: &L, pdu: &PduView<'_>) -> Option<usize>
+    ensures { result ≡ sender_of (L.recording log.now) (pdu_of pdu.now) }
 {
     let mut found = None;
     for station in 0..log.station_count() {
@@ -64,88 +61,75 @@ fn sender_of<L: ExerciseLog>(log: &L, pdu: &Pdu) -> Option<usize>
 
 /// The entry of the first Able that a station sends under a key.
 #[tactic(auto, unfolding(exercise_model::specs::Account::first_able), using(exercise_model::proofs::Offered::account_steps))]
-fn first_able<L: ExerciseLog>(
-    alloc: Global,
-    log: &L,
-    key: &AcknowledgeKey,
-    station: usize,
-) -> Result<Option<usize>, AllocError>
-    ensures able { IfOk result (λ able. able ≡ first_able (L.recording log.now) key.now station) }
-    ensures within { IfOk result (λ able. IfSome able (λ e. e < length (L.recording log.now).entries)) }
+fn first_able<L: ExerciseLog>(log: &L, key: &AcknowledgeKey, station: usize) -> Option<usize>
+    ensures able { result ≡ first_able (L.recording log.now) key.now station }
+    ensures within { IfSome result (λ e. e < length (L.recording log.now).entries) }
 {
     let mut found = None;
     for entry in 0..log.entry_count() {
-        if found.is_none() && acknowledges(alloc, log, station, ABLE, key, entry)? {
+        if found.is_none() && acknowledges(log, station, ABLE, key, entry) {
             found = Some(entry);
         }
     }
-    Ok(found)
+    found
 }
 
 /// The entry of the first Able under the key of a PDU that its originator's station sent, where
 /// the PDU is an Able Acknowledge.
-fn change_behind_pdu<L: ExerciseLog>(
-    alloc: Global,
-    log: &L,
-    pdu: &Pdu,
-) -> Result<Option<usize>, AllocError>
-    ensures change { IfOk result (λ change. change ≡ change_behind_pdu (L.recording log.now) pdu.now) }
-    ensures within { IfOk result (λ change. IfSome change (λ e. e < length (L.recording log.now).entries)) }
+fn change_behind_pdu<L: ExerciseLog>(log: &L, pdu: &PduView<'_>) -> Option<usize>
+    ensures change { result ≡ change_behind_pdu (L.recording log.now) (pdu_of pdu.now) }
+    ensures within { IfSome result (λ e. e < length (L.recording log.now).entries) }
 {
     match key_of(pdu) {
         Some(key) if responds(ABLE, pdu) => match sender_of(log, pdu) {
-            Some(station) => first_able(alloc, log, &key, station),
-            None => Ok(None),
+            Some(station) => first_able(log, &key, station),
+            None => None,
         },
-        _ => Ok(None),
+        _ => None,
     }
 }
 
 /// The change behind an entry, where it is an Able Acknowledge that was received.
 #[tactic(auto, unfolding(exercise_model::specs::Account::change_behind))]
-fn change_behind<L: ExerciseLog>(
-    alloc: Global,
-    log: &L,
-    entry: usize,
-) -> Result<Option<usize>, AllocError>
+fn change_behind<L: ExerciseLog>(log: &L, entry: usize) -> Option<usize>
     requires { entry < length (L.recording log.now).entries }
-    ensures change { IfOk result (λ change. change ≡ change_behind (L.recording log.now) entry) }
-    ensures within { IfOk result (λ change. IfSome change (λ e. e < length (L.recording log.now).entries)) }
+    ensures change { result ≡ change_behind (L.recording log.now) entry }
+    ensures within { IfSome result (λ e. e < length (L.recording log.now).entries) }
 {
     match log.entry(entry) {
-        EntryView::Received { bytes, .. } => match meaning_of(alloc, log.exercise(), bytes)? {
-            Some(pdu) => change_behind_pdu(alloc, log, &pdu),
-            None => Ok(None),
+        EntryView::Received { bytes, .. } => match meaning_view(log.exercise(), bytes) {
+            Some(pdu) => change_behind_pdu(log, &pdu),
+            None => None,
         },
-        EntryView::Sent { .. } | EntryView::Told { .. } => Ok(None),
+        EntryView::Sent { .. } | EntryView::Told { .. } => None,
     }
 }
 
 /// 1 for an entry that has a datagram that is "other", and 0 for every other entry.
-fn count_other(alloc: Global, exercise: u8, entry: &EntryView<'_>) -> Result<u32, AllocError>
-    ensures { IfOk result (λ count. count ≡ (if is_other exercise (shown entry.now) then 1 else 0)) }
+fn count_other(exercise: u8, entry: &EntryView<'_>) -> u32
+    ensures { result ≡ (if is_other exercise (shown entry.now) then 1 else 0) }
 {
     match entry {
         EntryView::Sent { bytes, .. } | EntryView::Received { bytes, .. } => {
-            match meaning_of(alloc, exercise, bytes)? {
-                Some(_) => Ok(0),
-                None => Ok(1),
+            match meaning_view(exercise, bytes) {
+                Some(_) => 0,
+                None => 1,
             }
         }
-        EntryView::Told { .. } => Ok(0),
+        EntryView::Told { .. } => 0,
     }
 }
 
 /// How many datagrams are "other".
 #[tactic(auto, unfolding(exercise_model::specs::Account::others_of))]
-fn others<L: ExerciseLog>(alloc: Global, log: &L) -> Result<u32, AllocError>
-    ensures { IfOk result (λ others. others ≡ others_of (L.recording log.now)) }
+fn others<L: ExerciseLog>(log: &L) -> u32
+    ensures { result ≡ others_of (L.recording log.now) }
 {
     let mut others = 0;
     for i in 0..log.entry_count() {
-        others += count_other(alloc, log.exercise(), &log.entry(i))?;
+        others += count_other(log.exercise(), &log.entry(i));
     }
-    Ok(others)
+    others
 }
 
 /// The pair of each entry.
@@ -155,7 +139,7 @@ fn pairs<L: ExerciseLog>(alloc: Global, log: &L) -> Result<Vec<Option<u32>>, All
 {
     let mut pairs = Vec::new(alloc);
     for entry in 0..log.entry_count() {
-        pairs.push(number(pair_of(alloc, log, entry)?))?;
+        pairs.push(number(pair_of(log, entry)))?;
     }
     Ok(pairs)
 }
@@ -167,7 +151,7 @@ fn changes<L: ExerciseLog>(alloc: Global, log: &L) -> Result<Vec<Option<u32>>, A
 {
     let mut changes = Vec::new(alloc);
     for entry in 0..log.entry_count() {
-        changes.push(number(change_behind(alloc, log, entry)?))?;
+        changes.push(number(change_behind(log, entry)))?;
     }
     Ok(changes)
 }
@@ -193,6 +177,6 @@ pub(crate) fn account<L: ExerciseLog>(alloc: Global, log: &L) -> Result<Checked,
 {
     let pairs = pairs(alloc, log)?;
     let causes = changes(alloc, log)?;
-    let others = others(alloc, log)?;
-    Ok(Checked::of(states(alloc, log)?, pairs, causes, others))
+    let states = states(alloc, log)?;
+    Ok(Checked::of(states, pairs, causes, others(log)))
 }

@@ -1,8 +1,9 @@
 //! Why the event of an entry may not happen next, looked through anew at each question.
 
-ghost use Rattle.std.specs.Prelude.{◌≡◌, ◌<◌, ◌≤◌, length, slice_get, IfOk, IfSome, IsTrue, None, false};
+ghost use Rattle.std.specs.Prelude.{◌≡◌, ◌<◌, ◌≤◌, length, slice_get, IfSome, IsTrue, None, false};
 ghost use Rattle.std.specs.Option.{option_map_or};
 ghost use Rattle.siman_pdus.specs.Answers.{is_answer_to};
+ghost use Rattle.siman_pdus.specs.Reading.{pdu_of};
 ghost use Rattle.exercise_model.specs.History.{event_of, station_at};
 ghost use Rattle.exercise_model.specs.Setting.{is_recorded};
 ghost use Rattle.exercise_model.specs.State.{state_after};
@@ -21,10 +22,9 @@ use crate::state::state_before;
 use dis_records::{EntityState, Kind, Scope};
 use exercise_model::{
     Cause, Change, EntryView, ExerciseLog, is_answer, is_entity, is_from, is_under_identifier,
-    key_of, meaning_of, responds,
+    key_of, meaning_view, responds,
 };
-use siman_pdus::{ABLE, Pdu, UNABLE, answers, same_order};
-use std::alloc::{AllocError, Global};
+use siman_pdus::{ABLE, PduView, UNABLE, answers, is_request, same_order};
 
 /// What an event that comes next is judged to be.
 #[derive(Clone, Copy, Debug, PartialEq, Eq)]
@@ -36,72 +36,59 @@ pub(crate) enum Judgement {
 }
 
 /// Whether a PDU is a request under the request identifier of another one, and not the same order.
-fn is_other_order(request: &Pdu, other: &Pdu) -> bool
-    ensures { result ≡ is_other_order request.now other.now }
+fn is_other_order(request: &PduView<'_>, other: &PduView<'_>) -> bool
+    ensures { result ≡ is_other_order (pdu_of request.now) (pdu_of other.now) }
 {
-    other.body.is_request() && is_under_identifier(request, other) && !same_order(request, other)
+    is_request(other) && is_under_identifier(request, other) && !same_order(request, other)
 }
 
 /// Whether an entry of a station sends another order under the request identifier of a request.
 #[tactic(auto, using(crate::proofs::Sent::sent_steps))]
-fn sends_other<L: ExerciseLog>(
-    alloc: Global,
-    log: &L,
-    station: usize,
-    request: &Pdu,
-    entry: usize,
-) -> Result<bool, AllocError>
+fn sends_other<L: ExerciseLog>(log: &L, station: usize, request: &PduView<'_>, entry: usize) -> bool
     requires { entry < length (L.recording log.now).entries }
-    ensures { let r = L.recording log.now in IfOk result (λ found. found ≡ option_map_or (sends_other r.setting.exercise request.now) (own_event r station entry) false) }
+    ensures { let r = L.recording log.now in result ≡ option_map_or (sends_other r.setting.exercise (pdu_of request.now)) (own_event r station entry) false }
 {
-    match sent_by(alloc, log, station, entry)? {
-        Some(other) => Ok(is_other_order(request, &other)),
-        None => Ok(false),
+    match sent_by(log, station, entry) {
+        Some(other) => is_other_order(request, &other),
+        None => false,
     }
 }
 
 /// Whether a station sent, before an entry, another order under the request identifier of a
 /// request.
 #[tactic(auto, using(exercise_model::proofs::Offered::log_steps))]
-fn is_reused<L: ExerciseLog>(
-    alloc: Global,
-    log: &L,
-    station: usize,
-    before: usize,
-    request: &Pdu,
-) -> Result<bool, AllocError>
+fn is_reused<L: ExerciseLog>(log: &L, station: usize, before: usize, request: &PduView<'_>) -> bool
     requires { before ≤ length (L.recording log.now).entries }
-    ensures { let r = L.recording log.now in IfOk result (λ found. found ≡ is_reused r.setting.exercise request.now (log_before r station before)) }
+    ensures { let r = L.recording log.now in result ≡ is_reused r.setting.exercise (pdu_of request.now) (log_before r station before) }
 {
     let mut found = false;
     for i in 0..before {
-        found = found || sends_other(alloc, log, station, request, i)?;
+        found = found || sends_other(log, station, request, i);
     }
-    Ok(found)
+    found
 }
 
 /// Whether a PDU that a station sends at an entry is an Able after an Unable under its key, or an
 /// Unable after an Able.
 #[tactic(auto, unfolding(exercise_model::specs::Cause::is_changed_answer))]
 fn is_changed_answer<L: ExerciseLog>(
-    alloc: Global,
     log: &L,
     station: usize,
     before: usize,
-    pdu: &Pdu,
-) -> Result<bool, AllocError>
+    pdu: &PduView<'_>,
+) -> bool
     requires { before ≤ length (L.recording log.now).entries }
-    ensures { let r = L.recording log.now in IfOk result (λ changed. changed ≡ is_changed_answer r.setting.exercise pdu.now (log_before r station before)) }
+    ensures { let r = L.recording log.now in result ≡ is_changed_answer r.setting.exercise (pdu_of pdu.now) (log_before r station before) }
 {
     let Some(key) = key_of(pdu) else {
-        return Ok(false);
+        return false;
     };
     if responds(ABLE, pdu) {
-        was_acknowledged(alloc, log, station, before, UNABLE, &key)
+        was_acknowledged(log, station, before, UNABLE, &key)
     } else if responds(UNABLE, pdu) {
-        was_acknowledged(alloc, log, station, before, ABLE, &key)
+        was_acknowledged(log, station, before, ABLE, &key)
     } else {
-        Ok(false)
+        false
     }
 }
 
@@ -117,23 +104,17 @@ fn is_hopeless_for(kind: Kind, entity: u16, state: EntityState) -> bool
 }
 
 /// Whether a change can't be made at an entry of a station.
-fn is_hopeless<L: ExerciseLog>(
-    alloc: Global,
-    log: &L,
-    station: usize,
-    before: usize,
-    change: Change,
-) -> Result<bool, AllocError>
+fn is_hopeless<L: ExerciseLog>(log: &L, station: usize, before: usize, change: Change) -> bool
     requires at { station < length (L.recording log.now).setting.stations }
     requires within { before ≤ length (L.recording log.now).entries }
-    ensures { let r = L.recording log.now in IfOk result (λ hopeless. hopeless ≡ is_hopeless change.kind change.scope (state_after r.setting.exercise (station_at r station) (log_before r station before))) }
+    ensures { let r = L.recording log.now in result ≡ is_hopeless change.kind change.scope (state_after r.setting.exercise (station_at r station) (log_before r station before)) }
 {
     match change.scope {
         Scope::One(entity) => {
-            let state = state_before(alloc, log, station, before, entity)?;
-            Ok(is_hopeless_for(change.kind, entity, state))
+            let state = state_before(log, station, before, entity);
+            is_hopeless_for(change.kind, entity, state)
         }
-        Scope::All => Ok(change.kind == Kind::CreateEntity),
+        Scope::All => change.kind == Kind::CreateEntity,
     }
 }
 
@@ -141,28 +122,25 @@ fn is_hopeless<L: ExerciseLog>(
 /// the request that it answers.
 #[tactic(auto, unfolding(exercise_model::specs::Cause::is_impossible))]
 fn is_impossible<L: ExerciseLog>(
-    alloc: Global,
     log: &L,
     station: usize,
     before: usize,
-    pdu: &Pdu,
-    request: &Pdu,
-) -> Result<bool, AllocError>
+    pdu: &PduView<'_>,
+    request: &PduView<'_>,
+) -> bool
     requires at { station < length (L.recording log.now).setting.stations }
     requires within { before ≤ length (L.recording log.now).entries }
-    requires answers { IsTrue (is_answer_to pdu.now request.now) }
-    ensures { let r = L.recording log.now in IfOk result (λ impossible. impossible ≡ is_impossible r.setting.exercise (station_at r station) (log_before r station before) pdu.now request.now) }
+    requires answers { IsTrue (is_answer_to (pdu_of pdu.now) (pdu_of request.now)) }
+    ensures { let r = L.recording log.now in result ≡ is_impossible r.setting.exercise (station_at r station) (log_before r station before) (pdu_of pdu.now) (pdu_of request.now) }
 {
-    if !is_change(alloc, log, station, before, pdu)? {
-        return Ok(false);
-    }
-    is_hopeless(alloc, log, station, before, Change::of(pdu, request))
+    is_change(log, station, before, pdu)
+        && is_hopeless(log, station, before, Change::of(pdu, request))
 }
 
 /// Whether a PDU comes from a recorded station.
 #[tactic(auto, unfolding(exercise_model::specs::Setting::is_recorded))]
-fn is_recorded<L: ExerciseLog>(log: &L, pdu: &Pdu) -> bool
-    ensures { result ≡ is_recorded (L.recording log.now).setting pdu.now }
+fn is_recorded<L: ExerciseLog>(log: &L, pdu: &PduView<'_>) -> bool
+    ensures { result ≡ is_recorded (L.recording log.now).setting (pdu_of pdu.now) }
 {
     let mut found = false;
     for i in 0..log.station_count() {
@@ -174,36 +152,35 @@ fn is_recorded<L: ExerciseLog>(log: &L, pdu: &Pdu) -> bool
 /// Judges a PDU that a station sends at an entry.
 #[tactic(auto, unfolding(exercise_model::specs::Cause::send_cause))]
 pub(crate) fn judge_sent<L: ExerciseLog>(
-    alloc: Global,
     log: &L,
     station: usize,
     before: usize,
-    pdu: &Pdu,
-) -> Result<Judgement, AllocError>
+    pdu: &PduView<'_>,
+) -> Judgement
     requires at { station < length (L.recording log.now).setting.stations }
     requires within { before < length (L.recording log.now).entries }
-    ensures { let r = L.recording log.now in IfOk result (Judges (send_cause r.setting.exercise (station_at r station) (log_before r station before) pdu.now) (pair_of_sent r station before pdu.now) (length r.entries)) }
+    ensures { let r = L.recording log.now in Judges (send_cause r.setting.exercise (station_at r station) (log_before r station before) (pdu_of pdu.now)) (pair_of_sent r station before (pdu_of pdu.now)) (length r.entries) result }
 {
     if !is_from(log.station(station).address(), pdu) {
-        return Ok(Judgement::Forbidden(Cause::WrongSender));
+        return Judgement::Forbidden(Cause::WrongSender);
     }
-    if pdu.body.is_request() && is_reused(alloc, log, station, before, pdu)? {
-        return Ok(Judgement::Forbidden(Cause::ReusedIdentifier));
+    if is_request(pdu) && is_reused(log, station, before, pdu) {
+        return Judgement::Forbidden(Cause::ReusedIdentifier);
     }
     if !is_answer(pdu) {
-        return Ok(Judgement::Allowed(None));
+        return Judgement::Allowed(None);
     }
-    let Some((entry, request)) = request_taken_up(alloc, log, station, before, pdu)? else {
-        return Ok(Judgement::Forbidden(Cause::NoRequest));
+    let Some((entry, request)) = request_taken_up(log, station, before, pdu) else {
+        return Judgement::Forbidden(Cause::NoRequest);
     };
     if !answers(pdu, &request) {
-        Ok(Judgement::Forbidden(Cause::WrongAnswer))
-    } else if is_changed_answer(alloc, log, station, before, pdu)? {
-        Ok(Judgement::Forbidden(Cause::ChangedAnswer))
-    } else if is_impossible(alloc, log, station, before, pdu, &request)? {
-        Ok(Judgement::Forbidden(Cause::Impossible))
+        Judgement::Forbidden(Cause::WrongAnswer)
+    } else if is_changed_answer(log, station, before, pdu) {
+        Judgement::Forbidden(Cause::ChangedAnswer)
+    } else if is_impossible(log, station, before, pdu, &request) {
+        Judgement::Forbidden(Cause::Impossible)
     } else {
-        Ok(Judgement::Allowed(Some(entry)))
+        Judgement::Allowed(Some(entry))
     }
 }
 
@@ -213,10 +190,10 @@ pub(crate) fn judge_received<L: ExerciseLog>(
     log: &L,
     before: &[Step],
     datagram: &[u8],
-    pdu: &Pdu,
+    pdu: &PduView<'_>,
 ) -> Judgement
     requires { ArePlaced (L.recording log.now) before.now }
-    ensures { let r = L.recording log.now in Judges (get_cause r.setting (order_of r before.now) datagram.now pdu.now) (first_sender r.entries datagram.now before.now) (length r.entries) result }
+    ensures { let r = L.recording log.now in Judges (get_cause r.setting (order_of r before.now) datagram.now (pdu_of pdu.now)) (first_sender r.entries datagram.now before.now) (length r.entries) result }
 {
     if !is_recorded(log, pdu) {
         return Judgement::Forbidden(Cause::Stranger);
@@ -229,50 +206,44 @@ pub(crate) fn judge_received<L: ExerciseLog>(
 
 /// Judges a state that a station tells at an entry.
 pub(crate) fn judge_told<L: ExerciseLog>(
-    alloc: Global,
     log: &L,
     station: usize,
     before: usize,
     entity: u16,
     state: EntityState,
-) -> Result<Judgement, AllocError>
+) -> Judgement
     requires at { station < length (L.recording log.now).setting.stations }
     requires within { before ≤ length (L.recording log.now).entries }
-    ensures { let r = L.recording log.now in IfOk result (Judges (first_cause (tell_rows state (state_after r.setting.exercise (station_at r station) (log_before r station before) entity))) None (length r.entries)) }
+    ensures { let r = L.recording log.now in Judges (first_cause (tell_rows state (state_after r.setting.exercise (station_at r station) (log_before r station before) entity))) None (length r.entries) result }
 {
-    if state == state_before(alloc, log, station, before, entity)? {
-        Ok(Judgement::Allowed(None))
+    if state == state_before(log, station, before, entity) {
+        Judgement::Allowed(None)
     } else {
-        Ok(Judgement::Forbidden(Cause::WrongState))
+        Judgement::Forbidden(Cause::WrongState)
     }
 }
 
 /// Judges the event of an entry, its station's next one, after these steps.
 #[tactic(auto, unfolding(exercise_model::specs::Cause::cause_of, crate::specs::Order::link_of))]
-pub(crate) fn judge<L: ExerciseLog>(
-    alloc: Global,
-    log: &L,
-    before: &[Step],
-    place: usize,
-) -> Result<Judgement, AllocError>
+pub(crate) fn judge<L: ExerciseLog>(log: &L, before: &[Step], place: usize) -> Judgement
     requires within { place < length (L.recording log.now).entries }
     requires placed { ArePlaced (L.recording log.now) before.now }
     requires ready { let r = L.recording log.now in IfSome (slice_get r.entries place) (λ e. IsReady r before.now place (event_of e)) }
-    ensures { let r = L.recording log.now in IfOk result (λ judgement. IfSome (slice_get r.entries place) (λ e. Judges (cause_of r.setting (order_of r before.now) (event_of e)) (link_of r before.now place (event_of e)) (length r.entries) judgement)) }
+    ensures { let r = L.recording log.now in IfSome (slice_get r.entries place) (λ e. Judges (cause_of r.setting (order_of r before.now) (event_of e)) (link_of r before.now place (event_of e)) (length r.entries) result) }
 {
     match log.entry(place) {
-        EntryView::Sent { station, bytes, .. } => match meaning_of(alloc, log.exercise(), bytes)? {
-            Some(pdu) => judge_sent(alloc, log, usize::from(station), place, &pdu),
-            None => Ok(Judgement::Allowed(None)),
+        EntryView::Sent { station, bytes, .. } => match meaning_view(log.exercise(), bytes) {
+            Some(pdu) => judge_sent(log, usize::from(station), place, &pdu),
+            None => Judgement::Allowed(None),
         },
-        EntryView::Received { bytes, .. } => match meaning_of(alloc, log.exercise(), bytes)? {
-            Some(pdu) => Ok(judge_received(log, before, bytes, &pdu)),
-            None => Ok(Judgement::Allowed(None)),
+        EntryView::Received { bytes, .. } => match meaning_view(log.exercise(), bytes) {
+            Some(pdu) => judge_received(log, before, bytes, &pdu),
+            None => Judgement::Allowed(None),
         },
         EntryView::Told {
             station,
             entity,
             state,
-        } => judge_told(alloc, log, usize::from(station), place, entity, state),
+        } => judge_told(log, usize::from(station), place, entity, state),
     }
 }

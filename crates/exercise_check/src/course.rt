@@ -1,6 +1,7 @@
 //! A course over a log: steps that are taken one after the other, each judged by those before it.
 
 ghost use Rattle.std.specs.Prelude.{◌≡◌, ◌<◌, length, slice_get, IfOk, IfSome, IfNone, OnErr};
+ghost use Rattle.exercise_model.specs.Cause.{IsAllowed};
 ghost use Rattle.exercise_model.specs.History.{event_of, station_of, log_at, log_of};
 ghost use Rattle.exercise_check.specs.Order.{is_next, link_number};
 ghost use Rattle.exercise_check.specs.Checked.{TellsAccount};
@@ -99,14 +100,16 @@ impl<'a, L: ExerciseLog> Course<'a, L> {
     /// Goes on by an entry that is its station's next one: where its event is allowed after what
     /// happened so far, the entry is taken, with the link that its step should have; else the first
     /// cause that holds is told, and the course stays as it is. It does so too where there is no
-    /// memory to judge the event.
+    /// memory to take the step; judging the event takes none.
     pub fn go_on(&mut self, alloc: Global, place: usize) -> Result<Progress, AllocError>
         requires within { place < length self.old.recording.entries }
         requires next { IsNext self.old place }
         ensures judged { IfOk result (λ progress. IfSome (slice_get self.old.recording.entries place) (GoesOn self.old self.new place progress)) }
         ensures memory { OnErr result (self.new ≡ self.old) }
+        // It lacks memory only where the event is allowed.
+        ensures allowed { OnErr result (IfSome (slice_get self.old.recording.entries place) (λ e. IsAllowed self.old.recording.setting (so_far self.old) (event_of e))) }
     {
-        match judge(alloc, self.log, &self.steps, place)? {
+        match judge(self.log, &self.steps, place) {
             Judgement::Forbidden(cause) => Ok(Progress::Barred(cause)),
             Judgement::Allowed(link) => {
                 let link = link_number(link);

@@ -1,7 +1,8 @@
 //! The links of steps: who sent a datagram first, and which request an answer takes up.
 
-ghost use Rattle.std.specs.Prelude.{◌≡◌, ◌<◌, length, slice_get, IfOk, IfSome, false};
+ghost use Rattle.std.specs.Prelude.{◌≡◌, ◌<◌, length, slice_get, IfSome, false};
 ghost use Rattle.std.specs.Option.{option_map_or};
+ghost use Rattle.siman_pdus.specs.Reading.{pdu_of};
 ghost use Rattle.exercise_model.specs.History.{event_of};
 ghost use Rattle.exercise_model.specs.Cause.{sends};
 ghost use Rattle.exercise_model.specs.Account.{pair_of_sent};
@@ -11,8 +12,7 @@ ghost use Rattle.exercise_check.specs.Goodness.{ArePlaced};
 use crate::certificate::Step;
 use crate::exchange::request_taken_up;
 use exercise_model::{EntryView, ExerciseLog, is_answer};
-use siman_pdus::Pdu;
-use std::alloc::{AllocError, Global};
+use siman_pdus::PduView;
 
 /// Whether an entry sends a datagram of these bytes.
 fn sends<L: ExerciseLog>(log: &L, entry: usize, datagram: &[u8]) -> bool
@@ -47,22 +47,21 @@ pub(crate) fn first_sender<L: ExerciseLog>(
 
 /// The entry that an answer is linked with which a station sends at an entry.
 pub(crate) fn pair_of_sent<L: ExerciseLog>(
-    alloc: Global,
     log: &L,
     station: usize,
     place: usize,
-    pdu: &Pdu,
-) -> Result<Option<usize>, AllocError>
+    pdu: &PduView<'_>,
+) -> Option<usize>
     requires at { station < length (L.recording log.now).setting.stations }
     requires within { place < length (L.recording log.now).entries }
-    ensures link { let r = L.recording log.now in IfOk result (λ link. link ≡ pair_of_sent r station place pdu.now) }
-    ensures within { IfOk result (λ link. IfSome link (λ e. e < length (L.recording log.now).entries)) }
+    ensures link { let r = L.recording log.now in result ≡ pair_of_sent r station place (pdu_of pdu.now) }
+    ensures within { IfSome result (λ e. e < length (L.recording log.now).entries) }
 {
     if !is_answer(pdu) {
-        return Ok(None);
+        return None;
     }
-    match request_taken_up(alloc, log, station, place, pdu)? {
-        Some((entry, _)) => Ok(Some(entry)),
-        None => Ok(None),
+    match request_taken_up(log, station, place, pdu) {
+        Some((entry, _)) => Some(entry),
+        None => None,
     }
 }

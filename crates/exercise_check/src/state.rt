@@ -2,6 +2,7 @@
 
 ghost use Rattle.std.specs.Prelude.{◌≡◌, ◌<◌, ◌≤◌, length, [], ◌∷◌, ◌++◌, if◌then◌else◌, option_and_then, IfOk, OnOk};
 ghost use Rattle.std.specs.Option.{option_to_list};
+ghost use Rattle.siman_pdus.specs.Reading.{pdu_of};
 ghost use Rattle.exercise_model.specs.Station.{is_absent, listed_state};
 ghost use Rattle.exercise_model.specs.History.{log_of, station_at};
 ghost use Rattle.exercise_model.specs.State.{change_made, change_by, entity_state, state_after, changes_of, after_changes};
@@ -12,88 +13,75 @@ use crate::change::{is_change, sent_by};
 use crate::exchange::request_taken_up;
 use dis_records::EntityState;
 use exercise_model::{Change, ExerciseLog, LARGEST_ENTITY, Station, is_entity};
-use siman_pdus::Pdu;
+use siman_pdus::PduView;
 use std::alloc::{AllocError, Global};
 
 /// What a PDU changes that a station sends at an entry.
 #[tactic(auto, unfolding(exercise_model::specs::State::change_by))]
 fn change_by<L: ExerciseLog>(
-    alloc: Global,
     log: &L,
     station: usize,
     before: usize,
-    pdu: &Pdu,
-) -> Result<Option<Change>, AllocError>
+    pdu: &PduView<'_>,
+) -> Option<Change>
     requires at { station < length (L.recording log.now).setting.stations }
     requires within { before ≤ length (L.recording log.now).entries }
-    ensures { let r = L.recording log.now in IfOk result (λ change. change ≡ change_by r.setting.exercise (station_at r station) (log_before r station before) pdu.now) }
+    ensures { let r = L.recording log.now in result ≡ change_by r.setting.exercise (station_at r station) (log_before r station before) (pdu_of pdu.now) }
 {
-    if !is_change(alloc, log, station, before, pdu)? {
-        return Ok(None);
+    if !is_change(log, station, before, pdu) {
+        return None;
     }
-    match request_taken_up(alloc, log, station, before, pdu)? {
-        Some((_, request)) => Ok(Change::carried_out(pdu, &request)),
-        None => Ok(None),
+    match request_taken_up(log, station, before, pdu) {
+        Some((_, request)) => Change::carried_out(pdu, &request),
+        None => None,
     }
 }
 
 /// What an entry of a station changes.
 #[tactic(auto, using(crate::proofs::Sent::sent_steps))]
-fn change_made<L: ExerciseLog>(
-    alloc: Global,
-    log: &L,
-    station: usize,
-    entry: usize,
-) -> Result<Option<Change>, AllocError>
+fn change_made<L: ExerciseLog>(log: &L, station: usize, entry: usize) -> Option<Change>
     requires at { station < length (L.recording log.now).setting.stations }
     requires within { entry < length (L.recording log.now).entries }
-    ensures { let r = L.recording log.now in IfOk result (λ change. change ≡ option_and_then (change_made r.setting.exercise (station_at r station) (log_before r station entry)) (own_event r station entry)) }
+    ensures { let r = L.recording log.now in result ≡ option_and_then (change_made r.setting.exercise (station_at r station) (log_before r station entry)) (own_event r station entry) }
 {
-    match sent_by(alloc, log, station, entry)? {
-        Some(pdu) => change_by(alloc, log, station, entry, &pdu),
-        None => Ok(None),
+    match sent_by(log, station, entry) {
+        Some(pdu) => change_by(log, station, entry, &pdu),
+        None => None,
     }
 }
 
 /// The state of an entity of a station before an entry, for a number in 1..=0xFFFD.
 #[tactic(auto, using(exercise_model::proofs::Offered::log_steps))]
-fn entity_state<L: ExerciseLog>(
-    alloc: Global,
-    log: &L,
-    station: usize,
-    before: usize,
-    entity: u16,
-) -> Result<EntityState, AllocError>
+fn entity_state<L: ExerciseLog>(log: &L, station: usize, before: usize, entity: u16) -> EntityState
     requires at { station < length (L.recording log.now).setting.stations }
     requires within { before ≤ length (L.recording log.now).entries }
-    ensures { let r = L.recording log.now in IfOk result (λ state. state ≡ entity_state r.setting.exercise (station_at r station) (log_before r station before) entity) }
+    ensures { let r = L.recording log.now in result ≡ entity_state r.setting.exercise (station_at r station) (log_before r station before) entity }
 {
     let mut state = log.station(station).opening_state(entity);
     for i in 0..before {
-        if let Some(change) = change_made(alloc, log, station, i)? {
+        if let Some(change) = change_made(log, station, i) {
             state = change.changed(entity, state);
         }
     }
-    Ok(state)
+    state
 }
 
 /// The state of an entity of a station before an entry.
 #[tactic(auto, unfolding(exercise_model::specs::State::state_after))]
 pub(crate) fn state_before<L: ExerciseLog>(
-    alloc: Global,
     log: &L,
     station: usize,
     before: usize,
     entity: u16,
-) -> Result<EntityState, AllocError>
+) -> EntityState
     requires at { station < length (L.recording log.now).setting.stations }
     requires within { before ≤ length (L.recording log.now).entries }
-    ensures { let r = L.recording log.now in IfOk result (λ state. state ≡ state_after r.setting.exercise (station_at r station) (log_before r station before) entity) }
+    ensures { let r = L.recording log.now in result ≡ state_after r.setting.exercise (station_at r station) (log_before r station before) entity }
 {
     if is_entity(entity) {
-        entity_state(alloc, log, station, before, entity)
+        entity_state(log, station, before, entity)
     } else {
-        Ok(EntityState::Absent)
+        EntityState::Absent
     }
 }
 
@@ -133,8 +121,7 @@ fn changes<L: ExerciseLog>(
 {
     let mut changes = Vec::new(alloc);
     for i in 0..log.entry_count() {
-        let change = change_made(alloc, log, station, i)?;
-        push_some(&mut changes, change)?;
+        push_some(&mut changes, change_made(log, station, i))?;
     }
     Ok(changes)
 }

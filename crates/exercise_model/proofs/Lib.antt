@@ -1,3 +1,4 @@
+mod Acknowledgements
 mod Scopes
 mod Checks
 mod Onward

@@ -34,7 +34,7 @@ pub use laws::{
     first_answers_change_states, logs_suffice, what_explains_holds,
 };
 pub use log::ExerciseLog;
-pub use meaning::meaning_of;
+pub use meaning::{meaning_of, meaning_view};
 pub use recording::{MOST_ENTRIES, Recording};
 pub use setting::Setting;
 pub use siman_pdus::is_under_identifier;

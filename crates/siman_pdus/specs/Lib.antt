@@ -8,4 +8,5 @@ pub mod Ranges
 pub mod Writing
 pub mod Role
 pub mod Answers
+pub mod Message
 pub mod Texts

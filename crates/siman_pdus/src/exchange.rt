@@ -1,70 +1,82 @@
 //! What a PDU does in an exchange (IEEE 1278.1-2012, 5.6).
 
 ghost use Rattle.std.specs.Prelude.{◌≡◌};
-ghost use Rattle.siman_pdus.specs.Role.{role_of, is_request_body, request_id_of};
+ghost use Rattle.siman_pdus.specs.Message.{acknowledge_role, role_by};
+ghost use Rattle.siman_pdus.specs.Role.{role_of, is_request_body, is_request_role, request_id_of};
 
-use crate::pdu::{Body, Pdu};
+use crate::encoding::kind_of;
+use crate::message::{Acknowledgement, Message};
+use crate::pdu::Body;
 use crate::roles::Role;
+use dis_records::Kind;
 
 /// The role of a PDU.
-pub fn role(pdu: &Pdu) -> Role
-    ensures { result ≡ role_of pdu.now.body }
+#[tactic(auto, using(crate::proofs::Messages::role_is))]
+pub fn role<M: Message>(message: &M) -> Role
+    ensures { result ≡ role_of (M.pdu message.now).body }
 {
-    pdu.body.role()
+    role_in(message.kind(), message.acknowledgement())
+}
+
+/// Whether a PDU is a request.
+pub fn is_request<M: Message>(message: &M) -> bool
+    ensures { result ≡ is_request_body (M.pdu message.now).body }
+{
+    is_request_role(role(message))
 }
 
 /// The request identifier of a PDU. All kinds have one but Event Report and Comment.
-pub fn request_id(pdu: &Pdu) -> Option<u32>
-    ensures { result ≡ request_id_of pdu.now.body }
+pub fn request_id<M: Message>(message: &M) -> Option<u32>
+    ensures { result ≡ request_id_of (M.pdu message.now).body }
 {
-    match &pdu.body {
-        Body::CreateEntity { request }
-        | Body::RemoveEntity { request }
-        | Body::StartResume { request, .. }
-        | Body::StopFreeze { request, .. }
-        | Body::Acknowledge { request, .. }
-        | Body::ActionRequest { request, .. }
-        | Body::ActionResponse { request, .. }
-        | Body::DataQuery { request, .. }
-        | Body::SetData { request, .. }
-        | Body::DataPdu { request, .. } => Some(*request),
-        Body::EventReport { .. } | Body::Comment { .. } => None,
-    }
+    message.request()
 }
 
 impl Body {
-    ghost use Rattle.siman_pdus.specs.Role.{role_of, is_request_body};
+    ghost use Rattle.siman_pdus.specs.Role.{is_request_body};
 
     /// Whether a PDU with this body is a request.
+    #[tactic(auto, using(crate::proofs::Messages::role_is))]
     pub fn is_request(&self) -> bool
         ensures { result ≡ is_request_body self.now }
     {
-        match self.role() {
-            Role::Request => true,
-            Role::Answer | Role::Notice | Role::Outside => false,
-        }
+        is_request_role(role_in(kind_of(self), self.acknowledgement()))
     }
+}
 
-    fn role(&self) -> Role
-        ensures { result ≡ role_of self.now }
-    {
-        match self {
-            Body::CreateEntity { .. }
-            | Body::RemoveEntity { .. }
-            | Body::StartResume { .. }
-            | Body::StopFreeze { .. }
-            | Body::ActionRequest { .. }
-            | Body::DataQuery { .. }
-            | Body::SetData { .. } => Role::Request,
-            Body::Acknowledge { flag, .. } => {
-                if *flag >= 1 && *flag <= 4 {
-                    Role::Answer
-                } else {
-                    Role::Outside
-                }
-            }
-            Body::ActionResponse { .. } | Body::DataPdu { .. } => Role::Answer,
-            Body::EventReport { .. } | Body::Comment { .. } => Role::Notice,
-        }
+fn is_request_role(role: Role) -> bool
+    ensures { result ≡ is_request_role role }
+{
+    match role {
+        Role::Request => true,
+        Role::Answer | Role::Notice | Role::Outside => false,
+    }
+}
+
+/// The role of an Acknowledge that says this: an answer with a flag from 1 to 4 (profile).
+fn acknowledge_role(said: Option<Acknowledgement>) -> Role
+    ensures { result ≡ acknowledge_role said }
+{
+    match said {
+        Some(said) if said.flag >= 1 && said.flag <= 4 => Role::Answer,
+        _ => Role::Outside,
+    }
+}
+
+/// The role of a PDU of a kind, by what it acknowledges.
+fn role_in(kind: Kind, said: Option<Acknowledgement>) -> Role
+    ensures { result ≡ role_by kind said }
+{
+    match kind {
+        Kind::CreateEntity
+        | Kind::RemoveEntity
+        | Kind::StartResume
+        | Kind::StopFreeze
+        | Kind::ActionRequest
+        | Kind::DataQuery
+        | Kind::SetData => Role::Request,
+        Kind::Acknowledge => acknowledge_role(said),
+        Kind::ActionResponse | Kind::DataPdu => Role::Answer,
+        Kind::EventReport | Kind::Comment => Role::Notice,
     }
 }

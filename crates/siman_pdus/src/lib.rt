@@ -4,7 +4,8 @@
 //! It knows no station and no history. The layers above rest on [`decode`], which accepts exactly
 //! the grammar and answers the reading of a datagram, on [`view`], which shows the same in place
 //! and takes no memory, on [`encode`], which appends the canonical text of a PDU, and on exact
-//! tests: [`role`], [`same_order`], [`request_id`] and [`answers`].
+//! tests: [`role`], [`same_order`], [`request_id`] and [`answers`], which are asked of any
+//! [`Message`], a PDU or the view of one.
 #![tactic(auto)]
 
 mod datums;
@@ -12,10 +13,12 @@ mod decoding;
 mod encoding;
 mod exchange;
 mod fault;
+mod message;
 mod order;
 mod pdu;
 mod ranges;
 mod roles;
+mod same_views;
 mod shape;
 mod size;
 mod views;
@@ -23,8 +26,9 @@ mod views;
 pub use datums::{DatumIds, Datums};
 pub use decoding::{decode, spellings_are_apart, view};
 pub use encoding::{encode, kind_of};
-pub use exchange::{request_id, role};
+pub use exchange::{is_request, request_id, role};
 pub use fault::{EncodeFault, PduFault, ViewFault};
+pub use message::{Acknowledgement, Message};
 pub use order::{answers, is_under_identifier, same_order, same_pdu};
 pub use pdu::{ABLE, Body, Pdu, UNABLE};
 pub use ranges::{datums_are_in_range, numbers_are_in_range, ranges_and_texts_agree};

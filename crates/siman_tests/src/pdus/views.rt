@@ -1,7 +1,9 @@
 //! Datagrams in place: what a view shows, and the PDU that is made of it.
 
-use super::datagrams::{ACTION_REQUEST, DATA_QUERY};
-use crate::datagrams::CREATE;
+use super::datagrams::{
+    ACKNOWLEDGE, ACTION_REQUEST, DATA, DATA_QUERY, EVENT_REPORT, SET_DATA, START_RESUME,
+};
+use crate::datagrams::{ABLE, CREATE, CREATE_LATER};
 use dis_records::{DatumsView, FixedDatum, HeaderFault, IdsView, VariableView};
 use siman_pdus::*;
 use std::alloc::Global;
@@ -236,4 +238,99 @@ fn refusals_have_the_texts_of_decoding(rt: HostRuntime) {
     assert_eq!(rt; is_told(alloc, short, "body-short at 12", 7), Some(true));
     let long = ViewFault::BodyLong(28);
     assert_eq!(rt; is_told(alloc, long, "body-long at 28", 8), Some(true));
+}
+
+/// What is told of a PDU: its role, its request identifier, and whether it is a request.
+type Told = (Role, Option<u32>, bool);
+
+fn told<M: Message>(pdu: &M) -> Told {
+    (role(pdu), request_id(pdu), is_request(pdu))
+}
+
+/// Whether this is told of the view of a datagram, and of its PDU.
+fn both_tell(alloc: Global, bytes: &[u8], expected: Told) -> Option<bool> {
+    let shown = view(bytes).ok()?;
+    let pdu = shown.to_pdu(alloc).ok()?;
+    Some(told(&shown) == expected && told(&pdu) == expected)
+}
+
+/// The number of the first datagram, from 0, of which something else is told.
+fn first_told_otherwise(alloc: Global, rows: &[(&[u8], Told)]) -> Option<usize> {
+    for (i, (bytes, expected)) in rows.iter().enumerate() {
+        if both_tell(alloc, bytes, *expected) != Some(true) {
+            return Some(i);
+        }
+    }
+    None
+}
+
+#[test]
+fn roles_are_told_of_both_forms(rt: HostRuntime) {
+    let mut outside = ACKNOWLEDGE;
+    outside[25] = 5;
+    let rows: [(&[u8], Told); 9] = [
+        (&CREATE, (Role::Request, Some(1), true)),
+        (&START_RESUME, (Role::Request, Some(3), true)),
+        (&ACKNOWLEDGE, (Role::Answer, Some(0xFFFF_FFFF), false)),
+        (&outside, (Role::Outside, Some(0xFFFF_FFFF), false)),
+        (&ACTION_REQUEST, (Role::Request, Some(5), true)),
+        (&DATA_QUERY, (Role::Request, Some(6), true)),
+        (&DATA, (Role::Answer, Some(6), false)),
+        (&EVENT_REPORT, (Role::Notice, None, false)),
+        (&COMMENT, (Role::Notice, None, false)),
+    ];
+    assert_eq!(rt; first_told_otherwise(rt.alloc(), &rows), None);
+}
+
+/// Whether a PDU is the same order as another one, and whether it answers it.
+fn compared<M: Message>(first: &M, second: &M) -> (bool, bool) {
+    (same_order(first, second), answers(first, second))
+}
+
+/// Whether the views of two datagrams compare so, and their PDUs.
+fn both_compare(
+    alloc: Global,
+    first: &[u8],
+    second: &[u8],
+    expected: (bool, bool),
+) -> Option<bool> {
+    let (one, other) = (view(first).ok()?, view(second).ok()?);
+    let (pdu, pdu2) = (one.to_pdu(alloc).ok()?, other.to_pdu(alloc).ok()?);
+    Some(compared(&one, &other) == expected && compared(&pdu, &pdu2) == expected)
+}
+
+/// The number of the first two datagrams, from 0, that compare otherwise.
+fn first_compared_otherwise(alloc: Global, rows: &[(&[u8], &[u8], (bool, bool))]) -> Option<usize> {
+    for (i, (first, second, expected)) in rows.iter().enumerate() {
+        if both_compare(alloc, first, second, *expected) != Some(true) {
+            return Some(i);
+        }
+    }
+    None
+}
+
+#[test]
+fn orders_and_answers_are_told_of_both_forms(rt: HostRuntime) {
+    let mut unused = COMMENT;
+    unused[41] = 0xCF;
+    let mut used = COMMENT;
+    used[41] = 0xD5;
+    let mut last = ACTION_REQUEST;
+    last[88] = 0xAC;
+    let mut asked = DATA_QUERY;
+    asked[51] = 6;
+    let mut value = SET_DATA;
+    value[47] = 8;
+    let rows: [(&[u8], &[u8], (bool, bool)); 9] = [
+        (&CREATE, &CREATE_LATER, (true, false)),
+        (&ABLE, &CREATE, (false, true)),
+        (&ACKNOWLEDGE, &START_RESUME, (false, false)),
+        (&DATA, &DATA_QUERY, (false, true)),
+        (&COMMENT, &unused, (true, false)),
+        (&COMMENT, &used, (false, false)),
+        (&ACTION_REQUEST, &last, (false, false)),
+        (&DATA_QUERY, &asked, (false, false)),
+        (&SET_DATA, &value, (false, false)),
+    ];
+    assert_eq!(rt; first_compared_otherwise(rt.alloc(), &rows), None);
 }

@@ -10,5 +10,5 @@ returns g c =
       pairs = λ i. ap (λ checked. slice_index_or checked.pairs i None) c.of.ensures ∙ ap (λ xs. slice_index_or xs i None) c.in_ok-pairs.ensures ∙ pairs-all r i;
       causes = λ i. ap (λ checked. slice_index_or checked.causes i None) c.of.ensures ∙ ap (λ xs. slice_index_or xs i None) c.in_ok-causes.ensures
           ∙ changes-all r i;
-      others = ap (λ checked. checked.others) c.of.ensures ∙ c.in_ok-others.ensures;
+      others = ap (λ checked. checked.others) c.of.ensures ∙ c.others.ensures;
     }

@@ -12,7 +12,7 @@ pub loop-i-preserved : goal.loop-i-preserved
 loop-i-preserved g c =
     let r = g.L.ExerciseLog.recording c.args.log.now in
     let e = shown c.entry.result in
-    let one : c.in_ok-others.field-0 ≡ cond {A = ℕ} (is_other r.setting.exercise e) 1 0 = c.in_ok-others.ensures ∙ ap
+    let one : c.count_other-others.result ≡ cond {A = ℕ} (is_other r.setting.exercise e) 1 0 = c.count_other-others.ensures ∙ ap
     (λ x. cond {A = ℕ} (is_other x e) 1 0) c.exercise.ensures in
     let more = others-more r.setting.exercise r.entries c.loop-i.i e c.entry.ensures.entry in
     record {

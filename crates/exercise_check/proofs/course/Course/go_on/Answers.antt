@@ -17,7 +17,7 @@ pub link_number-link-requires : goal.link_number-link-requires
 link_number-link-requires g c =
     let r = g.L.ExerciseLog.recording c.self.inside.log.now in
     let next = subst (λ v. IsNext v c.args.place) (sym c.self.view_is) c.requires.next in
-    let judged = rw (c.deref.ensures.value, c.in-Allowed.is) at c.in_ok-cause.ensures in
+    let judged = rw (c.deref.ensures.value, c.in-Allowed.is) at c.judge.ensures in
     let within = rw (← c.self.view_is) at c.requires.within in
     small_link r c.in-Allowed.link c.self.invariant.limits (allows r c.self.inside.steps.items c.args.place c.in-Allowed.link within next judged).within
 
@@ -25,7 +25,7 @@ pub invariant_of-self-in-Allowed : goal.invariant_of-self-in-Allowed
 invariant_of-self-in-Allowed g c =
     let r = g.L.ExerciseLog.recording c.self.inside.log.now in
     let next = subst (λ v. IsNext v c.args.place) (sym c.self.view_is) c.requires.next in
-    let judged = rw (c.deref.ensures.value, c.in-Allowed.is) at c.in_ok-cause.ensures in
+    let judged = rw (c.deref.ensures.value, c.in-Allowed.is) at c.judge.ensures in
     let within = rw (← c.self.view_is) at c.requires.within in
     let good = (allows r c.self.inside.steps.items c.args.place c.in-Allowed.link within next judged).good in
     record {

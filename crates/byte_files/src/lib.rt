@@ -19,4 +19,4 @@ mod source;
 pub use file_fault::FileFault;
 pub use filling::{ReadFailed, fill};
 pub use output::{WriteFailed, put, put_both, put_shown};
-pub use source::Source;
+pub use source::{Source, are_bytes};

@@ -1,5 +1,7 @@
 -- How `check` ends that judged two files, or could not read one.
-use Rattle.std.proofs.Common.{◌≡◌, ℕ, List, Option, Bool, Result, Ok, Err, refl, inl, inr}
+use Rattle.std.proofs.Common.{◌≡◌, ℕ, List, Option, Some, None, Bool, Result, Ok, Err, refl, inl, inr}
+use Rattle.std.specs.Prelude.{IfSome}
+use Rattle.siman_console.specs.declared.check.TheConstants.{LARGEST_CERTIFICATE}
 use Rattle.std.specs.Result.{IsErrAnd}
 use Rattle.std.specs.Io.KnownBytes.{Keeps}
 use Rattle.exercise_model.specs.declared.cause.Cause.{Cause}
@@ -67,3 +69,9 @@ pub judged_files : (recorded : Recorded) (certified : Certified) (r : PlainRecor
     → recorded ≡ Ok r → certified ≡ Ok steps
     → Judges (Ok r) (Ok steps) result old new → Judges recorded certified result old new
 judged_files recorded certified r steps result old new read read_too judged = rw read (rw read_too judged)
+
+-- what is said whatever the certificate is
+pub judged_whatever : (known : Option (List ℕ)) (P : Certified → Type 0) → ((certified : Certified) → P certified)
+    → IfSome known (λ bytes. P (certificate.certificate_at LARGEST_CERTIFICATE bytes))
+judged_whatever None P said = tt
+judged_whatever (Some bytes) P said = said (certificate.certificate_at LARGEST_CERTIFICATE bytes)

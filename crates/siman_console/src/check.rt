@@ -10,11 +10,12 @@ ghost use Rattle.siman_console.specs.Check.{Recorded, Certified, Judges, judged_
 
 use crate::fault::{Fault, end};
 use crate::files_fault::FilesFault;
+use crate::input::fetch_recording;
 use crate::report::{no_line, report_text};
 use crate::show::LARGEST_RECORDING;
 use byte_files::put;
 use exercise_check::{Certificate, CheckFault, check, read_certificate};
-use exercise_recording::{ExerciseLog, read_recording};
+use exercise_recording::{ExerciseLog, RecordingView};
 use std::alloc::Global;
 use std::io::{Read, Write};
 
@@ -39,7 +40,21 @@ pub fn check_files<R: Read + Drop, C: Read + Drop, W: Write>(
     // Whatever it read, it judged that.
     ensures some { (recorded : Recorded) × (certified : Certified) × Judges recorded certified result (W.contents out.old) (W.contents out.new) }
 {
-    let log = read_recording(alloc, recording, LARGEST_RECORDING)?;
+    let bytes = fetch_recording(alloc, recording)?;
+    check_bytes(alloc, &bytes, certificate, out)
+}
+
+/// As [`check_files`], of the recording whose file these bytes are.
+fn check_bytes<C: Read + Drop, W: Write>(
+    alloc: Global,
+    bytes: &[u8],
+    certificate: C,
+    out: &mut W,
+) -> Result<bool, FilesFault>
+    ensures known { IfSome (C.remaining certificate) (λ c. Judges (recording_at LARGEST_RECORDING bytes.now) (certificate_at LARGEST_CERTIFICATE c) result (W.contents out.old) (W.contents out.new)) }
+    ensures some { (certified : Certified) × Judges (recording_at LARGEST_RECORDING bytes.now) certified result (W.contents out.old) (W.contents out.new) }
+{
+    let log = RecordingView::over_limited(alloc, bytes, LARGEST_RECORDING)?;
     let certificate = read_certificate(alloc, certificate, LARGEST_CERTIFICATE)?;
     judge(alloc, &log, &certificate, out)
 }

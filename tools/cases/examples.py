@@ -17,6 +17,11 @@ JOINED_REPORT = (
 JOINED_NO = b"no step=3 cause=13 wrong-state\n"
 WORKED_SCRIPT = "examples/lost_copied_swapped.script"
 WORKED_LINE = b"world records=16 sent=8\n"
+WORKED_ANSWER = (
+    WORKED_LINE + b"explained steps=16\nyes records=16 others=0\n"
+    b"answer 3 request 2\nanswer 7 request 6\nanswer 9 request 8\nanswer 11 request 6\n"
+    b"known 13 change 3\nknown 14 change 9\nknown 15 change 7\nentity 2:3:7 running\n"
+)
 FORMATS_RECORDING = bytes.fromhex(
     "4453524330303031 01 0001 0002 0003 0001 0007 01 02 0000 0000000000000005 0002 ABCD"
     "01 0000 0000000000000100 0001 EF 03 0000 0007 02 00 00000003"

@@ -3,7 +3,7 @@ import os
 
 import pages
 from cases import texts
-from cases.examples import README_ANSWER, README_DATAGRAM, TEXTS_REPORT, WORKED_LINE, WORKED_SCRIPT
+from cases.examples import README_ANSWER, README_DATAGRAM, TEXTS_REPORT, TOP, WORKED_ANSWER, WORKED_LINE, WORKED_SCRIPT
 from cases.trials import UNWRITTEN, Case, Some, Verdict, told
 from pages import Outcome
 
@@ -52,7 +52,9 @@ def answers(trials, examples):
     return [
         (["pdu", README_DATAGRAM], b"", Outcome(0, README_ANSWER, b"")),
         (["pdu", "0701"], b"", Outcome(1, b"refused 1 truncated\n", b"")),
-        ([], README_DATAGRAM + b"\n", Outcome(0, README_ANSWER, b"")),
+        (["pdus"], README_DATAGRAM + b"\n", Outcome(0, README_ANSWER, b"")),
+        (["pdus"], b"0701\n", Outcome(1, b"refused 1 truncated\n", b"")),
+        ([], (TOP / WORKED_SCRIPT).read_bytes(), Outcome(0, WORKED_ANSWER, b"")),
         (["show", good], b"", shown),
         (["check", good, certificate], b"", Outcome(0, TEXTS_REPORT, b"")),
         (["check", wrong, certificate], b"", Outcome(1, b"no step=8 cause=13 wrong-state\n", b"")),
@@ -65,7 +67,8 @@ def faults(examples):
     good, certificate, _ = examples
     return [
         (["pdu", "zz"], b"", pages.fault("hex: not byte pairs")),
-        ([], b"0", pages.fault("hex: not byte pairs")),
+        (["pdus"], b"0", pages.fault("hex: not byte pairs at line 1")),
+        ([], b"0", pages.fault("script: bad-line at line 1")),
         (["show", "none"], b"", pages.fault("file: none")),
         (["show", certificate], b"", pages.fault("recording: magic at 0")),
         (["check", good, "none"], b"", pages.fault("file: none")),
@@ -90,9 +93,11 @@ def try_streams(trials, examples):
     for words, given, usual in answers(trials, examples):
         trials.expect(words, usual, given=given, behind="2>&-")
     for behind in ["<&-", "<examples"]:
-        trials.expect([], pages.fault("file: -"), behind=behind)
-    trials.expect([], Outcome(1, b"refused 1 truncated\n", b""), behind="</dev/null")
-    trials.expect([], pages.fault("hex: not byte pairs"), behind="</dev/zero")
+        trials.expect(["pdus"], pages.fault("file: -"), behind=behind)
+        trials.expect([], pages.fault("script: read"), behind=behind)
+    trials.expect(["pdus"], Outcome(0, b"", b""), behind="</dev/null")
+    trials.expect([], pages.fault("script: bad-line at line 1"), behind="</dev/null")
+    trials.expect([], pages.fault("script: bad-line at line 0"), behind="</dev/zero")
     trials.expect(["show", "/dev/zero"], pages.fault("recording: magic at 0"))
     trials.expect(["show", "/dev/null"], pages.fault("recording: truncated at 0"))
 

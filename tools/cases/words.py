@@ -1,6 +1,8 @@
 """Words of the command line and hex text."""
 import pages
-from cases.examples import FORMATS_CERTIFICATE, FORMATS_RECORDING, FORMATS_SHOWN, README_ANSWER, README_DATAGRAM
+from cases.examples import (
+    FORMATS_CERTIFICATE, FORMATS_RECORDING, FORMATS_SHOWN, README_ANSWER, README_DATAGRAM, TOP, WORKED_ANSWER, WORKED_SCRIPT,
+)
 from cases.trials import Some
 from pages import Outcome
 
@@ -17,7 +19,7 @@ def try_words(trials):
         ["show", recording, recording], ["check", recording, certificate, certificate], ["nothing"], [""],
         ["PDU", "07"], ["shows", recording], ["--pdu", "07"], ["--nothing"], ["-x"], ["pdu", "--nothing"], [recording],
         ["pd"], ["-"], ["--", "pdu"], ["world"], ["world", "a"], ["world", "a", "b", "c"], ["world", "-a", "b"],
-        ["audit"], ["audit", recording], ["audit", recording, "a", "b"], ["audit", recording, "-a"],
+        ["pdus", "07"], ["pdus", ""], ["pdus", "-x"], ["trial"], ["audit"], ["audit", recording], ["audit", recording, "a", "b"], ["audit", recording, "-a"],
     ]:  # fmt: skip
         trials.expect(words, usage)
     for word in [b"\xff", b"07\xff", b"\xc3", b"a\xed\xa0\x80"]:
@@ -27,7 +29,7 @@ def try_words(trials):
 
 def try_hex(trials):
     trials.expect(["pdu", README_DATAGRAM.decode()], Outcome(0, README_ANSWER, b""))
-    trials.expect([], Outcome(0, README_ANSWER, b""), given=README_DATAGRAM + b"\n")
+    trials.expect(["pdus"], Outcome(0, README_ANSWER, b""), given=README_DATAGRAM + b"\n")
     good = README_DATAGRAM
     mixed = bytes(byte ^ (32 * (place % 2) if chr(byte).isalpha() else 0) for place, byte in enumerate(good))
     texts = [good, good.lower(), mixed, b"", b"0", good[:-1], good + b"0", good[:8] + b" " + good[8:], b" " + good]
@@ -37,7 +39,7 @@ def try_hex(trials):
         trials.expect(["pdu", text], pages.answer_to_hex(text))
     ends = [b"", b"\n", b"\n\n", b"\r\n", b"\r", b" \n", b"\0", b"\n "]
     for text in [text + end for text in texts[:6] for end in ends] + texts + [b"\n" + good, b"\xff\xff", b"\0" * 8]:
-        trials.expect([], pages.answer_to_input(text), given=text)
+        trials.expect(["pdus"], pages.answer_to_lines(text), given=text)
 
 
 def try_limits_of_hex(trials):
@@ -47,15 +49,32 @@ def try_limits_of_hex(trials):
             text = start.ljust(size, b"0")
             trials.expect(["pdu", text], pages.answer_to_hex(text))
             for end in [b"", b"\n"]:
-                trials.expect([], pages.answer_to_input(text + end), given=text + end)
-    trials.expect([], pages.fault("hex: not byte pairs"), given=b"00" * 5_000_000)
+                trials.expect(["pdus"], pages.answer_to_lines(text + end), given=text + end)
+    long = b"00" * 5_000_000
+    trials.expect(["pdus"], pages.fault("hex: not byte pairs at line 1"), given=long)
+    trials.expect(["pdus"], pages.answer_to_lines(long + b"\n" + head + b"\n"), given=long + b"\n" + head + b"\n")
+
+
+def try_lines(trials):
+    """Many hex texts, one a line: good, refused, bad, empty and long ones, in turns."""
+    good, refused, bad, empty, long = README_DATAGRAM, b"0701", b"zz", b"", b"0" * 65537
+    kinds = [good, refused, bad, empty, long]
+    for first in kinds:
+        for second in kinds:
+            for third in kinds:
+                for end in [b"\n", b""]:
+                    text = b"\n".join([first, second, third]) + end
+                    trials.expect(["pdus"], pages.answer_to_lines(text), given=text)
+    for text in [b"", b"\n", b"\n\n\n", good + b"\r\n" + good, b"\r\n", (good + b"\n") * 5000, b"zz\n" * 5000]:
+        trials.expect(["pdus"], pages.answer_to_lines(text), given=text)
 
 
 def try_pieces(trials):
     """Input and files that come in pieces, with waits between."""
     for words, given, answer in [
-        ([], README_DATAGRAM, Outcome(0, README_ANSWER, b"")),
-        ([], README_DATAGRAM[:-1], pages.fault("hex: not byte pairs")),
+        (["pdus"], README_DATAGRAM, Outcome(0, README_ANSWER, b"")),
+        (["pdus"], README_DATAGRAM[:-1], pages.fault("hex: not byte pairs at line 1")),
+        ([], (TOP / WORKED_SCRIPT).read_bytes(), Outcome(0, WORKED_ANSWER, b"")),
         (["show", "/dev/stdin"], FORMATS_RECORDING, Outcome(0, FORMATS_SHOWN, b"")),
         (["show", "/dev/stdin"], FORMATS_RECORDING[:-1], pages.fault("recording: truncated at 59")),
     ]:
@@ -67,4 +86,5 @@ def try_all(trials, _):
     try_words(trials)
     try_hex(trials)
     try_limits_of_hex(trials)
+    try_lines(trials)
     try_pieces(trials)

@@ -3,7 +3,7 @@ import os
 import re
 
 import pages
-from cases.examples import TOP, WORKED_LINE, WORKED_SCRIPT
+from cases.examples import TOP, WORKED_ANSWER, WORKED_LINE, WORKED_SCRIPT
 from cases.trials import UNWRITTEN, Case, Verdict, told
 from pages import Outcome
 
@@ -93,12 +93,35 @@ def changed_scripts():
             yield [*lines[:place], line.replace(old, new), *lines[place + 1 :]]
 
 
+class Closed:
+    """A world that ran, and is explained; or one of which a move or the stations were refused."""
+
+    def __eq__(self, came):
+        told = rb"world records=(\d+) sent=\d+\nexplained steps=\1\nyes records=\1 others=0\n"
+        lines = rb"(answer \d+ request \d+\n)*(known \d+ change \d+\n)*(entity [\d:]+ (stopped|running)\n)*"
+        closed = came.status == 0 and re.fullmatch(told + lines, came.out) and came.errors == b""
+        stopped = came.status == 2 and came.out == b"" and re.fullmatch(rb"world: [a-z-]+( at move \d+)?\n", came.errors)
+        return bool(closed or stopped)
+
+    def __repr__(self):
+        return "the text of a trial, or why its world stopped"
+
+
 def try_changed(trials):
     for number, lines in enumerate(changed_scripts()):
         text = b"".join(lines)
         fault = pages.script_fault(text)
-        accepted = pages.fault(f"script: {fault}") if fault else Ran()
-        trials.expect(["world", trials.file(text), f"changed.{number}.dsrc"], accepted)
+        refused = pages.fault(f"script: {fault}")
+        trials.expect(["world", trials.file(text), f"changed.{number}.dsrc"], refused if fault else Ran())
+        trials.expect([], refused if fault else Closed(), given=text)
+
+
+def try_trials(trials):
+    """Scripts on standard input: the one of the page, and another whose last lines are known."""
+    worked = (TOP / WORKED_SCRIPT).read_bytes()
+    trials.expect([], Outcome(0, WORKED_ANSWER, b""), given=worked)
+    other = worked.replace(b"deliver 5 1:1\n", b"deliver 7 1:1\n")
+    trials.expect([], Outcome(0, WORKED_ANSWER, b""), given=other)
 
 
 def try_unwritable(trials):
@@ -114,4 +137,5 @@ def try_all(trials, _):
     try_worked(trials)
     try_faults(trials)
     try_changed(trials)
+    try_trials(trials)
     try_unwritable(trials)

@@ -154,11 +154,13 @@ def answer_to_hex(text):
     return answer_to_datagram(bytes.fromhex(text.decode()))
 
 
-def answer_to_input(text):
-    """The answer to hex text on standard input, of which the line feed is counted too."""
-    if len(text) > LONGEST_HEX:
-        return fault("hex: not byte pairs")
-    return answer_to_hex(text[:-1] if text.endswith(b"\n") else text)
+def answer_to_lines(text):
+    """The answers to hex texts, one a line: the worst status, and what is told of each line in its turn."""
+    lines = text.split(b"\n")
+    answers = [(number, answer_to_hex(line)) for number, line in enumerate(lines, 1) if line]
+    bad = [f"hex: not byte pairs at line {number}\n" for number, answer in answers if answer.errors]
+    out = b"".join(answer.out for _, answer in answers)
+    return Outcome(max([answer.status for _, answer in answers], default=0), out, "".join(bad).encode())
 
 
 def fault(line):

@@ -7,9 +7,7 @@ use Rattle.std.proofs.lemmas.List.{length-take-le}
 use Rattle.siman_worlds.specs.declared.script.TheConstants.{LARGEST_SCRIPT}
 use Rattle.siman_worlds.specs.declared.script_fault.ScriptFault.TheVariants.{BadLine}
 use Rattle.siman_worlds.specs.Script.{script_at}
-use Rattle.siman_console.specs.declared.hex_text.TheConstants.{LONGEST_HEX}
 use Rattle.siman_console.specs.Fetching.{fetched}
-use Rattle.siman_console.specs.Answer.{not_byte_pairs, said_of_hex, said_of_input, without_line_end}
 use Rattle.siman_console.specs.World.{Scripted}
 use Rattle.siman_console.specs.Check.{Recorded}
 use Rattle.byte_files.specs.Fields.{IsBytes, Fails}
@@ -18,17 +16,6 @@ use Rattle.exercise_recording.specs.Reading.{recording_at, format_of}
 
 over : {X : Type 0} (m n : ℕ) (x y : X) → m < n → (if nat_lt m n then x else y) ≡ x
 over m n x y h = grind (arith, nat_tests)
-
--- what is said of too many bytes
-too_many : (bytes : List ℕ) → LONGEST_HEX < length bytes → said_of_input bytes ≡ not_byte_pairs
-too_many bytes h = over LONGEST_HEX (length bytes) not_byte_pairs (said_of_hex (without_line_end bytes)) h
-
--- The answer is the same for what was fetched.
-pub said_of_input-fetched : (bytes : List ℕ) → said_of_input (fetched LONGEST_HEX bytes) ≡ said_of_input bytes
-said_of_input-fetched bytes = elim (cases_lt (length bytes) (LONGEST_HEX + 1)) [
-  | inl h ↦ ap said_of_input (take_all (LONGEST_HEX + 1) bytes (omega arith))
-  | inr h ↦ let long = length-take-le (LONGEST_HEX + 1) bytes h in too_many (fetched LONGEST_HEX bytes) (omega arith) ∙ sym (too_many bytes (omega arith))
-]
 
 -- what is read of too long a script
 too_large : (text : List ℕ) (rest : Scripted) → LARGEST_SCRIPT < length text → (if nat_lt LARGEST_SCRIPT (length text) then Err (BadLine 0) else rest) ≡ Err (BadLine 0)

@@ -1,5 +1,5 @@
 -- Hex text that a datagram or a word was written as.
-use Rattle.std.proofs.Common.{◌≡◌, ℕ, ◌<◌, ◌≤◌, List, [], ◌∷◌, ◌++◌, nat_lt, length, Some, None, if◌then◌else◌, arith, ap, ◌∙◌, length-append}
+use Rattle.std.proofs.Common.{◌≡◌, ℕ, ◌<◌, ◌≤◌, List, [], ◌∷◌, nat_lt, length, Some, None, if◌then◌else◌, refl, arith, ap, ◌∙◌}
 use Rattle.std.proofs.lemmas.Bool.Decides.{nat_tests}
 use Rattle.std.proofs.lemmas.Grind.{common_steps}
 use Rattle.std.specs.Result.{result_ok}
@@ -7,7 +7,8 @@ use Rattle.siman_console.specs.declared.hex_text.TheConstants.{LONGEST_HEX}
 use Rattle.hex.specs.Hex.{IsBytes, encode_lower, lower_digits, decode_of}
 use Rattle.hex.proofs.HexLemmas.{decode_of-encode_lower, length-encode_with}
 use Rattle.siman_console.specs.HexText.{bytes_of}
-use Rattle.siman_console.specs.Answer.{not_byte_pairs, answer_to, said_of_bytes, said_of_hex, said_of_input, without_line_end}
+use Rattle.siman_console.specs.Answer.{not_byte_pairs, answer_to, said_of_bytes, said_of_hex}
+use Rattle.siman_console.specs.Lines.{told_of_said, told_of_line}
 
 -- a test that fails
 within : {X : Type 0} (m n : ℕ) (x y : X) → n ≤ m → (if nat_lt m n then x else y) ≡ y
@@ -22,12 +23,13 @@ bytes_of-encode_lower b bytes short =
 pub said_of_hex-encode_lower : (b : List ℕ) → IsBytes b → length b ≤ 32768 → said_of_hex (encode_lower b) ≡ answer_to b
 said_of_hex-encode_lower b bytes short = ap said_of_bytes (bytes_of-encode_lower b bytes short)
 
-without_line_end-line : (text : List ℕ) → without_line_end (text ++ 10 ∷ []) ≡ text
-without_line_end-line text = grind (arith, common_steps, nat_tests)
+-- a line that is not empty is answered for as the word
+told_of_line-some : (number : ℕ) (text : List ℕ) → 0 < length text → told_of_line number text ≡ told_of_said number (said_of_hex text)
+told_of_line-some number [] some = absurd (omega arith)
+told_of_line-some number (b ∷ bs) some = refl
 
--- a line is answered for as the word on it
-pub said_of_input-line : (text : List ℕ) → length text < LONGEST_HEX → said_of_input (text ++ 10 ∷ []) ≡ said_of_hex text
-said_of_input-line text short =
-    let long = length-append text (10 ∷ []) in
-    within LONGEST_HEX (length (text ++ 10 ∷ [])) not_byte_pairs (said_of_hex (without_line_end (text ++ 10 ∷ []))) (omega arith) ∙ ap said_of_hex
-    (without_line_end-line text)
+pub told_of_line-encode_lower : (number : ℕ) (b : List ℕ) → IsBytes b → 0 < length b → length b ≤ 32768
+    → told_of_line number (encode_lower b) ≡ told_of_said number (answer_to b)
+told_of_line-encode_lower number b bytes some short =
+    let twice = length-encode_with lower_digits b in
+    told_of_line-some number (encode_lower b) (omega arith) ∙ ap (told_of_said number) (said_of_hex-encode_lower b bytes short)

@@ -9,4 +9,7 @@ pub mod Searches
 pub mod Texts
 pub mod Verdicts
 pub mod Worlds
+pub mod Trials
+pub mod Tellings
+pub mod LineReadings
 pub mod Programs

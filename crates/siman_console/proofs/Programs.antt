@@ -8,18 +8,20 @@ use Rattle.siman_console.specs.declared.show.TheConstants.{LARGEST_RECORDING}
 use Rattle.exercise_recording.specs.Reading.{recording_at}
 use Rattle.exercise_check.specs.Certificate.{certificate_at, certificate_text}
 use Rattle.siman_console.specs.declared.fault.Fault.{Fault}
-use Rattle.siman_console.specs.Answer.{said_of_input, IsSaid}
 use Rattle.siman_console.specs.Check.{Recorded, Certified, TellsCheck}
 use Rattle.siman_console.specs.Outside.{Deed, Adds}
-use Rattle.siman_console.specs.Outcome.{Stream}
-use Rattle.siman_console.specs.Program.{Answered, TellsInput, TellsShown, TellsJudged, MakesFile, RunsFound, MakesBoth, MakesFinding, AuditsRecorded, AuditsFound}
+use Rattle.siman_console.specs.Lines.{EndsLines}
+use Rattle.siman_console.specs.Outcome.{Stream, Outcome}
+use Rattle.siman_console.specs.Program.{Answered, TriesInput, EndsInput, TellsShown, TellsJudged, MakesFile, RunsFound, MakesBoth, MakesFinding, AuditsRecorded, AuditsFound}
 use Rattle.siman_console.specs.declared.search.Finding.{Finding}
 use Rattle.siman_console.specs.declared.search.Finding.TheVariants.{Order, Stuck}
 use Rattle.siman_console.specs.Search.{Finds, Searches}
 use Rattle.siman_console.specs.Show.{TellsShow}
+use Rattle.siman_console.specs.Trial.{TellsTrial}
 use Rattle.siman_console.specs.World.{Scripted, Runs}
 use Rattle.exercise_model.specs.Recording.{PlainRecording}
 use Rattle.siman_worlds.specs.Script.{script_at}
+use Rattle.siman_worlds.specs.Text.{lines_of}
 
 -- nothing was written
 pub keeps_all : (a : Option (List ℕ)) → Keeps a a
@@ -97,7 +99,14 @@ pub showing : (r : Option (List ℕ)) (answered : Answered) (out : Stream) → I
 showing (Some r) answered out known some = known
 showing None answered out known some = some
 
-pub from_input : (input : Option (List ℕ)) (answered : Answered) (out : Stream) → IfSome input (λ bytes. IsSaid (said_of_input bytes) answered out.old out.new)
-    → (bytes : List ℕ) × IsSaid (said_of_input bytes) answered out.old out.new → TellsInput input answered out
-from_input (Some bytes) answered out known some = known
-from_input None answered out known some = some
+-- what is known of standard input, or of some
+pub trying : (input : Option (List ℕ)) (answered : Answered) (out : Stream)
+    → IfSome input (λ text. TellsTrial (script_at text) answered out.old out.new)
+    → (scripted : Scripted) × TellsTrial scripted answered out.old out.new → TriesInput input answered out
+trying (Some text) answered out known some = known
+trying None answered out known some = some
+
+pub ending : (input : Option (List ℕ)) (o : Outcome) → IfSome input (λ bytes. EndsLines (lines_of bytes) o)
+    → (lines : List (List ℕ)) × EndsLines lines o → EndsInput input o
+ending (Some bytes) o known some = known
+ending None o known some = some

@@ -1,14 +1,13 @@
 -- What the command `pdu` answers, and how it ends.
-use Rattle.std.specs.Prelude.{◌≡◌, ℕ, ◌++◌, codes, decimal, ◌≤◌, nat_lt, List, [], length, take, slice_index, ◌-◌, ◌==◌, Option, Some, None, Result, Ok, Err, if◌then◌else◌}
+use Rattle.std.specs.Prelude.{◌≡◌, ℕ, ◌++◌, codes, decimal, ◌≤◌, List, [], take, Option, Some, None, Result, Ok, Err}
 use Rattle.std.specs.Io.KnownBytes.{Appends, Keeps}
-use Rattle.siman_console.specs.declared.hex_text.TheConstants.{LONGEST_HEX}
 use Rattle.dis_records.specs.Header.{header_at}
 use Rattle.siman_pdus.specs.declared.fault.PduFault.{PduFault}
 use Rattle.siman_pdus.specs.declared.pdu.Pdu.{Pdu}
 use Rattle.siman_pdus.specs.Reading.{pdu_from, refusal_of}
 use Rattle.siman_pdus.specs.Texts.{refusal_number, pdu_fault_text}
 use Rattle.siman_console.specs.declared.fault.Fault.{Fault}
-use Rattle.siman_console.specs.declared.fault.Fault.TheVariants.{NotBytePairs, Input, File, Words, Recording, Certificate, Script, ScriptRead, World, Output, Memory}
+use Rattle.siman_console.specs.declared.fault.Fault.TheVariants.{NotBytePairs, HexLine, Input, File, Words, Recording, Certificate, Script, ScriptRead, World, Output, Memory}
 use Rattle.siman_console.specs.Ending.{EndsWith}
 use Rattle.siman_console.specs.HexText.{bytes_of}
 use Rattle.siman_console.specs.Records.{pdu_lines, line_end}
@@ -47,19 +46,12 @@ said_of_bytes (Some b) = answer_to b
 abbrev pub said_of_hex : List ℕ → Said
 said_of_hex text = said_of_bytes (bytes_of text)
 
--- a text without the one line end that it may have at its end
-abbrev pub without_line_end : List ℕ → List ℕ
-without_line_end text = if slice_index text (length text - 1) == 10 then take (length text - 1) text else text
-
--- what is answered to the bytes of standard input
-abbrev pub said_of_input : List ℕ → Said
-said_of_input bytes = if nat_lt LONGEST_HEX (length bytes) then not_byte_pairs else said_of_hex (without_line_end bytes)
-
 -- An answer was written whole, or of its text a prefix, and none of it where memory ran out or there is none to give.
 abbrev pub IsSaid : Said → Result ℕ Fault → Option (List ℕ) → Option (List ℕ) → Type 0
 IsSaid said (Ok status) old new = (status ≡ said.status) × (status ≤ 1) × Appends old new said.text
 IsSaid said (Err NotBytePairs) old new = (said ≡ not_byte_pairs) × Keeps old new
-IsSaid said (Err Input) old new = Keeps old new
+IsSaid said (Err (HexLine number)) old new = ⊥
+IsSaid said (Err Input) old new = ⊥
 IsSaid said (Err (File name)) old new = ⊥
 IsSaid said (Err Words) old new = ⊥
 IsSaid said (Err (Recording fault)) old new = ⊥

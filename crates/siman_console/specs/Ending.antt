@@ -20,14 +20,17 @@ use Rattle.siman_console.specs.declared.place.Place.{Place}
 use Rattle.siman_console.specs.declared.place.Place.TheVariants.{Offset, Line, Move}
 use Rattle.siman_console.specs.declared.fault.Fault.{Fault}
 use Rattle.siman_console.specs.declared.fault.Ended.{Ended}
-use Rattle.siman_console.specs.declared.fault.Fault.TheVariants.{NotBytePairs, Input, File, Words, Recording, Certificate, Script, ScriptRead, World, Output, Memory}
+use Rattle.siman_console.specs.declared.fault.Fault.TheVariants.{NotBytePairs, HexLine, Input, File, Words, Recording, Certificate, Script, ScriptRead, World, Output, Memory}
 use Rattle.siman_console.specs.declared.files_fault.FilesFault.{FilesFault}
 use Rattle.siman_console.specs.declared.files_fault.FilesFault.TheVariants as files
+use Rattle.siman_console.specs.declared.trial_fault.TrialFault.{TrialFault}
+use Rattle.siman_console.specs.declared.trial_fault.TrialFault.TheVariants as trials
 use Rattle.siman_console.specs.Records.{line_end}
 
 -- THE TABLE OF FAULTS: what each is about
 abbrev pub subject_of : Fault → List ℕ
 subject_of NotBytePairs = codes "hex: "
+subject_of (HexLine number) = codes "hex: "
 subject_of Input = codes "file: "
 subject_of (File name) = codes "file: "
 subject_of Words = codes "words: "
@@ -74,6 +77,7 @@ world_fault_name worlds.Memory = codes "memory"
 -- what there is to say of it
 abbrev pub name_of : Fault → List ℕ
 name_of NotBytePairs = codes "not byte pairs"
+name_of (HexLine number) = codes "not byte pairs"
 name_of Input = codes "-"
 name_of (File name) = name.now
 name_of Words = codes "not UTF-8"
@@ -85,7 +89,7 @@ name_of (World fault) = world_fault_name fault
 name_of Output = codes "write"
 name_of Memory = codes "memory"
 
--- where it is: the offset of a field in bytes from 0, a line of a script from 1, a move of a world from 0
+-- where it is: the offset of a field in bytes from 0, a line of a script or of hex texts from 1, a move of a world from 0
 abbrev pub recording_place : RecordingFault → Option Place
 recording_place (recordings.Format f) = Some (Offset (recording_texts.place_of f))
 recording_place recordings.Read = None
@@ -108,6 +112,7 @@ world_place worlds.Memory = None
 
 abbrev pub place_of : Fault → Option Place
 place_of NotBytePairs = None
+place_of (HexLine number) = Some (Line number)
 place_of Input = None
 place_of (File name) = None
 place_of Words = None
@@ -143,6 +148,7 @@ fault_line fault = fault_text fault ++ line_end
 -- the status that tells of it: 3 for want of memory, else 2
 abbrev pub fault_status : Fault → ℕ
 fault_status NotBytePairs = 2
+fault_status (HexLine number) = 2
 fault_status Input = 2
 fault_status (File name) = 2
 fault_status Words = 2
@@ -176,6 +182,14 @@ of_files (files.Recording fault) = Recording fault
 of_files (files.Certificate fault) = Certificate fault
 of_files files.Write = Output
 of_files files.Memory = Memory
+
+-- how the fault of a trial is told
+abbrev pub of_trial : TrialFault → Fault
+of_trial trials.Read = ScriptRead
+of_trial (trials.Script fault) = Script fault
+of_trial (trials.World fault) = World fault
+of_trial trials.Write = Output
+of_trial trials.Memory = Memory
 
 -- the status of an answer that was told, or of the fault that came in its place
 abbrev pub status_of : Result ℕ Fault → ℕ

@@ -12,4 +12,6 @@ pub mod Words
 pub mod Outcome
 pub mod Search
 pub mod World
+pub mod Trial
+pub mod Lines
 pub mod Program

@@ -12,28 +12,36 @@ use Rattle.exercise_check.specs.declared.certificate.Step.{Step}
 use Rattle.exercise_check.specs.Certificate.{certificate_at, certificate_text}
 use Rattle.exercise_model.specs.Recording.{PlainRecording}
 use Rattle.siman_worlds.specs.Script.{script_at}
+use Rattle.siman_worlds.specs.Text.{lines_of}
 use Rattle.siman_console.specs.declared.fault.Fault.{Fault}
 use Rattle.siman_console.specs.declared.fault.Fault.TheVariants.{Output, Memory}
-use Rattle.siman_console.specs.Answer.{said_of_hex, said_of_input, IsSaid}
+use Rattle.siman_console.specs.Answer.{said_of_hex, IsSaid}
 use Rattle.siman_console.specs.Check.{Recorded, Certified, TellsCheck}
 use Rattle.siman_console.specs.Ending.{Ends, fault_text}
+use Rattle.siman_console.specs.Lines.{EndsLines}
 use Rattle.siman_console.specs.Outside.{Deed, Opens, Makes, Leaves}
 use Rattle.siman_console.specs.Outcome.{Stream, Outcome, IsUnread, EndsUsage}
 use Rattle.siman_console.specs.declared.search.Finding.{Finding}
 use Rattle.siman_console.specs.declared.search.Finding.TheVariants as findings
 use Rattle.siman_console.specs.Search.{explained_line, FindsOrder, FindsNone, IsUnsearched, PutsBoth, PutsBlocked}
 use Rattle.siman_console.specs.Show.{TellsShow}
-use Rattle.siman_console.specs.Words.{Asked, Input, Pdu, Show, Check, Audit, World, asked}
+use Rattle.siman_console.specs.Trial.{TellsTrial}
+use Rattle.siman_console.specs.Words.{Asked, Trial, Pdu, Pdus, Show, Check, Audit, World, asked}
 use Rattle.siman_console.specs.World.{Scripted, Yields, YieldsNone, PutsWorld}
 
 -- what a command answered, its status, or the fault that it met
 abbrev pub Answered : Type 0
 Answered = Result ℕ Fault
 
--- `pdu` had to say what these bytes of standard input ask for, where they are known, or what some bytes do
-abbrev pub TellsInput : Option (List ℕ) → Answered → Stream → Type 0
-TellsInput (Some bytes) answered out = IsSaid (said_of_input bytes) answered out.old out.new
-TellsInput None answered out = (bytes : List ℕ) × IsSaid (said_of_input bytes) answered out.old out.new
+-- the script that was tried is what standard input has, where its bytes are known, or some
+abbrev pub TriesInput : Option (List ℕ) → Answered → Stream → Type 0
+TriesInput (Some text) answered out = TellsTrial (script_at text) answered out.old out.new
+TriesInput None answered out = (scripted : Scripted) × TellsTrial scripted answered out.old out.new
+
+-- the lines that `pdus` told are those of standard input, where its bytes are known, or some
+abbrev pub EndsInput : Option (List ℕ) → Outcome → Type 0
+EndsInput (Some bytes) o = EndsLines (lines_of bytes) o
+EndsInput None o = (lines : List (List ℕ)) × EndsLines lines o
 
 -- `show` had these bytes to show, or some
 abbrev pub TellsShown : Option (List ℕ) → Answered → Stream → Type 0
@@ -133,18 +141,19 @@ AuditsFile recording certificate (Opens opened (Err kind) ∷ deeds) answered ou
 AuditsFile recording certificate (Makes made found ∷ deeds) answered out = ⊥
 AuditsFile recording certificate (Leaves left ∷ deeds) answered out = ⊥
 
--- WHAT A TASK TELLS: which files it opened and made, in their order, what it answered or the fault that it met, and what it left on the writer of answers; standard input has these bytes where they are known
-abbrev pub TellsTask : Asked → List Deed → Option (List ℕ) → Answered → Stream → Type 0
-TellsTask Input deeds input answered out = (deeds ≡ []) × TellsInput input answered out
-TellsTask (Pdu hex) deeds input answered out = (deeds ≡ []) × IsSaid (said_of_hex hex) answered out.old out.new
-TellsTask (Show recording) deeds input answered out = ShowsFile recording deeds answered out
-TellsTask (Check recording certificate) deeds input answered out = ChecksFiles recording certificate deeds answered out
-TellsTask (Audit recording certificate) deeds input answered out = AuditsFile recording certificate deeds answered out
-TellsTask (World script recording) deeds input answered out = RunsFile script recording deeds answered out
+-- with the status of what was answered, or with that of the fault that was met, which is then told
+abbrev pub EndsAs : (Answered → Stream → Type 0) → Outcome → Type 0
+EndsAs Tells o = (answered : Answered) × Tells answered o.out × Ends answered o.ended o.errors.old o.errors.new
 
--- HOW A TASK ENDS: with the status of its answer, or with that of the fault that it met, which is then told
+-- HOW A TASK ENDS: which files it opened and made, in their order, what it answered or the fault that it met, and what it left on the writer of answers and on that of faults; standard input has these bytes where they are known
 abbrev pub EndsTask : Asked → List Deed → Option (List ℕ) → Outcome → Type 0
-EndsTask task deeds input o = (answered : Answered) × TellsTask task deeds input answered o.out × Ends answered o.ended o.errors.old o.errors.new
+EndsTask Trial deeds input o = (deeds ≡ []) × EndsAs (TriesInput input) o
+EndsTask (Pdu hex) deeds input o = (deeds ≡ []) × EndsAs (λ answered out. IsSaid (said_of_hex hex) answered out.old out.new) o
+EndsTask Pdus deeds input o = (deeds ≡ []) × EndsInput input o
+EndsTask (Show recording) deeds input o = EndsAs (ShowsFile recording deeds) o
+EndsTask (Check recording certificate) deeds input o = EndsAs (ChecksFiles recording certificate deeds) o
+EndsTask (Audit recording certificate) deeds input o = EndsAs (AuditsFile recording certificate deeds) o
+EndsTask (World script recording) deeds input o = EndsAs (RunsFile script recording deeds) o
 
 -- Words that ask for nothing of the table ask for help or break the usage, and no file is opened.
 abbrev pub EndsAsked : Option Asked → List Deed → Option (List ℕ) → Outcome → Type 0

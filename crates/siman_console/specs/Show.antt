@@ -15,7 +15,7 @@ use Rattle.exercise_model.specs.History.{station_at}
 use Rattle.exercise_model.specs.Meaning.{meaning}
 use Rattle.byte_files.specs.Writing.{WritesPart}
 use Rattle.siman_console.specs.declared.fault.Fault.{Fault}
-use Rattle.siman_console.specs.declared.fault.Fault.TheVariants.{NotBytePairs, Input, File, Words, Recording, Certificate, Script, ScriptRead, World, Output, Memory}
+use Rattle.siman_console.specs.declared.fault.Fault.TheVariants.{NotBytePairs, HexLine, Input, File, Words, Recording, Certificate, Script, ScriptRead, World, Output, Memory}
 use Rattle.siman_console.specs.Ending.{EndsWith}
 use Rattle.siman_console.specs.Head.{head_text}
 use Rattle.siman_console.specs.Records.{line_end}
@@ -91,6 +91,7 @@ Shows recorded (Err (Recording (recordings.Format fault))) old new = (recorded �
 Shows recorded (Err (Recording recordings.Read)) old new = Keeps old new
 Shows recorded (Err (Recording recordings.Memory)) old new = ⊥
 Shows recorded (Err NotBytePairs) old new = ⊥
+Shows recorded (Err (HexLine number)) old new = ⊥
 Shows recorded (Err Input) old new = ⊥
 Shows recorded (Err (File name)) old new = ⊥
 Shows recorded (Err Words) old new = ⊥

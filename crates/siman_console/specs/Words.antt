@@ -6,16 +6,18 @@ use Rattle.siman_console.specs.declared.words.Task.TheVariants as tasks
 
 -- what is asked for, by the words that it takes
 pub data Asked : Type 0 where
-  Input : Asked
+  Trial : Asked
   Pdu : (hex : List ℕ) → Asked
+  Pdus : Asked
   Show : (recording : List ℕ) → Asked
   Check : (recording certificate : List ℕ) → Asked
   Audit : (recording certificate : List ℕ) → Asked
   World : (script recording : List ℕ) → Asked
 
 abbrev pub asked_by : Task → Asked
-asked_by tasks.Input = Input
+asked_by tasks.Trial = Trial
 asked_by (tasks.Pdu hex) = Pdu hex.now
+asked_by tasks.Pdus = Pdus
 asked_by (tasks.Show recording) = Show recording.now
 asked_by (tasks.Check recording certificate) = Check recording.now certificate.now
 asked_by (tasks.Audit recording certificate) = Audit recording.now certificate.now
@@ -29,6 +31,10 @@ is_option word = nat_lt 1 (length word) && (slice_index word 0 == 45)
 abbrev pub pdu_asked : List (List ℕ) → Option Asked
 pdu_asked (hex ∷ []) = if is_option hex then None else Some (Pdu hex)
 pdu_asked words = None
+
+abbrev pub pdus_asked : List (List ℕ) → Option Asked
+pdus_asked [] = Some Pdus
+pdus_asked (word ∷ words) = None
 
 abbrev pub show_asked : List (List ℕ) → Option Asked
 show_asked (recording ∷ []) = if is_option recording then None else Some (Show recording)
@@ -49,6 +55,7 @@ world_asked words = None
 abbrev pub command_asked : List ℕ → List (List ℕ) → Option Asked
 command_asked command words =
     if bytes_eq command (codes "pdu") then pdu_asked words
+    else if bytes_eq command (codes "pdus") then pdus_asked words
     else if bytes_eq command (codes "show") then show_asked words
     else if bytes_eq command (codes "check") then check_asked words
     else if bytes_eq command (codes "audit") then audit_asked words
@@ -57,6 +64,6 @@ command_asked command words =
 
 -- THE TABLE OF COMMANDS: what words ask for, the program's name first; other words ask for help, or break the usage
 abbrev pub asked : List (List ℕ) → Option Asked
-asked [] = Some Input
-asked (program ∷ []) = Some Input
+asked [] = Some Trial
+asked (program ∷ []) = Some Trial
 asked (program ∷ command ∷ words) = command_asked command words

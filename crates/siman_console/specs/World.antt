@@ -15,7 +15,7 @@ use Rattle.siman_worlds.specs.declared.world_fault.WorldFault.TheVariants as wor
 use Rattle.siman_worlds.specs.Script.{ScriptData}
 use Rattle.siman_worlds.specs.World.{WorldData, sent_in, world_recording, world_refusal}
 use Rattle.siman_console.specs.declared.fault.Fault.{Fault}
-use Rattle.siman_console.specs.declared.fault.Fault.TheVariants.{NotBytePairs, Input, File, Words, Recording, Certificate, Script, ScriptRead, World, Output, Memory}
+use Rattle.siman_console.specs.declared.fault.Fault.TheVariants.{NotBytePairs, HexLine, Input, File, Words, Recording, Certificate, Script, ScriptRead, World, Output, Memory}
 use Rattle.siman_console.specs.Ending.{EndsWith}
 use Rattle.siman_console.specs.Outcome.{Stream}
 use Rattle.siman_console.specs.Records.{line_end}
@@ -56,6 +56,7 @@ YieldsNone scripted (World worlds.Stations) = Stops scripted worlds.Stations
 YieldsNone scripted (World (worlds.Move number fault)) = Stops scripted (worlds.Move number fault)
 YieldsNone scripted (World worlds.Memory) = ⊥
 YieldsNone scripted NotBytePairs = ⊥
+YieldsNone scripted (HexLine number) = ⊥
 YieldsNone scripted Input = ⊥
 YieldsNone scripted (File name) = ⊥
 YieldsNone scripted Words = ⊥
@@ -95,6 +96,7 @@ PutsWorld r (Ok status) file out =
 PutsWorld r (Err Output) file out = WritesShort r file out
 PutsWorld r (Err Memory) file out = WritesPart file.old file.new (recording_text r) × Keeps out.old out.new
 PutsWorld r (Err NotBytePairs) file out = ⊥
+PutsWorld r (Err (HexLine number)) file out = ⊥
 PutsWorld r (Err Input) file out = ⊥
 PutsWorld r (Err (File name)) file out = ⊥
 PutsWorld r (Err Words) file out = ⊥

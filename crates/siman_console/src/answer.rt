@@ -1,11 +1,11 @@
 //! What `pdu` answers for a datagram.
 
-ghost use Rattle.std.specs.Prelude.{◌≡◌, ℕ, ◌<◌, ◌≤◌, List, [], ◌∷◌, ◌++◌, length, IfOk, string_bytes};
-ghost use Rattle.siman_console.specs.declared.hex_text.TheConstants.{LONGEST_HEX};
+ghost use Rattle.std.specs.Prelude.{◌≡◌, ℕ, ◌<◌, ◌≤◌, List, length, IfOk, string_bytes};
 ghost use Rattle.hex.specs.Hex.{IsBytes, encode_lower};
 ghost use Rattle.siman_pdus.specs.declared.pdu.Pdu.{Pdu};
 ghost use Rattle.siman_pdus.specs.Spelling.{Spells};
-ghost use Rattle.siman_console.specs.Answer.{refusal_line, answer_to, said_of_hex, said_of_input, said_of_pdu};
+ghost use Rattle.siman_console.specs.Answer.{refusal_line, answer_to, said_of_hex, said_of_pdu};
+ghost use Rattle.siman_console.specs.Lines.{told_of_said, told_of_line};
 
 use crate::records::pdu_lines;
 use siman_pdus::{PduFault, decode, spellings_are_apart};
@@ -78,12 +78,12 @@ impl Answer {
 }
 
 /// Laws of the answers: a datagram that spells a PDU is shown as that PDU, and any other is refused;
-/// the hex text of a datagram is answered for as the datagram, with a line end after it or not.
+/// the hex text of a datagram is answered for as the datagram, as a word and as a line among others.
 pub fn answers_follow_the_grammar()
     ensures spelled { (pdu : Pdu) (b : List ℕ) → Spells pdu b → answer_to b ≡ said_of_pdu pdu }
     ensures not_spelled { (b : List ℕ) → ((pdu : Pdu) → ¬ Spells pdu b) → (answer_to b).status ≡ 1 }
     ensures hex { (b : List ℕ) → IsBytes b → length b ≤ 32768 → said_of_hex (encode_lower b) ≡ answer_to b }
-    ensures line { (text : List ℕ) → length text < LONGEST_HEX → said_of_input (text ++ 10 ∷ []) ≡ said_of_hex text }
+    ensures line { (number : ℕ) (b : List ℕ) → IsBytes b → 0 < length b → length b ≤ 32768 → told_of_line number (encode_lower b) ≡ told_of_said number (answer_to b) }
 {
     spellings_are_apart();
 }

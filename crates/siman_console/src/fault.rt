@@ -3,10 +3,11 @@
 ghost use Rattle.std.specs.Prelude.{◌≡◌, Some};
 ghost use Rattle.byte_files.specs.Writing.{Writes};
 ghost use Rattle.siman_console.specs.declared.fault.Fault.TheVariants.{Memory};
-ghost use Rattle.siman_console.specs.Ending.{subject_of, name_of, move_fault_name, place_of, place_text, fault_text, fault_line, fault_status, of_recording, of_files, of_script, of_world, Ends};
+ghost use Rattle.siman_console.specs.Ending.{subject_of, name_of, move_fault_name, place_of, place_text, fault_text, fault_line, fault_status, of_recording, of_files, of_script, of_world, of_trial, Ends};
 
 use crate::files_fault::FilesFault;
 use crate::place::Place;
+use crate::trial_fault::TrialFault;
 use byte_files::{WriteFailed, put, put_both};
 use exercise_check::CertificateFault;
 use exercise_recording::RecordingFault;
@@ -22,6 +23,8 @@ use std::io::Write;
 pub enum Fault<'a> {
     /// The hex text is more than 65,536 bytes, or is not pairs of hex digits.
     NotBytePairs,
+    /// The line of this number, from 1, is more than 65,536 bytes, or is not pairs of hex digits.
+    HexLine(usize),
     /// Standard input could not be read.
     Input,
     /// The file of this name could not be opened.
@@ -50,7 +53,7 @@ impl<'a> Fault<'a> {
         ensures { result.now ≡ subject_of self.entry }
     {
         match self {
-            Fault::NotBytePairs => "hex: ",
+            Fault::NotBytePairs | Fault::HexLine(_) => "hex: ",
             Fault::Input | Fault::File(_) => "file: ",
             Fault::Words => "words: ",
             Fault::Recording(_) => "recording: ",
@@ -67,7 +70,7 @@ impl<'a> Fault<'a> {
         ensures { result.now ≡ name_of self.entry }
     {
         match self {
-            Fault::NotBytePairs => "not byte pairs",
+            Fault::NotBytePairs | Fault::HexLine(_) => "not byte pairs",
             Fault::Input => "-",
             Fault::File(name) => name,
             Fault::Words => "not UTF-8",
@@ -98,7 +101,8 @@ impl<'a> Fault<'a> {
             Fault::Certificate(CertificateFault::Format(fault)) => {
                 Some(Place::Offset(fault.place()))
             }
-            Fault::Script(ScriptFault::BadLine(line) | ScriptFault::UnknownStation(line)) => {
+            Fault::HexLine(line)
+            | Fault::Script(ScriptFault::BadLine(line) | ScriptFault::UnknownStation(line)) => {
                 Some(Place::Line(line))
             }
             Fault::World(WorldFault::Move(number, _)) => Some(Place::Move(number)),
@@ -113,6 +117,7 @@ impl<'a> Fault<'a> {
         match self {
             Fault::Memory => 3,
             Fault::NotBytePairs
+            | Fault::HexLine(_)
             | Fault::Input
             | Fault::File(_)
             | Fault::Words
@@ -212,6 +217,20 @@ impl From<WorldFault> for Fault<'_> {
     }
 }
 
+impl From<TrialFault> for Fault<'_> {
+    ghost from_gives = { λ fault e. e ≡ of_trial fault };
+
+    fn from(fault: TrialFault) -> Self {
+        match fault {
+            TrialFault::Read => Fault::ScriptRead,
+            TrialFault::Script(fault) => Fault::Script(fault),
+            TrialFault::World(fault) => Fault::World(fault),
+            TrialFault::Write => Fault::Output,
+            TrialFault::Memory => Fault::Memory,
+        }
+    }
+}
+
 /// How a command ended.
 #[derive(Clone, Copy, Debug, PartialEq, Eq)]
 pub struct Ended {
@@ -245,7 +264,7 @@ fn tell_text<E: Write>(fault: Fault<'_>, errors: &mut E) -> Result<(), WriteFail
 }
 
 /// Writes the line of a fault.
-fn tell<E: Write>(fault: Fault<'_>, errors: &mut E) -> Result<(), WriteFailed>
+pub(crate) fn tell<E: Write>(fault: Fault<'_>, errors: &mut E) -> Result<(), WriteFailed>
     ensures { Writes result (E.contents errors.old) (E.contents errors.new) (fault_line fault.entry) }
 {
     tell_text(fault, errors)?;

@@ -3,10 +3,11 @@
 //!
 //! It opens no file and ends no process. The program and the tests call the same functions:
 //! [`read_words`] and [`usage_command`] for the words of a command line, [`pdu_command`] and
-//! [`pdu_from`] for datagrams in hex text, [`show_command`] for recordings, [`check_command`] for a
-//! recording and its certificate, [`world_command`] for a script and the recording of its world.
-//! Their contracts give the status and the bytes on the writer of
-//! the answer; the writer of faults gets bytes only where the status is 2 or 3.
+//! [`pdus_command`] for datagrams in hex text, [`show_command`] for recordings, [`check_command`]
+//! for a recording and its certificate, [`audit_command`] for the search of a recording,
+//! [`world_command`] for a script and the recording of its world, [`trial`] for a script and the
+//! report of its world. Their contracts give the status and the bytes on the writer of the answer;
+//! the writer of faults gets bytes only where the status is 2 or 3.
 #![tactic(auto)]
 
 mod answer;
@@ -18,29 +19,35 @@ mod files_fault;
 mod head;
 mod hex_text;
 mod input;
+mod lines;
 mod outside;
 mod place;
 mod program;
 mod recording_file;
 mod records;
 mod report;
+mod script_trial;
 mod search;
 mod show;
+mod trial_fault;
 mod words;
 mod world;
 
 pub use answer::answers_follow_the_grammar;
 pub use check::{LARGEST_CERTIFICATE, check_command, check_files};
-pub use datagram::{pdu_command, pdu_from};
+pub use datagram::pdu_command;
 pub use fault::Ended;
 pub use files_fault::FilesFault;
+pub use lines::pdus_command;
 pub use outside::Outside;
 pub use program::run;
+pub use script_trial::{perform, trial};
 pub use search::audit_command;
 pub use show::{LARGEST_RECORDING, show_command};
 pub use siman_worlds::{
     Act, LARGEST_SCRIPT, Move, MoveFault, Script, ScriptFault, WorldFault, WorldStation,
     read_script, run_world,
 };
+pub use trial_fault::TrialFault;
 pub use words::{Task, read_words, usage_command};
 pub use world::world_command;

@@ -5,13 +5,15 @@ ghost use Rattle.std.specs.IoError.{error_kind};
 ghost use Rattle.std.specs.List.{All};
 ghost use Rattle.siman_console.specs.Outside.{Deed, Found, Adds, WasHeld};
 ghost use Rattle.siman_console.specs.Outcome.{Stream, Outcome};
-ghost use Rattle.siman_console.specs.Program.{IsUnopened, IsUnmade, ShowsFile, ChecksFiles, MakesFile, RunsFile, MakesBoth, MakesFinding, AuditsFile, TellsTask, EndsProgram, words_by};
+ghost use Rattle.siman_console.specs.Program.{IsUnopened, IsUnmade, ShowsFile, ChecksFiles, MakesFile, RunsFile, MakesBoth, MakesFinding, AuditsFile, EndsTask, EndsProgram, words_by};
 ghost use Rattle.siman_console.specs.Words.{asked_by};
 
 use crate::check::check_recording;
-use crate::datagram::{tell_input, tell_word};
+use crate::datagram::tell_word;
 use crate::fault::{Ended, Fault, end};
+use crate::lines::end_lines;
 use crate::outside::Outside;
+use crate::script_trial::tell_trial;
 use crate::search::{Finding, put_order, put_stuck, search};
 use crate::show::show_recording;
 use crate::words::{Task, end_usage, read_words, unread};
@@ -182,28 +184,35 @@ fn audit_named<'a, O: Outside, W: Write>(
     }
 }
 
-/// Does what the words ask for, and gives the status of the answer.
-fn run_task<'a, O: Outside, R: Read + Drop, W: Write>(
+/// Does what the words ask for, and ends as that asks for.
+fn end_task<'a, O: Outside, R: Read + Drop, W: Write, E: Write>(
     alloc: Global,
     task: Task<'a>,
     outside: &mut O,
     input: R,
     out: &mut W,
-) -> Result<u8, Fault<'a>>
-    ensures { let out : Stream = record { old = W.contents out.old; new = W.contents out.new } in
-        (deeds : List Deed) × Adds (O.deeds outside.old) (O.deeds outside.new) deeds × All (WasHeld (O.holds outside.old)) deeds × TellsTask (asked_by task.entry) deeds (R.remaining input) result out }
+    errors: &mut E,
+) -> Ended
+    ensures { let o : Outcome = record { ended = result; out = record { old = W.contents out.old; new = W.contents out.new }; errors = record { old = E.contents errors.old; new = E.contents errors.new } } in
+        (deeds : List Deed) × Adds (O.deeds outside.old) (O.deeds outside.new) deeds × All (WasHeld (O.holds outside.old)) deeds × EndsTask (asked_by task.entry) deeds (R.remaining input) o }
 {
     match task {
-        Task::Input => tell_input(alloc, input, out),
-        Task::Pdu(hex) => tell_word(alloc, hex, out),
-        Task::Show(name) => show_file(alloc, name, outside, out),
+        Task::Trial => end(tell_trial(alloc, input, out), errors),
+        Task::Pdu(hex) => end(tell_word(alloc, hex, out), errors),
+        Task::Pdus => end_lines(alloc, input, out, errors),
+        Task::Show(name) => end(show_file(alloc, name, outside, out), errors),
         Task::Check(recording, certificate) => {
-            check_named(alloc, (recording, certificate), outside, out)
+            let names = (recording, certificate);
+            end(check_named(alloc, names, outside, out), errors)
         }
         Task::Audit(recording, certificate) => {
-            audit_named(alloc, (recording, certificate), outside, out)
+            let names = (recording, certificate);
+            end(audit_named(alloc, names, outside, out), errors)
         }
-        Task::World(script, recording) => world_named(alloc, (script, recording), outside, out),
+        Task::World(script, recording) => {
+            let names = (script, recording);
+            end(world_named(alloc, names, outside, out), errors)
+        }
     }
 }
 
@@ -228,7 +237,7 @@ pub fn run<O: Outside, R: Read + Drop, W: Write, E: Write>(
         Err(error) => return end(Err(unread(&error)), errors),
     };
     match read_words(alloc, words.as_slice()) {
-        Ok(task) => end(run_task(alloc, task, outside, input, out), errors),
+        Ok(task) => end_task(alloc, task, outside, input, out, errors),
         Err(error) => end_usage(&error, out, errors),
     }
 }

@@ -139,7 +139,7 @@ fn certificate_bytes(alloc: Global, certificate: &Certificate) -> Result<Vec<u8>
 }
 
 /// The line of an order of so many steps.
-fn explained_line(alloc: Global, steps: usize) -> Result<String, AllocError>
+pub(crate) fn explained_line(alloc: Global, steps: usize) -> Result<String, AllocError>
     ensures { IfOk result (λ line. string_bytes line ≡ explained_line steps) }
 {
     let mut line = String::new(alloc);

@@ -6,7 +6,7 @@ ghost use Rattle.std.specs.IoError.{error_kind};
 ghost use Rattle.clap.specs.Values.{kind_of};
 ghost use Rattle.siman_console.specs.Ending.{Wrote};
 ghost use Rattle.siman_console.specs.Outcome.{Outcome, EndsUsage, IsUnread};
-ghost use Rattle.siman_console.specs.Words.{asked_by, is_option, pdu_asked, show_asked, check_asked, audit_asked, world_asked, command_asked, asked};
+ghost use Rattle.siman_console.specs.Words.{asked_by, is_option, pdu_asked, pdus_asked, show_asked, check_asked, audit_asked, world_asked, command_asked, asked};
 
 use crate::fault::{Ended, Fault, end};
 use byte_files::put_shown;
@@ -20,10 +20,13 @@ use std::io::{ErrorKind as IoKind, Write};
 /// What to do.
 #[derive(Clone, Copy, Debug, PartialEq, Eq)]
 pub enum Task<'a> {
-    /// No words: show the datagram that standard input has in hex text.
-    Input,
+    /// No words: run the script that standard input has, search the recording of its world for an
+    /// order, and judge it.
+    Trial,
     /// `pdu HEX`: show the datagram of this hex text.
     Pdu(&'a str),
+    /// `pdus`: show the datagrams that standard input has in hex text, one a line.
+    Pdus,
     /// `show REC`: show the recording of this file.
     Show(&'a str),
     /// `check REC CERT`: judge the recording of the first file by the certificate of the second.
@@ -41,12 +44,14 @@ const VERSION: &str = "0.1.0";
 /// What the exit statuses tell, for the help.
 const STATUSES: &str = "Exit status:
   0  the answer is on standard output; of `check` it is yes, of `audit` explained
-  1  the datagram is refused, or the answer of `check` is no, of `audit` blocked
+  1  a datagram is refused, or the answer of `check` is no, of `audit` blocked
   2  a fault of usage, hex text, files, scripts, worlds or writing, told on standard error
   3  memory ran out
 
 Examples:
+  siman < exercise.script
   siman pdu 07010B0500000000001C000000010001000000020003000700000001
+  siman pdus < datagrams.hex
   siman show exercise.dsrc
   siman check exercise.dsrc exercise.dsct
   siman audit exercise.dsrc exercise.dsct
@@ -64,6 +69,16 @@ fn pdu<'a>(alloc: Global) -> Result<Command<'a>, Error> {
                 "Example:\n  siman pdu 07010B0500000000001C000000010001000000020003000700000001",
             )
             .arg(hex)?,
+    )
+}
+
+fn pdus<'a>(alloc: Global) -> Result<Command<'a>, Error> {
+    Ok(
+        Command::new(alloc, "pdus")
+            .about(
+                "Shows the PDUs of many datagrams, whose hex texts are read from standard input, one a line",
+            )
+            .after_help("Example:\n  siman pdus < datagrams.hex"),
     )
 }
 
@@ -140,9 +155,10 @@ fn siman<'a>(alloc: Global) -> Result<Command<'a>, Error> {
             .version(VERSION)
             .after_help(STATUSES)
             .about(
-                "Shows Simulation Management PDUs of DIS (IEEE 1278.1-2012). With no command, the hex text of a datagram is read from standard input",
+                "Shows Simulation Management PDUs of DIS (IEEE 1278.1-2012), and runs, shows, searches and checks recorded exercises. With no command, a script is read from standard input, run, searched for an order and checked",
             )
             .subcommand(pdu(alloc)?)?
+            .subcommand(pdus(alloc)?)?
             .subcommand(show(alloc)?)?
             .subcommand(check(alloc)?)?
             .subcommand(audit(alloc)?)?
@@ -163,6 +179,15 @@ fn pdu_task<S: AsStr>(words: &[S]) -> Option<Task<'_>>
 {
     match words {
         [hex] if !is_option(hex.as_str()) => Some(Task::Pdu(hex.as_str())),
+        _ => None,
+    }
+}
+
+fn pdus_task<S: AsStr>(words: &[S]) -> Option<Task<'_>>
+    ensures { option_map asked_by result ≡ pdus_asked (map S.text words.now) }
+{
+    match words {
+        [] => Some(Task::Pdus),
         _ => None,
     }
 }
@@ -217,6 +242,7 @@ fn command_task<'a, S: AsStr>(command: &str, words: &'a [S]) -> Option<Task<'a>>
 {
     match command {
         "pdu" => pdu_task(words),
+        "pdus" => pdus_task(words),
         "show" => show_task(words),
         "check" => check_task(words),
         "audit" => audit_task(words),
@@ -230,7 +256,7 @@ fn task_of<S: AsStr>(words: &[S]) -> Option<Task<'_>>
     ensures { option_map asked_by result ≡ asked (map S.text words.now) }
 {
     match words {
-        [] | [_] => Some(Task::Input),
+        [] | [_] => Some(Task::Trial),
         [_, command, rest @ ..] => command_task(command.as_str(), rest),
     }
 }

@@ -120,7 +120,7 @@ pub(crate) fn put_world<F: Write, W: Write>(
 }
 
 /// The line of a world: how many entries its recording has, and how many of them were sent.
-fn world_line(alloc: Global, recording: &Recording) -> Result<String, AllocError>
+pub(crate) fn world_line(alloc: Global, recording: &Recording) -> Result<String, AllocError>
     ensures { IfOk result (λ line. string_bytes line ≡ world_line recording.now) }
 {
     let entries = recording.entries();

@@ -2,7 +2,7 @@
 
 use super::exchanges::{ENTRIES, certificate, recording};
 use super::records::fixed_data;
-use siman_console::{check_command, pdu_from, show_command};
+use siman_console::{check_command, pdus_command, show_command};
 use std::alloc::Global;
 
 /// Whether a text begins and ends with these lines.
@@ -55,7 +55,7 @@ fn is_data_shown(alloc: Global) -> bool {
         return false;
     };
     let (mut out, mut errors) = (Vec::new(alloc), Vec::new(alloc));
-    let status = pdu_from(alloc, text.as_bytes(), &mut out, &mut errors);
+    let status = pdus_command(alloc, text.as_bytes(), &mut out, &mut errors);
     let first =
         "data version=7 exercise=1 stamp=0 status=0 from=2:3:0 to=1:1:0 request=1 fixed=1019 variable=0\nfixed 0 5\n";
     status == 0 && errors.is_empty() && is_between(&out, first, "\nfixed 1018 5\n")

@@ -29,14 +29,14 @@ pub returns-in-Ok-read_words : goal.returns-in-Ok-read_words
 returns-in-Ok-read_words g c =
     let input = g.R.Read.remaining c.args.input in
     let o : Outcome = record {
-      ended = c.end-in-Ok-read_words.result;
-      out = record { old = g.W.Write.contents c.args.out.now; new = g.W.Write.contents c.run_task.new.out };
-      errors = record { old = g.E.Write.contents c.args.errors.now; new = g.E.Write.contents c.end-in-Ok-read_words.new.errors };
+      ended = c.end_task.result;
+      out = record { old = g.W.Write.contents c.args.out.now; new = g.W.Write.contents c.end_task.new.out };
+      errors = record { old = g.E.Write.contents c.args.errors.now; new = g.E.Write.contents c.end_task.new.errors };
     } in
-    let ran = c.run_task.ensures in
+    let ran = c.end_task.ensures in
     let known : Some (asked_by c.in-Ok-read_words.task) ≡ asked (map string_bytes c.in-Ok.words.items) = c.in-Ok-read_words.ensures ∙ ap
     (λ words. asked (map string_bytes words)) c.as_slice.ensures.value in
-    let ends : EndsAsked (Some (asked_by c.in-Ok-read_words.task)) ran.0 input o = (c.run_task.result, ran.3, c.end-in-Ok-read_words.ensures) in
+    let ends : EndsAsked (Some (asked_by c.in-Ok-read_words.task)) ran.0 input o = ran.3 in
     let asks : EndsAsked (asked (map string_bytes c.in-Ok.words.items)) ran.0 input o = subst (λ task. EndsAsked task ran.0 input o) known ends in
     (ran.0, ran.1, ran.2, subst (λ words. EndsProgram (words_by error_kind words) ran.0 input o) (sym c.in-Ok.is) asks)
 

@@ -1,0 +1,344 @@
+-- What is told of lines, one after the other.
+use Rattle.std.proofs.Common.{◌≡◌, ◌≢◌, ◌⊎◌, ℕ, zero, suc, ◌+◌, ◌<◌, ◌≤◌, max, List, [], ◌∷◌, ◌++◌, length, take, nat_lt, if◌then◌else◌, Option, Some, None, Result, Ok, Err, refl, sym, ap, ◌∙◌, subst, inl, inr, arith, append_assoc, append-nil, length-append, length-take-le, take_all}
+use Rattle.std.specs.Prelude.{IfSome}
+use Rattle.std.specs.Result.{IsErrAnd}
+use Rattle.std.specs.Io.KnownBytes.{Appends, Consumes, Keeps, IsAtEnd}
+use Rattle.std.proofs.KnownBytes.{Appends-trans, Appends-kept, Appends-nil, Keeps-refl}
+use Rattle.std.proofs.lemmas.Bool.{cases_lt}
+use Rattle.std.proofs.lemmas.Bool.Decides.{nat_tests}
+use Rattle.byte_files.specs.Writing.{WritesPart}
+use Rattle.dis_records.specs.Header.{header_at}
+use Rattle.siman_pdus.specs.declared.fault.PduFault.{PduFault}
+use Rattle.siman_pdus.specs.declared.pdu.Pdu.{Pdu}
+use Rattle.siman_pdus.specs.Reading.{pdu_from, refusal_of}
+use Rattle.siman_worlds.specs.Text.{lines_of}
+use Rattle.siman_console.specs.declared.hex_text.TheConstants.{LONGEST_HEX}
+use Rattle.siman_console.specs.declared.fault.Ended.{Ended}
+use Rattle.siman_console.specs.declared.fault.Fault.{Fault}
+use Rattle.siman_console.specs.Ending.{Wrote}
+use Rattle.siman_console.specs.declared.fault.Fault.TheVariants.{NotBytePairs, HexLine, Input, File, Words, Recording, Certificate, Script, ScriptRead, World, Output, Memory}
+use Rattle.siman_console.specs.declared.lines.Stop.{Stop}
+use Rattle.siman_console.specs.declared.lines.Stop.TheVariants as stops
+use Rattle.siman_console.specs.Answer.{not_byte_pairs, said_of_reading, said_of_bytes, said_of_hex, IsSaid}
+use Rattle.siman_console.specs.HexText.{bytes_of}
+use Rattle.siman_console.specs.Lines.{Told, untold, and_then, told_of_said, told_of_line, told_of, IsWritten, WritesTorn, OfFirst, StopsAfter, TellsLines, TellsBad, TellsLine, ReadsLine, ReadsLines, HoldsLine, EndsLines}
+use Rattle.siman_console.specs.Outcome.{Stream, Outcome}
+
+-- ---- what is told
+
+same_told : (s t : ℕ) (o p e f : List ℕ) → s ≡ t → o ≡ p → e ≡ f
+    → record { status = s; out = o; errors = e } ≡ (let told : Told = record { status = t; out = p; errors = f } in told)
+same_told s t o p e f a b c = rw (a, b, c) refl
+
+and_then-untold : (a : Told) → and_then a untold ≡ and_then untold a
+and_then-untold a = same_told _ _ _ _ _ _ (omega arith) (append-nil a.out) (append-nil a.errors)
+
+and_then_assoc : (a b c : Told) → and_then a (and_then b c) ≡ and_then (and_then a b) c
+and_then_assoc a b c =
+    same_told _ _ _ _ _ _ (omega arith) (sym (append_assoc a.out b.out c.out)) (sym (append_assoc a.errors b.errors c.errors))
+
+-- what is told of one more line
+pub told_of-push : (n : ℕ) (lines : List (List ℕ)) (line : List ℕ)
+    → told_of n (lines ++ line ∷ []) ≡ and_then (told_of n lines) (told_of_line ((n + length lines) + 1) line)
+unfolding told_of
+told_of-push n [] line =
+    let same : (n + 0) + 1 ≡ n + 1 = omega arith in
+    and_then-untold (told_of_line (n + 1) line) ∙ ap (λ k. and_then untold (told_of_line k line)) (sym same)
+told_of-push n (first ∷ lines) line =
+    let same : ((n + 1) + length lines) + 1 ≡ (n + suc (length lines)) + 1 = omega arith in
+    let head = told_of_line (n + 1) first in
+    ap (and_then head) (told_of-push (n + 1) lines line)
+    ∙ and_then_assoc head (told_of (n + 1) lines) (told_of_line (((n + 1) + length lines) + 1) line)
+    ∙ ap (λ k. and_then (and_then head (told_of (n + 1) lines)) (told_of_line k line)) same
+
+told_of-next : (lines : List (List ℕ)) (line : List ℕ) (n : ℕ) → n ≡ length lines + 1
+    → told_of 0 (lines ++ line ∷ []) ≡ and_then (told_of 0 lines) (told_of_line n line)
+told_of-next lines line n number =
+    let same : (0 + length lines) + 1 ≡ n = omega arith in
+    told_of-push 0 lines line ∙ ap (λ k. and_then (told_of 0 lines) (told_of_line k line)) same
+
+pub told_of-none : told_of 0 [] ≡ untold
+unfolding told_of
+told_of-none = refl
+
+-- a line that is not empty is answered for as a word
+pub told_of_line-some : (number : ℕ) (line : List ℕ) → 0 < length line → told_of_line number line ≡ told_of_said number (said_of_hex line)
+told_of_line-some number [] some = absurd (omega arith)
+told_of_line-some number (b ∷ bs) some = refl
+
+over : {X : Type 0} (m n : ℕ) (x y : X) → m < n → (if nat_lt m n then x else y) ≡ x
+over m n x y h = grind (arith, nat_tests)
+
+-- too long a line is not byte pairs
+said_of_hex-long : (line : List ℕ) → LONGEST_HEX < length line → said_of_hex line ≡ not_byte_pairs
+said_of_hex-long line h = ap said_of_bytes (over LONGEST_HEX (length line) _ _ h)
+
+-- The same is told of as much of a line as is held.
+told_of_line-cut : (number : ℕ) (line : List ℕ) → told_of_line number (take (LONGEST_HEX + 1) line) ≡ told_of_line number line
+told_of_line-cut number line = elim (cases_lt (length line) (LONGEST_HEX + 1)) [
+  | inl h ↦ ap (told_of_line number) (take_all (LONGEST_HEX + 1) line (omega arith))
+  | inr h ↦
+      let front = take (LONGEST_HEX + 1) line in
+      let long = length-take-le (LONGEST_HEX + 1) line h in
+      let short = said_of_hex-long front (omega arith) in
+      told_of_line-some number front (omega arith) ∙ ap (told_of_said number) (short ∙ sym (said_of_hex-long line (omega arith))) ∙ sym
+      (told_of_line-some number line (omega arith))
+]
+
+pub told_of_line-held : (number : ℕ) (held buffer line : List ℕ) → length buffer ≡ LONGEST_HEX + 1 → held ≡ take (length buffer) line
+    → told_of_line number held ≡ told_of_line number line
+told_of_line-held number held buffer line size front =
+    ap (told_of_line number) (front ∙ ap (λ n. take n line) size) ∙ told_of_line-cut number line
+
+-- ---- what is written
+
+abbrev pub stream : (old new : Option (List ℕ)) → Stream
+stream old new = record { old = old; new = new }
+
+-- Behind the lines so far one more was told.
+pub written-more : (lines : List (List ℕ)) (line : List ℕ) (n : ℕ) (o p q e f g : Option (List ℕ)) → n ≡ length lines + 1
+    → IsWritten (told_of 0 lines) (stream o p) (stream e f) → IsWritten (told_of_line n line) (stream p q) (stream f g)
+    → IsWritten (told_of 0 (lines ++ line ∷ [])) (stream o q) (stream e g)
+written-more lines line n o p q e f g number before more =
+    let whole : told_of 0 (lines ++ line ∷ []) ≡ and_then (told_of 0 lines) (told_of_line n line) =
+    told_of-next lines line n number in
+    subst (λ told. IsWritten told (stream o q) (stream e g)) (sym whole)
+    (Appends-trans o p q _ _ before.0 more.0, Appends-trans e f g _ _ before.1 more.1)
+
+pub worst-more : (lines : List (List ℕ)) (line : List ℕ) (n worst status : ℕ) → n ≡ length lines + 1 → worst ≡ (told_of 0 lines).status
+    → status ≡ (told_of_line n line).status → max worst status ≡ (told_of 0 (lines ++ line ∷ [])).status
+worst-more lines line n worst status number before more =
+    let whole : told_of 0 (lines ++ line ∷ []) ≡ and_then (told_of 0 lines) (told_of_line n line) =
+    told_of-next lines line n number in
+    rw (before, more) (sym (ap (λ (told : Told). told.status) whole))
+
+-- nothing of no lines
+pub written-none : (o e : Option (List ℕ)) → IsWritten (told_of 0 []) (stream o o) (stream e e)
+written-none o e = subst (λ told. IsWritten told (stream o o) (stream e e)) (sym told_of-none) (Appends-nil o, Appends-nil e)
+
+-- a prefix of a text behind another
+torn-behind : (o p q : Option (List ℕ)) (text torn : List ℕ) → Appends o p text → WritesPart p q torn → WritesTorn (stream o q) text torn
+torn-behind o p q text torn before part = (part.0, Appends-trans o p q text (take part.0 torn) before part.1)
+
+-- It stopped in a line.
+pub stops-in : (lines others : List (List ℕ)) (line : List ℕ) (n : ℕ) (stop : Stop) (o p q e f g : Option (List ℕ)) → n ≡ length lines + 1
+    → IsWritten (told_of 0 lines) (stream o p) (stream e f) → TellsLine (told_of_line n line) (Err stop) (stream p q) (stream f g)
+    → StopsAfter lines (line ∷ others) stop (stream o q) (stream e g)
+stops-in lines others line n (stops.Untold failed) o p q e f g number before told = (
+  Appends-kept o p q _ before.0 told.0,
+  subst (λ k. WritesTorn (stream e g) (told_of 0 lines).errors (told_of_line k line).errors) number
+      (torn-behind e f g _ _ before.1 told.1),
+)
+stops-in lines others line n (stops.Fault fault) o p q e f g number before (kept, inl short) =
+    (Appends-kept e f g _ before.1 kept, inl (inr short.0, Appends-kept o p q _ before.0 short.1))
+stops-in lines others line n (stops.Fault fault) o p q e f g number before (kept, inr failed) = (
+  Appends-kept e f g _ before.1 kept,
+  inr (
+    failed.0,
+    subst (λ k. WritesTorn (stream o q) (told_of 0 lines).out (told_of_line k line).out) number
+        (torn-behind o p q _ _ before.0 failed.1),
+  ),
+)
+
+-- ---- one line
+
+-- what goes out of a line is what `pdu` would say
+out_of_reading : (number : ℕ) (refusal : Option PduFault) (pdu : Pdu)
+    → (told_of_said number (said_of_reading refusal pdu)).out ≡ (said_of_reading refusal pdu).text
+out_of_reading number None pdu = refl
+out_of_reading number (Some fault) pdu = refl
+
+out_of_bytes : (number : ℕ) (bytes : Option (List ℕ)) → (told_of_said number (said_of_bytes bytes)).out ≡ (said_of_bytes bytes).text
+out_of_bytes number None = refl
+out_of_bytes number (Some b) = out_of_reading number (refusal_of b) (pdu_from (header_at b) b)
+
+out_of_line : (number : ℕ) (line : List ℕ) → 0 < length line → (told_of_line number line).out ≡ (said_of_hex line).text
+out_of_line number line some = ap (λ (told : Told). told.out) (told_of_line-some number line some) ∙ out_of_bytes number (bytes_of line)
+
+-- a bad line
+pub line-bad : (number : ℕ) (line : List ℕ) (result : Result ℕ Stop) (o p e f : Option (List ℕ)) → 0 < length line → said_of_hex line ≡ not_byte_pairs
+    → Keeps o p → TellsBad number result (stream e f) → TellsLine (told_of_line number line) result (stream o p) (stream e f)
+line-bad number line (Ok status) o p e f some bad kept told =
+    let same = told_of_line-some number line some ∙ ap (told_of_said number) bad in
+    subst (λ (t : Told). TellsLine t (Ok status) (stream o p) (stream e f)) (sym same) (told.0, (Appends-kept o o p [] (Appends-nil o) kept, told.1))
+line-bad number line (Err (stops.Untold failed)) o p e f some bad kept told =
+    let same = told_of_line-some number line some ∙ ap (told_of_said number) bad in
+    subst (λ (t : Told). TellsLine t (Err (stops.Untold failed)) (stream o p) (stream e f)) (sym same) (kept, told)
+line-bad number line (Err (stops.Fault fault)) o p e f some bad kept told = absurd told
+
+-- a line that was not told whole
+pub line-stopped : (number : ℕ) (line : List ℕ) (fault : Fault) (o p e : Option (List ℕ)) → 0 < length line → IsSaid (said_of_hex line) (Err fault) o p
+    → fault ≢ NotBytePairs → TellsLine (told_of_line number line) (Err (stops.Fault fault)) (stream o p) (stream e e)
+line-stopped number line NotBytePairs o p e some said other = absurd (other refl)
+line-stopped number line (HexLine n) o p e some said other = absurd said
+line-stopped number line Input o p e some said other = absurd said
+line-stopped number line (File name) o p e some said other = absurd said
+line-stopped number line Words o p e some said other = absurd said
+line-stopped number line (Recording f) o p e some said other = absurd said
+line-stopped number line (Certificate f) o p e some said other = absurd said
+line-stopped number line (Script f) o p e some said other = absurd said
+line-stopped number line ScriptRead o p e some said other = absurd said
+line-stopped number line (World f) o p e some said other = absurd said
+line-stopped number line Output o p e some said other =
+    (Keeps-refl e, inr (refl, subst (WritesPart o p) (sym (out_of_line number line some)) said))
+line-stopped number line Memory o p e some said other = (Keeps-refl e, inl (refl, said))
+
+-- what was told of what is held of a line is told of the line
+pub line-held : (number : ℕ) (b c : Option (List ℕ)) (buffer text : List ℕ) (held : ℕ) (result : Result ℕ Stop) (out errors : Stream)
+    → length buffer ≡ LONGEST_HEX + 1 → (holds : HoldsLine b c buffer held) → text ≡ take held buffer
+    → TellsLine (told_of_line number text) result out errors → TellsLine (told_of_line number holds.line) result out errors
+line-held number b c buffer text held result out errors size holds front told =
+    subst (λ (t : Told). TellsLine t result out errors) (told_of_line-held number text buffer holds.line size (front ∙ holds.front)) told
+
+-- ---- what is read
+
+pub reads-none : (a : Option (List ℕ)) → ReadsLines a a []
+reads-none None = tt
+reads-none (Some bytes) = refl
+
+pub reads-more : (a b c : Option (List ℕ)) (lines : List (List ℕ)) (line : List ℕ) → ReadsLines a b lines → ReadsLine b c line
+    → ReadsLines a c (lines ++ line ∷ [])
+reads-more None b c lines line before next = tt
+reads-more (Some x) None c lines line before next = absurd before
+reads-more (Some x) (Some y) None lines line before next = absurd next
+reads-more (Some x) (Some y) (Some z) lines line before next =
+    before ∙ ap (λ ls. lines ++ ls) next ∙ sym (append_assoc lines (line ∷ []) (lines_of z))
+
+-- All lines were told.
+pub all-told : (a b : Option (List ℕ)) (lines : List (List ℕ)) (status : ℕ) (out errors : Stream) → ReadsLines a b lines → IsAtEnd b
+    → TellsLines lines (Ok status) out errors → IfSome a (λ bytes. TellsLines (lines_of bytes) (Ok status) out errors)
+all-told None b lines status out errors read end told = tt
+all-told (Some x) None lines status out errors read end told = absurd read
+all-told (Some x) (Some y) lines status out errors read end told =
+    let all : lines_of x ≡ lines = read ∙ ap (λ bytes. lines ++ lines_of bytes) end ∙ append-nil lines in
+    subst (λ ls. TellsLines ls (Ok status) out errors) (sym all) told
+
+-- It stopped between two lines.
+pub stopped-between : (a b : Option (List ℕ)) (lines : List (List ℕ)) (stop : Stop) (out errors : Stream) → ReadsLines a b lines
+    → ((rest : List (List ℕ)) → StopsAfter lines rest stop out errors) → IfSome a (λ bytes. TellsLines (lines_of bytes) (Err stop) out errors)
+stopped-between None b lines stop out errors read stops = tt
+stopped-between (Some x) None lines stop out errors read stops = absurd read
+stopped-between (Some x) (Some y) lines stop out errors read stops = (lines, lines_of y, read, stops (lines_of y))
+
+-- It stopped in a line that was read.
+pub stopped-in : (a b c : Option (List ℕ)) (lines : List (List ℕ)) (line : List ℕ) (stop : Stop) (out errors : Stream) → ReadsLines a b lines
+    → ReadsLine b c line → ((others : List (List ℕ)) → StopsAfter lines (line ∷ others) stop out errors)
+    → IfSome a (λ bytes. TellsLines (lines_of bytes) (Err stop) out errors)
+stopped-in None b c lines line stop out errors read next stops = tt
+stopped-in (Some x) None c lines line stop out errors read next stops = absurd read
+stopped-in (Some x) (Some y) None lines line stop out errors read next stops = absurd next
+stopped-in (Some x) (Some y) (Some z) lines line stop out errors read next stops =
+    (lines, line ∷ lines_of z, read ∙ ap (λ ls. lines ++ ls) next, stops (lines_of z))
+
+-- ---- the lines so far
+
+-- These lines were read and told, and their number and worst status kept.
+pub record ToldSoFar (a b o p e f : Option (List ℕ)) (number worst : ℕ) : Type 0 where
+  pub lines : List (List ℕ)
+  pub count : number ≡ length lines + 1
+  pub status : worst ≡ (told_of 0 lines).status
+  pub written : IsWritten (told_of 0 lines) (stream o p) (stream e f)
+  pub read : ReadsLines a b lines
+
+pub told-none : (a o e : Option (List ℕ)) → ToldSoFar a a o o e e 1 0
+told-none a o e = record {
+  lines = [];
+  count = refl;
+  status = sym (ap (λ (told : Told). told.status) told_of-none);
+  written = written-none o e;
+  read = reads-none a;
+}
+
+-- one more line was read, and told
+pub told-more : (a b c o p q e f g : Option (List ℕ)) (number worst status worse : ℕ) (line : List ℕ) → ToldSoFar a b o p e f number worst
+    → ReadsLine b c line → worse ≡ max worst status → TellsLine (told_of_line number line) (Ok status) (stream p q) (stream f g)
+    → ToldSoFar a c o q e g (number + 1) worse
+told-more a b c o p q e f g number worst status worse line before next worsen told =
+    let longer = length-append before.lines (line ∷ []) in
+    record {
+      lines = before.lines ++ line ∷ [];
+      count = (let one = before.count in omega arith);
+      status = worsen ∙ worst-more before.lines line number worst status before.count before.status told.0;
+      written = written-more before.lines line number o p q e f g before.count before.written told.1;
+      read = reads-more a b c before.lines line before.read next;
+    }
+
+-- there are no more
+pub told-all : (a b o p e f : Option (List ℕ)) (number worst : ℕ) → ToldSoFar a b o p e f number worst → IsAtEnd b
+    → IfSome a (λ bytes. TellsLines (lines_of bytes) (Ok worst) (stream o p) (stream e f))
+told-all a b o p e f number worst before end =
+    all-told a b before.lines worst (stream o p) (stream e f) before.read end (before.status, before.written)
+
+pub told-some : (a b o p e f : Option (List ℕ)) (number worst : ℕ) → ToldSoFar a b o p e f number worst
+    → (lines : List (List ℕ)) × TellsLines lines (Ok worst) (stream o p) (stream e f)
+told-some a b o p e f number worst before = (before.lines, (before.status, before.written))
+
+-- a read failed
+stops-unread : (lines rest : List (List ℕ)) (o p e f : Option (List ℕ)) → IsWritten (told_of 0 lines) (stream o p) (stream e f)
+    → StopsAfter lines rest (stops.Fault Input) (stream o p) (stream e f)
+stops-unread lines rest o p e f written = (written.1, inl (inl refl, written.0))
+
+pub told-unread : (a b o p e f : Option (List ℕ)) (number worst : ℕ) → ToldSoFar a b o p e f number worst
+    → IfSome a (λ bytes. TellsLines (lines_of bytes) (Err (stops.Fault Input)) (stream o p) (stream e f))
+told-unread a b o p e f number worst before =
+    stopped-between a b before.lines (stops.Fault Input) (stream o p) (stream e f) before.read
+    (λ rest. stops-unread before.lines rest o p e f before.written)
+
+pub told-unread-some : (a b o p e f : Option (List ℕ)) (number worst : ℕ) → ToldSoFar a b o p e f number worst
+    → (lines : List (List ℕ)) × TellsLines lines (Err (stops.Fault Input)) (stream o p) (stream e f)
+told-unread-some a b o p e f number worst before =
+    (before.lines ++ [], (before.lines, [], refl, stops-unread before.lines [] o p e f before.written))
+
+-- it stopped in a line
+pub told-short : (a b c o p q e f g : Option (List ℕ)) (number worst : ℕ) (stop : Stop) (line : List ℕ) → ToldSoFar a b o p e f number worst → ReadsLine b c line
+    → TellsLine (told_of_line number line) (Err stop) (stream p q) (stream f g)
+    → IfSome a (λ bytes. TellsLines (lines_of bytes) (Err stop) (stream o q) (stream e g))
+told-short a b c o p q e f g number worst stop line before next told =
+    stopped-in a b c before.lines line stop (stream o q) (stream e g) before.read next
+    (λ others. stops-in before.lines others line number stop o p q e f g before.count before.written told)
+
+pub told-short-some : (a b o p q e f g : Option (List ℕ)) (number worst : ℕ) (stop : Stop) (line : List ℕ) → ToldSoFar a b o p e f number worst
+    → TellsLine (told_of_line number line) (Err stop) (stream p q) (stream f g)
+    → (lines : List (List ℕ)) × TellsLines lines (Err stop) (stream o q) (stream e g)
+told-short-some a b o p q e f g number worst stop line before told =
+    (before.lines ++ line ∷ [], (before.lines, line ∷ [], refl, stops-in before.lines [] line number stop o p q e f g before.count before.written told))
+
+-- the status alone is answered
+pub status_known : (known : Option (List ℕ)) (ended : Ended) (o p e f : Option (List ℕ))
+    → IfSome known (λ bytes. (let end : Outcome = record { ended = ended; out = stream o p; errors = stream e f } in EndsLines (lines_of bytes) end))
+    → IfSome known (λ bytes. (wrote : Wrote) × (let end : Outcome = record { ended = record { status = ended.status; written = wrote }; out = stream o p; errors = stream e f } in
+    EndsLines (lines_of bytes) end))
+status_known None ended o p e f ends = tt
+status_known (Some bytes) ended o p e f ends = (ended.written, ends)
+
+-- ---- what was passed on
+
+pub err_is : (result : Result ℕ Stop) (stop : Stop) → IsErrAnd result (λ e. e ≡ stop) → result ≡ Err stop
+err_is (Ok status) stop passed = absurd passed
+err_is (Err e) stop passed = ap Err passed
+
+pub err_known : (known : Option (List ℕ)) (stop : Stop) (result : Result ℕ Stop) (o p e f : Option (List ℕ)) → IsErrAnd result (λ e. e ≡ stop)
+    → IfSome known (λ bytes. TellsLines (lines_of bytes) (Err stop) (stream o p) (stream e f))
+    → IfSome known (λ bytes. TellsLines (lines_of bytes) result (stream o p) (stream e f))
+err_known known stop result o p e f passed told =
+    subst (λ (r : Result ℕ Stop). IfSome known (λ bytes. TellsLines (lines_of bytes) r (stream o p) (stream e f))) (sym (err_is result stop passed)) told
+
+pub err_some : (result : Result ℕ Stop) (stop : Stop) (o p e f : Option (List ℕ)) → IsErrAnd result (λ e. e ≡ stop)
+    → (lines : List (List ℕ)) × TellsLines lines (Err stop) (stream o p) (stream e f)
+    → (lines : List (List ℕ)) × TellsLines lines result (stream o p) (stream e f)
+err_some result stop o p e f passed told =
+    subst (λ (r : Result ℕ Stop). (lines : List (List ℕ)) × TellsLines lines r (stream o p) (stream e f)) (sym (err_is result stop passed)) told
+
+-- there was no memory to begin
+stops-none : (rest : List (List ℕ)) (o e : Option (List ℕ)) → StopsAfter [] rest (stops.Fault Memory) (stream o o) (stream e e)
+stops-none rest o e = let none = written-none o e in (none.1, inl (inr refl, none.0))
+
+pub short-known : (known : Option (List ℕ)) (result : Result ℕ Stop) (o e : Option (List ℕ)) → IsErrAnd result (λ s. s ≡ stops.Fault Memory)
+    → IfSome known (λ bytes. TellsLines (lines_of bytes) result (stream o o) (stream e e))
+short-known known result o e passed =
+    err_known known (stops.Fault Memory) result o o e e passed
+    (stopped-between known known [] (stops.Fault Memory) (stream o o) (stream e e) (reads-none known) (λ rest. stops-none rest o e))
+
+pub short-some : (result : Result ℕ Stop) (o e : Option (List ℕ)) → IsErrAnd result (λ s. s ≡ stops.Fault Memory)
+    → (lines : List (List ℕ)) × TellsLines lines result (stream o o) (stream e e)
+short-some result o e passed = err_some result (stops.Fault Memory) o o e e passed ([], ([], [], refl, stops-none [] o e))

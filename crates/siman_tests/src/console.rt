@@ -5,10 +5,11 @@ mod worlds;
 
 use crate::scenes::files::{NO_STEPS, ONE_STATION};
 use siman_console::{
-    Task, audit_command, check_command, check_files, pdu_command, read_words, show_command,
-    world_command,
+    Task, audit_command, check_command, check_files, pdu_command, pdus_command, perform,
+    read_script, read_words, show_command, trial, world_command,
 };
 use std::alloc::Global;
+use std::test::Fail;
 
 /// A Create Entity of 28 bytes, and its one line.
 const CREATE: &str = "07010B0500000000001C000000010001000000020003000700000001";
@@ -36,6 +37,7 @@ fn leaves(ended: u8, text: &[u8], told: &[u8], left: Left<'_>) -> bool {
 #[derive(Clone, Copy)]
 enum Called {
     Pdu,
+    Pdus,
     Show,
     Check,
     Audit,
@@ -53,6 +55,7 @@ fn status(
     let recording = ONE_STATION.as_slice();
     match called {
         Called::Pdu => pdu_command(alloc, CREATE, out, told),
+        Called::Pdus => pdus_command(alloc, CREATE.as_bytes(), out, told),
         Called::Show => show_command(alloc, recording, out, told),
         Called::Check => check_command(alloc, recording, NO_STEPS.as_slice(), out, told),
         Called::Audit => audit_command(alloc, recording, made, out, told),
@@ -73,6 +76,7 @@ fn answers(alloc: Global, called: Called, file: &[u8], text: &str) -> bool {
 fn each_command_answers(rt: HostRuntime) {
     let alloc = rt.alloc();
     assert!(rt; answers(alloc, Called::Pdu, &[], CREATE_TEXT));
+    assert!(rt; answers(alloc, Called::Pdus, &[], CREATE_TEXT));
     assert!(rt; answers(alloc, Called::Show, &[], ONE_STATION_TEXT));
     assert!(rt; answers(alloc, Called::Check, &[], YES));
     assert!(rt; answers(alloc, Called::Audit, &NO_STEPS, "explained steps=0\n"));
@@ -98,6 +102,33 @@ fn files_are_checked(rt: HostRuntime) {
     assert!(rt; is_yes(rt.alloc()));
 }
 
+/// What is written of the trial of the script.
+const TRIED: &str =
+    "world records=0 sent=0\nexplained steps=0\nyes records=0 others=0\nentity 2:3:7 stopped\n";
+
+/// Whether a trial reads the script to its end, and writes what is written of it.
+fn is_tried(alloc: Global) -> bool {
+    let mut input = SCRIPT.as_bytes();
+    let mut out = Vec::new(alloc);
+    let said = trial(alloc, &mut input, &mut out);
+    said == Ok(true) && input.is_empty() && out.as_slice() == TRIED.as_bytes()
+}
+
+/// Whether the same is written where the script is performed.
+fn is_performed(alloc: Global) -> Result<bool, Fail> {
+    let script = read_script(alloc, SCRIPT.as_bytes())?;
+    let mut out = Vec::new(alloc);
+    let said = perform(alloc, script, &mut out);
+    Ok(said == Ok(true) && out.as_slice() == TRIED.as_bytes())
+}
+
+#[test]
+fn a_script_is_tried_and_performed(rt: HostRuntime) -> Result<(), Fail> {
+    assert!(rt; is_tried(rt.alloc()));
+    assert!(rt; is_performed(rt.alloc())?);
+    Ok(())
+}
+
 /// Whether words ask for a task.
 fn is_task(alloc: Global, words: &[&str], task: Task<'_>) -> bool {
     match read_words(alloc, words) {
@@ -109,6 +140,7 @@ fn is_task(alloc: Global, words: &[&str], task: Task<'_>) -> bool {
 #[test]
 fn words_ask_for_a_task(rt: HostRuntime) {
     let alloc = rt.alloc();
+    assert!(rt; is_task(alloc, &["siman"], Task::Trial));
     assert!(rt; is_task(alloc, &["siman", "pdu", ""], Task::Pdu("")));
     assert!(rt; is_task(alloc, &["siman", "check", "a", "b"], Task::Check("a", "b")));
     assert!(rt; is_task(alloc, &["siman", "world", "a", "b"], Task::World("a", "b")));

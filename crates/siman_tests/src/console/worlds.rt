@@ -176,8 +176,8 @@ fn a_script_has_so_many_bytes_and_no_more(rt: HostRuntime) -> Result<(), Fail> {
     let whole = padded(alloc, LARGEST_SCRIPT)?;
     let larger = padded(alloc, LARGEST_SCRIPT + 1)?;
     let largest = padded(alloc, LARGEST_SCRIPT + 100_000)?;
-    // It would fail if it were asked for more.
-    let ends = failing_reader(&largest, LARGEST_SCRIPT + 1, 2, ErrorKind::Other);
+    // 65,536 bytes at a time, that are 17 reads; it would fail if it were asked for more.
+    let ends = failing_reader(&largest, LARGEST_SCRIPT + 1, 18, ErrorKind::Other);
     assert!(rt; file_of(alloc, whole.as_slice(), (0, WORKED_LINE, "")).is_some());
     assert!(rt; is_refused(alloc, larger.as_slice(), too_large));
     assert!(rt; is_refused(alloc, ends, too_large));

@@ -21,8 +21,8 @@ use std::marker::Model;
 /// The steps that were taken so far over a log, each good after those before it. Contracts see the
 /// recording and the steps; how the next event is judged by them is nobody else's business. The
 /// checker folds it over a certificate, the search sweeps with it, and what a yes reports is read
-/// from it at the end. Its body is the plain program of the definitions, which looks through the log
-/// and the steps anew at each question.
+/// from it at the end. What the log of each station says of its own entries is found in one pass when
+/// a course begins.
 #[derive(Drop)]
 pub struct Course<'a, L: ExerciseLog> {
     log: &'a L,

@@ -1,4 +1,8 @@
 mod Sent
+mod Keyed
+mod Columns
+mod Changed
+mod Judged
 mod Orders
 mod Goodness
 mod Courses

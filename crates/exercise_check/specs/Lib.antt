@@ -1,4 +1,6 @@
+pub mod Firsts
 pub mod Order
+pub mod Tables
 pub mod Goodness
 pub mod Course
 pub mod Sent

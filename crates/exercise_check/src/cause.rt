@@ -1,4 +1,4 @@
-//! Why the event of an entry may not happen next, looked through anew at each question.
+//! Why the event of an entry may not happen next.
 
 ghost use Rattle.std.specs.Prelude.{◌≡◌, ◌<◌, ◌≤◌, length, slice_get, IfSome, IsTrue, None, false};
 ghost use Rattle.std.specs.Option.{option_map_or};
@@ -13,12 +13,16 @@ ghost use Rattle.exercise_model.specs.Account.{pair_of_sent};
 ghost use Rattle.exercise_check.specs.Order.{order_of, first_sender, link_of};
 ghost use Rattle.exercise_check.specs.Goodness.{ArePlaced, IsReady};
 ghost use Rattle.exercise_check.specs.Course.{Judges};
+ghost use Rattle.exercise_check.specs.Firsts.{AreFirsts};
+ghost use Rattle.exercise_check.specs.Tables.{AreTied, IsColumn, JudgesAt};
 
 use crate::certificate::Step;
-use crate::change::{is_change, sent_by, was_acknowledged};
+use crate::change::{is_change, sent_by, was_able, was_unable};
 use crate::exchange::request_taken_up;
+use crate::firsts::Firsts;
 use crate::link::first_sender;
 use crate::state::state_before;
+use crate::tables::Tables;
 use dis_records::{EntityState, Kind, Scope};
 use exercise_model::{
     Cause, Change, EntryView, ExerciseLog, is_answer, is_entity, is_from, is_under_identifier,
@@ -73,20 +77,22 @@ fn is_reused<L: ExerciseLog>(log: &L, station: usize, before: usize, request: &P
 #[tactic(auto, unfolding(exercise_model::specs::Cause::is_changed_answer))]
 fn is_changed_answer<L: ExerciseLog>(
     log: &L,
+    firsts: &Firsts,
     station: usize,
     before: usize,
     pdu: &PduView<'_>,
 ) -> bool
-    requires { before ≤ length (L.recording log.now).entries }
+    requires at { station < length (L.recording log.now).setting.stations }
+    requires tied { AreFirsts (L.recording log.now) before firsts.now }
     ensures { let r = L.recording log.now in result ≡ is_changed_answer r.setting.exercise (pdu_of pdu.now) (log_before r station before) }
 {
     let Some(key) = key_of(pdu) else {
         return false;
     };
     if responds(ABLE, pdu) {
-        was_acknowledged(log, station, before, UNABLE, &key)
+        was_unable(log, firsts, station, before, &key)
     } else if responds(UNABLE, pdu) {
-        was_acknowledged(log, station, before, ABLE, &key)
+        was_able(log, firsts, station, before, &key)
     } else {
         false
     }
@@ -104,14 +110,21 @@ fn is_hopeless_for(kind: Kind, entity: u16, state: EntityState) -> bool
 }
 
 /// Whether a change can't be made at an entry of a station.
-fn is_hopeless<L: ExerciseLog>(log: &L, station: usize, before: usize, change: Change) -> bool
+fn is_hopeless<L: ExerciseLog>(
+    log: &L,
+    tables: &Tables,
+    station: usize,
+    before: usize,
+    change: Change,
+) -> bool
     requires at { station < length (L.recording log.now).setting.stations }
     requires within { before ≤ length (L.recording log.now).entries }
+    requires tied { AreTied (L.recording log.now) before tables.now }
     ensures { let r = L.recording log.now in result ≡ is_hopeless change.kind change.scope (state_after r.setting.exercise (station_at r station) (log_before r station before)) }
 {
     match change.scope {
         Scope::One(entity) => {
-            let state = state_before(log, station, before, entity);
+            let state = state_before(log, tables, station, before, entity);
             is_hopeless_for(change.kind, entity, state)
         }
         Scope::All => change.kind == Kind::CreateEntity,
@@ -123,6 +136,7 @@ fn is_hopeless<L: ExerciseLog>(log: &L, station: usize, before: usize, change: C
 #[tactic(auto, unfolding(exercise_model::specs::Cause::is_impossible))]
 fn is_impossible<L: ExerciseLog>(
     log: &L,
+    tables: &Tables,
     station: usize,
     before: usize,
     pdu: &PduView<'_>,
@@ -130,11 +144,12 @@ fn is_impossible<L: ExerciseLog>(
 ) -> bool
     requires at { station < length (L.recording log.now).setting.stations }
     requires within { before ≤ length (L.recording log.now).entries }
+    requires tied { AreTied (L.recording log.now) before tables.now }
     requires answers { IsTrue (is_answer_to (pdu_of pdu.now) (pdu_of request.now)) }
     ensures { let r = L.recording log.now in result ≡ is_impossible r.setting.exercise (station_at r station) (log_before r station before) (pdu_of pdu.now) (pdu_of request.now) }
 {
-    is_change(log, station, before, pdu)
-        && is_hopeless(log, station, before, Change::of(pdu, request))
+    is_change(log, &tables.firsts, station, before, pdu)
+        && is_hopeless(log, tables, station, before, Change::of(pdu, request))
 }
 
 /// Whether a PDU comes from a recorded station.
@@ -151,14 +166,16 @@ fn is_recorded<L: ExerciseLog>(log: &L, pdu: &PduView<'_>) -> bool
 
 /// Judges a PDU that a station sends at an entry.
 #[tactic(auto, unfolding(exercise_model::specs::Cause::send_cause))]
-pub(crate) fn judge_sent<L: ExerciseLog>(
+fn judge_sent<L: ExerciseLog>(
     log: &L,
+    tables: &Tables,
     station: usize,
     before: usize,
     pdu: &PduView<'_>,
 ) -> Judgement
     requires at { station < length (L.recording log.now).setting.stations }
     requires within { before < length (L.recording log.now).entries }
+    requires tied { AreTied (L.recording log.now) before tables.now }
     ensures { let r = L.recording log.now in Judges (send_cause r.setting.exercise (station_at r station) (log_before r station before) (pdu_of pdu.now)) (pair_of_sent r station before (pdu_of pdu.now)) (length r.entries) result }
 {
     if !is_from(log.station(station).address(), pdu) {
@@ -170,14 +187,14 @@ pub(crate) fn judge_sent<L: ExerciseLog>(
     if !is_answer(pdu) {
         return Judgement::Allowed(None);
     }
-    let Some((entry, request)) = request_taken_up(log, station, before, pdu) else {
+    let Some((entry, request)) = request_taken_up(log, &tables.firsts, station, before, pdu) else {
         return Judgement::Forbidden(Cause::NoRequest);
     };
     if !answers(pdu, &request) {
         Judgement::Forbidden(Cause::WrongAnswer)
-    } else if is_changed_answer(log, station, before, pdu) {
+    } else if is_changed_answer(log, &tables.firsts, station, before, pdu) {
         Judgement::Forbidden(Cause::ChangedAnswer)
-    } else if is_impossible(log, station, before, pdu, &request) {
+    } else if is_impossible(log, tables, station, before, pdu, &request) {
         Judgement::Forbidden(Cause::Impossible)
     } else {
         Judgement::Allowed(Some(entry))
@@ -186,7 +203,7 @@ pub(crate) fn judge_sent<L: ExerciseLog>(
 
 /// Judges a datagram that a station receives after these steps.
 #[tactic(auto, unfolding(exercise_model::specs::Cause::get_cause), using(crate::proofs::Orders::sender_steps))]
-pub(crate) fn judge_received<L: ExerciseLog>(
+fn judge_received<L: ExerciseLog>(
     log: &L,
     before: &[Step],
     datagram: &[u8],
@@ -205,8 +222,9 @@ pub(crate) fn judge_received<L: ExerciseLog>(
 }
 
 /// Judges a state that a station tells at an entry.
-pub(crate) fn judge_told<L: ExerciseLog>(
+fn judge_told<L: ExerciseLog>(
     log: &L,
+    tables: &Tables,
     station: usize,
     before: usize,
     entity: u16,
@@ -214,36 +232,56 @@ pub(crate) fn judge_told<L: ExerciseLog>(
 ) -> Judgement
     requires at { station < length (L.recording log.now).setting.stations }
     requires within { before ≤ length (L.recording log.now).entries }
+    requires tied { AreTied (L.recording log.now) before tables.now }
     ensures { let r = L.recording log.now in Judges (first_cause (tell_rows state (state_after r.setting.exercise (station_at r station) (log_before r station before) entity))) None (length r.entries) result }
 {
-    if state == state_before(log, station, before, entity) {
+    if state == state_before(log, tables, station, before, entity) {
         Judgement::Allowed(None)
     } else {
         Judgement::Forbidden(Cause::WrongState)
     }
 }
 
-/// Judges the event of an entry, its station's next one, after these steps.
-#[tactic(auto, unfolding(exercise_model::specs::Cause::cause_of, crate::specs::Order::link_of))]
-pub(crate) fn judge<L: ExerciseLog>(log: &L, before: &[Step], place: usize) -> Judgement
+/// Judges an entry by the log of its station alone: all but whether a datagram that was received was
+/// sent before.
+pub(crate) fn judge_own<L: ExerciseLog>(log: &L, tables: &Tables, place: usize) -> Judgement
     requires within { place < length (L.recording log.now).entries }
+    requires tied { AreTied (L.recording log.now) place tables.now }
+    ensures { JudgesAt (L.recording log.now) place result }
+{
+    match log.entry(place) {
+        EntryView::Sent { station, bytes, .. } => match meaning_view(log.exercise(), bytes) {
+            Some(pdu) => judge_sent(log, tables, usize::from(station), place, &pdu),
+            None => Judgement::Allowed(None),
+        },
+        EntryView::Received { .. } => Judgement::Allowed(None),
+        EntryView::Told {
+            station,
+            entity,
+            state,
+        } => judge_told(log, tables, usize::from(station), place, entity, state),
+    }
+}
+
+/// Judges the event of an entry, its station's next one, after these steps.
+#[tactic(auto, unfolding(exercise_model::specs::Cause::cause_of, crate::specs::Order::link_of), using(crate::proofs::Judged::judged_steps))]
+pub(crate) fn judge<L: ExerciseLog>(
+    log: &L,
+    own: &[Judgement],
+    before: &[Step],
+    place: usize,
+) -> Judgement
+    requires within { place < length (L.recording log.now).entries }
+    requires own { let r = L.recording log.now in IsColumn (Judgement.Allowed None) (JudgesAt r) (length r.entries) own.now }
     requires placed { ArePlaced (L.recording log.now) before.now }
     requires ready { let r = L.recording log.now in IfSome (slice_get r.entries place) (λ e. IsReady r before.now place (event_of e)) }
     ensures { let r = L.recording log.now in IfSome (slice_get r.entries place) (λ e. Judges (cause_of r.setting (order_of r before.now) (event_of e)) (link_of r before.now place (event_of e)) (length r.entries) result) }
 {
     match log.entry(place) {
-        EntryView::Sent { station, bytes, .. } => match meaning_view(log.exercise(), bytes) {
-            Some(pdu) => judge_sent(log, usize::from(station), place, &pdu),
-            None => Judgement::Allowed(None),
-        },
         EntryView::Received { bytes, .. } => match meaning_view(log.exercise(), bytes) {
             Some(pdu) => judge_received(log, before, bytes, &pdu),
             None => Judgement::Allowed(None),
         },
-        EntryView::Told {
-            station,
-            entity,
-            state,
-        } => judge_told(log, usize::from(station), place, entity, state),
+        EntryView::Sent { .. } | EntryView::Told { .. } => own[place],
     }
 }

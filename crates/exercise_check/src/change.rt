@@ -1,16 +1,16 @@
-//! What a station sent under one key before an entry, looked through anew at each question.
+//! What a station sent under one key before an entry.
 
-ghost use Rattle.std.specs.Prelude.{◌≡◌, ◌<◌, ◌≤◌, length, option_map, option_and_then, false};
-ghost use Rattle.std.specs.Option.{option_map_or};
+ghost use Rattle.std.specs.Prelude.{◌≡◌, ◌<◌, length, option_map, option_and_then};
 ghost use Rattle.siman_pdus.specs.Reading.{pdu_of};
-ghost use Rattle.exercise_model.specs.Change.{sends_under, was_acknowledged, is_change};
+ghost use Rattle.exercise_model.specs.Change.{able, unable, was_acknowledged, is_change};
 ghost use Rattle.exercise_model.specs.Place.{log_before, own_event};
 ghost use Rattle.exercise_check.specs.Sent.{meant_by_send};
+ghost use Rattle.exercise_check.specs.Firsts.{AreFirsts};
 
-use exercise_model::{
-    AcknowledgeKey, EntryView, ExerciseLog, key_of, meaning_view, responds, responds_under,
-};
-use siman_pdus::{ABLE, PduView};
+use crate::firsts::{Firsts, first_under};
+use crate::key::acknowledged_key;
+use exercise_model::{AcknowledgeKey, EntryView, ExerciseLog, key_of, meaning_view, responds};
+use siman_pdus::{ABLE, PduView, UNABLE};
 
 /// What an entry of a station sends, if it sends something that is not "other".
 #[tactic(auto, unfolding(exercise_model::specs::Place::own_event))]
@@ -28,56 +28,57 @@ pub(crate) fn sent_by<L: ExerciseLog>(log: &L, station: usize, entry: usize) -> 
     }
 }
 
-/// Whether an entry of a station sends an Acknowledge with this response flag under this key.
-#[tactic(auto, using(crate::proofs::Sent::sent_steps))]
-pub(crate) fn acknowledges<L: ExerciseLog>(
+/// Whether a station sent, before an entry, an Able under this key.
+#[tactic(auto, using(crate::proofs::Keyed::key_steps))]
+pub(crate) fn was_able<L: ExerciseLog>(
     log: &L,
-    station: usize,
-    response: u16,
-    key: &AcknowledgeKey,
-    entry: usize,
-) -> bool
-    requires { entry < length (L.recording log.now).entries }
-    ensures { let r = L.recording log.now in result ≡ option_map_or (sends_under r.setting.exercise response key.now) (own_event r station entry) false }
-{
-    match sent_by(log, station, entry) {
-        Some(pdu) => responds_under(response, key, &pdu),
-        None => false,
-    }
-}
-
-/// Whether a station sent, before an entry, an Acknowledge with this response flag under this key.
-#[tactic(auto, using(exercise_model::proofs::Offered::log_steps))]
-pub(crate) fn was_acknowledged<L: ExerciseLog>(
-    log: &L,
+    firsts: &Firsts,
     station: usize,
     before: usize,
-    response: u16,
     key: &AcknowledgeKey,
 ) -> bool
-    requires { before ≤ length (L.recording log.now).entries }
-    ensures { let r = L.recording log.now in result ≡ was_acknowledged r.setting.exercise response key.now (log_before r station before) }
+    requires at { station < length (L.recording log.now).setting.stations }
+    requires tied { AreFirsts (L.recording log.now) before firsts.now }
+    ensures { let r = L.recording log.now in result ≡ was_acknowledged r.setting.exercise able key.now (log_before r station before) }
 {
-    let mut found = false;
-    for i in 0..before {
-        found = found || acknowledges(log, station, response, key, i);
-    }
-    found
+    // To count the stations shows that the recording keeps its limits.
+    let _stations = log.station_count();
+    first_under(firsts, &acknowledged_key(station as u16, ABLE, key)).is_some()
+}
+
+/// Whether a station sent, before an entry, an Unable under this key.
+#[tactic(auto, using(crate::proofs::Keyed::key_steps))]
+pub(crate) fn was_unable<L: ExerciseLog>(
+    log: &L,
+    firsts: &Firsts,
+    station: usize,
+    before: usize,
+    key: &AcknowledgeKey,
+) -> bool
+    requires at { station < length (L.recording log.now).setting.stations }
+    requires tied { AreFirsts (L.recording log.now) before firsts.now }
+    ensures { let r = L.recording log.now in result ≡ was_acknowledged r.setting.exercise unable key.now (log_before r station before) }
+{
+    // To count the stations shows that the recording keeps its limits.
+    let _stations = log.station_count();
+    first_under(firsts, &acknowledged_key(station as u16, UNABLE, key)).is_some()
 }
 
 /// Whether a PDU that a station sends at an entry is the first Able under its key.
 #[tactic(auto, unfolding(exercise_model::specs::Change::is_change))]
 pub(crate) fn is_change<L: ExerciseLog>(
     log: &L,
+    firsts: &Firsts,
     station: usize,
     before: usize,
     pdu: &PduView<'_>,
 ) -> bool
-    requires { before ≤ length (L.recording log.now).entries }
+    requires at { station < length (L.recording log.now).setting.stations }
+    requires tied { AreFirsts (L.recording log.now) before firsts.now }
     ensures { let r = L.recording log.now in result ≡ is_change r.setting.exercise (pdu_of pdu.now) (log_before r station before) }
 {
     match key_of(pdu) {
-        Some(key) if responds(ABLE, pdu) => { !was_acknowledged(log, station, before, ABLE, &key) }
+        Some(key) if responds(ABLE, pdu) => { !was_able(log, firsts, station, before, &key) }
         _ => false,
     }
 }

@@ -110,7 +110,8 @@ fn take_steps<L: ExerciseLog>(
 /// A no names the first bad step and the first cause that holds there: for the step's entry 2 and
 /// 3, then 5 to 13 for its event, then 4 for its link; where the numbers of steps and entries
 /// differ, which is tested first, it is step 0 and cause 1. It is refused with Memory where there
-/// is none for the steps, or for what a yes reports; datagrams are looked at where they lie.
+/// is none for the steps, for what is found in the log, or for what a yes reports; datagrams are
+/// looked at where they lie.
 pub fn check<L: ExerciseLog>(
     alloc: Global,
     log: &L,

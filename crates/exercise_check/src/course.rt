@@ -6,11 +6,13 @@ ghost use Rattle.exercise_model.specs.History.{event_of, station_of, log_at, log
 ghost use Rattle.exercise_check.specs.Order.{is_next, link_number};
 ghost use Rattle.exercise_check.specs.Checked.{TellsAccount};
 ghost use Rattle.exercise_check.specs.Course.{CourseData, IsCourse, begun, so_far, IsNext, GoesOn};
+ghost use Rattle.exercise_check.specs.Tables.{Keeps};
 
 use crate::account::account;
 use crate::cause::{Judgement, judge};
 use crate::certificate::{Certificate, NO_LINK, Step};
 use crate::checked::Checked;
+use crate::findings::{Findings, find};
 use crate::order::{entries_before, events_in, next_entry, station_of};
 use exercise_model::{Cause, ExerciseLog};
 use std::alloc::{AllocError, Global};
@@ -19,12 +21,13 @@ use std::marker::Model;
 /// The steps that were taken so far over a log, each good after those before it. Contracts see the
 /// recording and the steps; how the next event is judged by them is nobody else's business. The
 /// checker folds it over a certificate, the search sweeps with it, and what a yes reports is read
-/// from it at the end. Its body is the plain program of the definitions, which looks through the log
-/// and the steps anew at each question.
+/// from it at the end. What the log of each station says of its own entries is found in one pass when
+/// a course begins.
 #[derive(Drop)]
 pub struct Course<'a, L: ExerciseLog> {
     log: &'a L,
     steps: Vec<Step>,
+    found: Findings,
 }
 
 impl<'a, L: ExerciseLog> Model for Course<'a, L> {
@@ -32,7 +35,7 @@ impl<'a, L: ExerciseLog> Model for Course<'a, L> {
 
     ghost view = { λ c. record { recording = L.recording c.log.now; steps = c.steps.items } };
 
-    ghost invariant = { λ c. IsCourse (record { recording = L.recording c.log.now; steps = c.steps.items }) };
+    ghost invariant = { λ c. Keeps (L.recording c.log.now) c.steps.items c.found };
 }
 
 /// What going on by an entry comes to.
@@ -63,9 +66,11 @@ impl<'a, L: ExerciseLog> Course<'a, L> {
     {
         // To count the entries shows that the recording keeps its limits.
         let _entries = log.entry_count();
+        let found = find(alloc, log)?;
         Ok(Course {
             log,
             steps: Vec::new(alloc),
+            found,
         })
     }
 
@@ -109,7 +114,7 @@ impl<'a, L: ExerciseLog> Course<'a, L> {
         // It lacks memory only where the event is allowed.
         ensures allowed { OnErr result (IfSome (slice_get self.old.recording.entries place) (λ e. IsAllowed self.old.recording.setting (so_far self.old) (event_of e))) }
     {
-        match judge(self.log, &self.steps, place) {
+        match judge(self.log, &self.found.judgements, &self.steps, place) {
             Judgement::Forbidden(cause) => Ok(Progress::Barred(cause)),
             Judgement::Allowed(link) => {
                 let link = link_number(link);
@@ -126,7 +131,7 @@ impl<'a, L: ExerciseLog> Course<'a, L> {
     pub fn account(&self, alloc: Global) -> Result<Checked, AllocError>
         ensures { IfOk result (λ checked. TellsAccount self.now.recording checked) }
     {
-        account(alloc, self.log)
+        account(alloc, self.log, &self.found)
     }
 
     /// The steps that were taken.

@@ -1,11 +1,14 @@
-//! Which request an answer takes up, looked through anew at each question.
+//! Which request an answer takes up.
 
 ghost use Rattle.std.specs.Prelude.{◌≡◌, ◌<◌, ◌≤◌, length, option_map, option_and_then, IfSome};
 ghost use Rattle.siman_pdus.specs.Reading.{pdu_of};
 ghost use Rattle.exercise_model.specs.History.{station_at};
 ghost use Rattle.exercise_model.specs.Exchange.{request_brought, request_taken_up};
 ghost use Rattle.exercise_model.specs.Place.{log_before, own_event, entry_taken_up};
+ghost use Rattle.exercise_check.specs.Firsts.{AreFirsts};
 
+use crate::firsts::{Firsts, first_under};
+use crate::key::answered_key;
 use dis_records::Address;
 use exercise_model::{EntryView, ExerciseLog, is_asked, meaning_view};
 use siman_pdus::PduView;
@@ -35,29 +38,49 @@ fn request_brought<'a, L: ExerciseLog>(
     }
 }
 
+/// The entry of the request that an answer takes up: the first under the answer's key.
+#[tactic(auto, using(crate::proofs::Keyed::key_steps))]
+pub(crate) fn entry_taken_up<L: ExerciseLog>(
+    log: &L,
+    firsts: &Firsts,
+    station: usize,
+    before: usize,
+    answer: &PduView<'_>,
+) -> Option<usize>
+    requires at { station < length (L.recording log.now).setting.stations }
+    requires tied { AreFirsts (L.recording log.now) before firsts.now }
+    ensures entry { result ≡ entry_taken_up (L.recording log.now) station (pdu_of answer.now) before }
+    ensures earlier { IfSome result (λ e. e < before) }
+{
+    // To count the stations shows that the recording keeps its limits.
+    let _stations = log.station_count();
+    match answered_key(station as u16, answer) {
+        Some(key) => first_under(firsts, &key),
+        None => None,
+    }
+}
+
 /// The request that an answer takes up, with its entry: the first that comes before an entry.
-#[tactic(auto, using(exercise_model::proofs::Offered::log_steps))]
 pub(crate) fn request_taken_up<'a, L: ExerciseLog>(
     log: &'a L,
+    firsts: &Firsts,
     station: usize,
     before: usize,
     answer: &PduView<'_>,
 ) -> Option<(usize, PduView<'a>)>
     requires at { station < length (L.recording log.now).setting.stations }
     requires within { before ≤ length (L.recording log.now).entries }
+    requires tied { AreFirsts (L.recording log.now) before firsts.now }
     ensures request { let r = L.recording log.now in option_map (λ t. pdu_of t.1) result ≡ request_taken_up r.setting.exercise (station_at r station).address (pdu_of answer.now) (log_before r station before) }
     ensures entry { let r = L.recording log.now in option_map (λ t. t.0) result ≡ entry_taken_up r station (pdu_of answer.now) before }
     ensures earlier { IfSome result (λ t. t.0 < before) }
 {
+    let Some(entry) = entry_taken_up(log, firsts, station, before, answer) else {
+        return None;
+    };
     let address = log.station(station).address();
-    let mut found = None;
-    for i in 0..before {
-        if found.is_none() {
-            found = match request_brought(log, station, address, answer, i) {
-                Some(request) => Some((i, request)),
-                None => None,
-            };
-        }
+    match request_brought(log, station, address, answer, entry) {
+        Some(request) => Some((entry, request)),
+        None => None,
     }
-    found
 }

@@ -21,10 +21,14 @@ mod checked;
 mod checker;
 mod course;
 mod exchange;
+mod findings;
+mod firsts;
+mod key;
 mod laws;
 mod link;
 mod order;
 mod state;
+mod tables;
 
 pub use certificate::{Certificate, NO_LINK, Step};
 pub use certificate_fault::{CertificateFault, CertificateFormatFault, CertificateWriterFault};

@@ -5,13 +5,15 @@ ghost use Rattle.std.specs.Option.{option_map_or};
 ghost use Rattle.siman_pdus.specs.Reading.{pdu_of};
 ghost use Rattle.exercise_model.specs.History.{event_of};
 ghost use Rattle.exercise_model.specs.Cause.{sends};
-ghost use Rattle.exercise_model.specs.Account.{pair_of_sent};
+ghost use Rattle.exercise_model.specs.Account.{pair_of_sent, pair_of};
+ghost use Rattle.exercise_check.specs.Firsts.{AreFirsts};
 ghost use Rattle.exercise_check.specs.Order.{first_sender};
 ghost use Rattle.exercise_check.specs.Goodness.{ArePlaced};
 
 use crate::certificate::Step;
-use crate::exchange::request_taken_up;
-use exercise_model::{EntryView, ExerciseLog, is_answer};
+use crate::exchange::entry_taken_up;
+use crate::firsts::Firsts;
+use exercise_model::{EntryView, ExerciseLog, is_answer, meaning_view};
 use siman_pdus::PduView;
 
 /// Whether an entry sends a datagram of these bytes.
@@ -48,20 +50,37 @@ pub(crate) fn first_sender<L: ExerciseLog>(
 /// The entry that an answer is linked with which a station sends at an entry.
 pub(crate) fn pair_of_sent<L: ExerciseLog>(
     log: &L,
+    firsts: &Firsts,
     station: usize,
     place: usize,
     pdu: &PduView<'_>,
 ) -> Option<usize>
     requires at { station < length (L.recording log.now).setting.stations }
     requires within { place < length (L.recording log.now).entries }
+    requires tied { AreFirsts (L.recording log.now) place firsts.now }
     ensures link { let r = L.recording log.now in result ≡ pair_of_sent r station place (pdu_of pdu.now) }
     ensures within { IfSome result (λ e. e < length (L.recording log.now).entries) }
 {
-    if !is_answer(pdu) {
-        return None;
+    if is_answer(pdu) {
+        entry_taken_up(log, firsts, station, place, pdu)
+    } else {
+        None
     }
-    match request_taken_up(log, station, place, pdu) {
-        Some((entry, _)) => Some(entry),
-        None => None,
+}
+
+/// The entry of the request that an entry's answer takes up, where it is an answer that was sent.
+#[tactic(auto, unfolding(exercise_model::specs::Account::pair_of))]
+pub(crate) fn pair_of<L: ExerciseLog>(log: &L, firsts: &Firsts, entry: usize) -> Option<usize>
+    requires within { entry < length (L.recording log.now).entries }
+    requires tied { AreFirsts (L.recording log.now) entry firsts.now }
+    ensures pair { result ≡ pair_of (L.recording log.now) entry }
+    ensures within { IfSome result (λ e. e < length (L.recording log.now).entries) }
+{
+    match log.entry(entry) {
+        EntryView::Sent { station, bytes, .. } => match meaning_view(log.exercise(), bytes) {
+            Some(pdu) => pair_of_sent(log, firsts, usize::from(station), entry, &pdu),
+            None => None,
+        },
+        EntryView::Received { .. } | EntryView::Told { .. } => None,
     }
 }

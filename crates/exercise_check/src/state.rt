@@ -8,11 +8,18 @@ ghost use Rattle.exercise_model.specs.History.{log_of, station_at};
 ghost use Rattle.exercise_model.specs.State.{change_made, change_by, entity_state, state_after, changes_of, after_changes};
 ghost use Rattle.exercise_model.specs.Place.{log_before, own_event};
 ghost use Rattle.exercise_model.specs.Account.{entities_of};
+ghost use Rattle.exercise_check.specs.Firsts.{AreFirsts};
+ghost use Rattle.exercise_check.specs.Tables.{AreTied, change_at};
 
-use crate::change::{is_change, sent_by};
+use crate::change::is_change;
 use crate::exchange::request_taken_up;
+use crate::firsts::Firsts;
+use crate::order::is_own;
+use crate::tables::Tables;
 use dis_records::EntityState;
-use exercise_model::{Change, ExerciseLog, LARGEST_ENTITY, Station, is_entity};
+use exercise_model::{
+    Change, EntryView, ExerciseLog, LARGEST_ENTITY, Station, is_entity, meaning_view,
+};
 use siman_pdus::PduView;
 use std::alloc::{AllocError, Global};
 
@@ -20,46 +27,79 @@ use std::alloc::{AllocError, Global};
 #[tactic(auto, unfolding(exercise_model::specs::State::change_by))]
 fn change_by<L: ExerciseLog>(
     log: &L,
+    firsts: &Firsts,
     station: usize,
     before: usize,
     pdu: &PduView<'_>,
 ) -> Option<Change>
     requires at { station < length (L.recording log.now).setting.stations }
     requires within { before ≤ length (L.recording log.now).entries }
+    requires tied { AreFirsts (L.recording log.now) before firsts.now }
     ensures { let r = L.recording log.now in result ≡ change_by r.setting.exercise (station_at r station) (log_before r station before) (pdu_of pdu.now) }
 {
-    if !is_change(log, station, before, pdu) {
+    if !is_change(log, firsts, station, before, pdu) {
         return None;
     }
-    match request_taken_up(log, station, before, pdu) {
+    match request_taken_up(log, firsts, station, before, pdu) {
         Some((_, request)) => Change::carried_out(pdu, &request),
         None => None,
     }
 }
 
-/// What an entry of a station changes.
-#[tactic(auto, using(crate::proofs::Sent::sent_steps))]
-fn change_made<L: ExerciseLog>(log: &L, station: usize, entry: usize) -> Option<Change>
-    requires at { station < length (L.recording log.now).setting.stations }
+/// What an entry changes at its station.
+#[tactic(auto, unfolding(crate::specs::Tables::change_at))]
+pub(crate) fn change_at<L: ExerciseLog>(log: &L, firsts: &Firsts, entry: usize) -> Option<Change>
     requires within { entry < length (L.recording log.now).entries }
+    requires tied { AreFirsts (L.recording log.now) entry firsts.now }
+    ensures { result ≡ change_at (L.recording log.now) entry }
+{
+    match log.entry(entry) {
+        EntryView::Sent { station, bytes, .. } => match meaning_view(log.exercise(), bytes) {
+            Some(pdu) => change_by(log, firsts, usize::from(station), entry, &pdu),
+            None => None,
+        },
+        EntryView::Received { .. } | EntryView::Told { .. } => None,
+    }
+}
+
+/// What an entry of a station changes, as it was found.
+#[tactic(auto, using(crate::proofs::Changed::change_steps))]
+fn change_made<L: ExerciseLog>(
+    log: &L,
+    tables: &Tables,
+    station: usize,
+    before: usize,
+    entry: usize,
+) -> Option<Change>
+    requires earlier { entry < before }
+    requires within { before ≤ length (L.recording log.now).entries }
+    requires tied { AreTied (L.recording log.now) before tables.now }
     ensures { let r = L.recording log.now in result ≡ option_and_then (change_made r.setting.exercise (station_at r station) (log_before r station entry)) (own_event r station entry) }
 {
-    match sent_by(log, station, entry) {
-        Some(pdu) => change_by(log, station, entry, &pdu),
-        None => None,
+    if is_own(log, station, entry) {
+        tables.changes[entry]
+    } else {
+        None
     }
 }
 
 /// The state of an entity of a station before an entry, for a number in 1..=0xFFFD.
 #[tactic(auto, using(exercise_model::proofs::Offered::log_steps))]
-fn entity_state<L: ExerciseLog>(log: &L, station: usize, before: usize, entity: u16) -> EntityState
+fn entity_state<L: ExerciseLog>(
+    log: &L,
+    tables: &Tables,
+    station: usize,
+    before: usize,
+    entity: u16,
+) -> EntityState
     requires at { station < length (L.recording log.now).setting.stations }
     requires within { before ≤ length (L.recording log.now).entries }
+    requires tied { AreTied (L.recording log.now) before tables.now }
     ensures { let r = L.recording log.now in result ≡ entity_state r.setting.exercise (station_at r station) (log_before r station before) entity }
 {
     let mut state = log.station(station).opening_state(entity);
     for i in 0..before {
-        if let Some(change) = change_made(log, station, i) {
+        if let Some(change) = change_made(log, tables, station, before, i) {
             state = change.changed(entity, state);
         }
     }
@@ -70,16 +110,18 @@ fn entity_state<L: ExerciseLog>(log: &L, station: usize, before: usize, entity: 
 #[tactic(auto, unfolding(exercise_model::specs::State::state_after))]
 pub(crate) fn state_before<L: ExerciseLog>(
     log: &L,
+    tables: &Tables,
     station: usize,
     before: usize,
     entity: u16,
 ) -> EntityState
     requires at { station < length (L.recording log.now).setting.stations }
     requires within { before ≤ length (L.recording log.now).entries }
+    requires tied { AreTied (L.recording log.now) before tables.now }
     ensures { let r = L.recording log.now in result ≡ state_after r.setting.exercise (station_at r station) (log_before r station before) entity }
 {
     if is_entity(entity) {
-        entity_state(log, station, before, entity)
+        entity_state(log, tables, station, before, entity)
     } else {
         EntityState::Absent
     }
@@ -114,14 +156,17 @@ fn push_present(
 fn changes<L: ExerciseLog>(
     alloc: Global,
     log: &L,
+    tables: &Tables,
     station: usize,
 ) -> Result<Vec<Change>, AllocError>
-    requires { station < length (L.recording log.now).setting.stations }
+    requires at { station < length (L.recording log.now).setting.stations }
+    requires tied { let r = L.recording log.now in AreTied r (length r.entries) tables.now }
     ensures { let r = L.recording log.now in IfOk result (λ changes. changes.items ≡ changes_of r.setting.exercise (station_at r station) (log_of r station)) }
 {
     let mut changes = Vec::new(alloc);
-    for i in 0..log.entry_count() {
-        push_some(&mut changes, change_made(log, station, i))?;
+    let entries = log.entry_count();
+    for i in 0..entries {
+        push_some(&mut changes, change_made(log, tables, station, entries, i))?;
     }
     Ok(changes)
 }
@@ -142,12 +187,14 @@ fn after_changes(station: &Station, changes: &[Change], entity: u16) -> EntitySt
 pub(crate) fn entities<L: ExerciseLog>(
     alloc: Global,
     log: &L,
+    tables: &Tables,
     station: usize,
 ) -> Result<Vec<(u16, EntityState)>, AllocError>
-    requires { station < length (L.recording log.now).setting.stations }
+    requires at { station < length (L.recording log.now).setting.stations }
+    requires tied { let r = L.recording log.now in AreTied r (length r.entries) tables.now }
     ensures { let r = L.recording log.now in IfOk result (λ entities. entities.items ≡ entities_of r station) }
 {
-    let changes = changes(alloc, log, station)?;
+    let changes = changes(alloc, log, tables, station)?;
     let mut entities = Vec::new(alloc);
     for entity in 1..LARGEST_ENTITY + 1 {
         let state = after_changes(log.station(station), &changes, entity);

@@ -1,4 +1,5 @@
 use Rattle.std.proofs.Common.{◌≡◌}
+use Rattle.std.specs.Prelude.{IfSome, ◌<◌}
 use Rattle.siman_pdus.specs.Reading.{pdu_of}
 use Rattle.exercise_model.specs.History.{station_at}
 use Rattle.exercise_model.specs.Setting.{is_from}
@@ -6,5 +7,7 @@ use Rattle.exercise_model.specs.Place.{first_below}
 use Rattle.exercise_check.proofs.account.sender_of.Given as goal
 
 abbrev pub invariant-loop-station : goal.invariant-loop-station
-invariant-loop-station g l =
-    l.found ≡ first_below (λ t. is_from (station_at (g.L.ExerciseLog.recording l.log) t).address (pdu_of l.pdu)) l.station
+invariant-loop-station g l = record {
+  found : l.found ≡ first_below (λ t. is_from (station_at (g.L.ExerciseLog.recording l.log) t).address (pdu_of l.pdu)) l.station;
+  within : IfSome l.found (λ s. s < l.station);
+}

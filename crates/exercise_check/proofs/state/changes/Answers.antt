@@ -8,6 +8,6 @@ use Rattle.exercise_check.proofs.state.changes.Goals as goal
 pub returns : goal.returns
 returns g c =
     let r = g.L.ExerciseLog.recording c.args.log.now in
-    let end : c.loop-i.i ≡ length r.entries = omega (arith, c.loop-i-test.false, c.loop-i.auto.i-end, c.entry_count-i-end.ensures.count) in
+    let end : c.loop-i.i ≡ length r.entries = omega (arith, c.loop-i-test.false, c.loop-i.auto.i-end, c.entry_count-entries.ensures.count) in
     c.loop-i.invariant ∙ ap (changes_of r.setting.exercise (station_at r c.args.station))
     (ap (log_before r c.args.station) end ∙ log_before-all r c.args.station)

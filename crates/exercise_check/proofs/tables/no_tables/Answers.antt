@@ -1,0 +1,12 @@
+use Rattle.std.proofs.Common.{List, Option, None, sym, ◌∙◌, subst}
+use Rattle.exercise_model.specs.declared.state.Change.{Change}
+use Rattle.exercise_check.specs.Tables.{IsColumn, IsChangeAt}
+use Rattle.exercise_check.proofs.Keyed.{first_under-none}
+use Rattle.exercise_check.proofs.Columns.{column_none}
+use Rattle.exercise_check.proofs.tables.no_tables.Goals as goal
+
+pub returns : goal.returns
+returns c r = record {
+  firsts = λ k. c.no_firsts.ensures k ∙ sym (first_under-none r k);
+  changes = subst (λ (xs : List (Option Change)). IsColumn None (IsChangeAt r) 0 xs) (sym c.new.ensures.items) (column_none None (IsChangeAt r));
+}

@@ -1,0 +1,64 @@
+-- What a pass over a log finds, entry by entry, and how it is kept (profile).
+use Rattle.std.specs.Prelude.{◌≡◌, ⊤, ℕ, List, length, slice_get, slice_index_or, Option, Some, None, IfSome, ◌<◌, option_and_then}
+use Rattle.exercise_model.specs.declared.state.Change.{Change}
+use Rattle.exercise_model.specs.Entry.{Entry}
+use Rattle.exercise_model.specs.Recording.{PlainRecording, IsRecording}
+use Rattle.exercise_model.specs.History.{Event, Send, Get, Tell, event_of, station_of, station_at}
+use Rattle.exercise_model.specs.Meaning.{meaning}
+use Rattle.exercise_model.specs.State.{change_made, state_after}
+use Rattle.exercise_model.specs.Cause.{send_cause, tell_rows, first_cause}
+use Rattle.exercise_model.specs.Place.{log_before}
+use Rattle.exercise_model.specs.Account.{pair_of_sent, pair_of, values_below}
+use Rattle.exercise_check.specs.declared.cause.Judgement.{Judgement}
+use Rattle.exercise_check.specs.declared.cause.Judgement.TheVariants.{Allowed}
+use Rattle.exercise_check.specs.declared.tables.Tables.{Tables}
+use Rattle.exercise_check.specs.declared.findings.Findings.{Findings}
+use Rattle.exercise_check.specs.declared.certificate.Step.{Step}
+use Rattle.exercise_check.specs.Goodness.{GoodBelow}
+use Rattle.exercise_check.specs.Course.{Judges}
+use Rattle.exercise_check.specs.Firsts.{AreFirsts}
+
+-- One value for each entry below n, and each is what P says of its entry.
+pub record IsColumn {X : Type 0} (d : X) (P : ℕ → X → Type 0) (n : ℕ) (xs : List X) : Type 0 where
+  pub count : length xs ≡ n
+  pub each : (j : ℕ) → j < n → P j (slice_index_or xs j d)
+
+-- what the event of entry j changes at its station, after the log of the station before it
+abbrev pub changed_by : PlainRecording → ℕ → Event → Option Change
+changed_by r j v = change_made r.setting.exercise (station_at r (station_of v)) (log_before r (station_of v) j) v
+
+unfoldable pub change_at : PlainRecording → ℕ → Option Change
+change_at r j = option_and_then (λ e. changed_by r j (event_of e)) (slice_get r.entries j)
+
+-- the change of entry j
+abbrev pub IsChangeAt : PlainRecording → ℕ → Option Change → Type 0
+IsChangeAt r j change = change ≡ change_at r j
+
+-- THE TIE of the tables, after the entries below n
+pub record AreTied (r : PlainRecording) (n : ℕ) (t : Tables) : Type 0 where
+  pub firsts : AreFirsts r n t.firsts
+  pub changes : IsColumn None (IsChangeAt r) n t.changes.items
+
+-- What the log of its station says of the event of entry j: all but whether a datagram that was received came from somewhere.
+abbrev pub JudgesOwn : PlainRecording → ℕ → Event → Judgement → Type 0
+JudgesOwn r j (Send s b) given =
+    Judges (option_and_then (send_cause r.setting.exercise (station_at r s) (log_before r s j)) (meaning r.setting.exercise b))
+    (option_and_then (pair_of_sent r s j) (meaning r.setting.exercise b)) (length r.entries) given
+JudgesOwn r j (Get s b) given = ⊤
+JudgesOwn r j (Tell s e y) given =
+    Judges (first_cause (tell_rows y (state_after r.setting.exercise (station_at r s) (log_before r s j) e))) None (length r.entries) given
+
+abbrev pub JudgesAt : PlainRecording → ℕ → Judgement → Type 0
+JudgesAt r j given = IfSome (slice_get r.entries j) (λ e. JudgesOwn r j (event_of e) given)
+
+-- WHAT A PASS FINDS in the entries below n
+pub record AreFindings (r : PlainRecording) (n : ℕ) (f : Findings) : Type 0 where
+  pub tied : AreTied r n f.tables
+  pub judgements : IsColumn (Allowed None) (JudgesAt r) n f.judgements.items
+  pub pairs : f.pairs.items ≡ values_below (pair_of r) n
+
+-- WHAT A COURSE KEEPS TO: its recording and steps are those of a course, and all entries are found
+pub record Keeps (r : PlainRecording) (steps : List Step) (f : Findings) : Type 0 where
+  pub limits : IsRecording r
+  pub good : GoodBelow r steps (length steps)
+  pub found : AreFindings r (length r.entries) f

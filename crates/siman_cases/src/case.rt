@@ -36,6 +36,8 @@ pub(crate) struct Case {
     pub(crate) left: Stream,
     /// Whether a file must be left.
     pub(crate) is_left: bool,
+    /// The name under which the file that is left stands for the cases behind, whatever it holds.
+    pub(crate) keep: Option<String>,
     pub(crate) asked: Option<String>,
     pub(crate) status: u8,
     pub(crate) half_told: bool,
@@ -55,6 +57,7 @@ pub(crate) fn first(alloc: Global) -> Case {
         errors: empty(alloc),
         left: empty(alloc),
         is_left: false,
+        keep: None,
         asked: None,
         status: 0,
         half_told: false,
@@ -73,6 +76,7 @@ impl Case {
         self.errors = empty(self.alloc);
         self.left = empty(self.alloc);
         self.is_left = false;
+        self.keep = None;
         self.asked = None;
         self.status = 0;
         self.half_told = false;
@@ -144,6 +148,20 @@ impl Case {
         Ok(())
     }
 
+    /// Adds the file that was left, if it is to be kept.
+    pub(crate) fn keep_left(&mut self, left: Option<Vec<u8>>) -> io::Result<()> {
+        if let (Some(name), Some(bytes)) = (self.keep.take(), left) {
+            let file = File {
+                name,
+                bytes,
+                calls: WELL,
+                shut: None,
+            };
+            self.files.push(file)?;
+        }
+        Ok(())
+    }
+
     fn begin(&mut self, part: Part) -> io::Result<()> {
         if part == Part::Word {
             self.words.push(Vec::new(self.alloc))?;
@@ -195,6 +213,7 @@ impl Case {
             Line::Hex(text) => return self.add_hex(text),
             Line::Calls(calls) => return Ok(self.set_calls(calls)),
             Line::Asked(name) => self.ask(name)?,
+            Line::Keep(name) => self.keep = Some(String::from_str(self.alloc, name)?),
             Line::Status(status) => self.status = status,
             Line::AskedNothing => self.asked = Some(String::new(self.alloc)),
             Line::HalfTold => self.half_told = true,

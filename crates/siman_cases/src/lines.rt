@@ -32,6 +32,7 @@ pub(crate) enum Line<'a> {
     Asked(&'a str),
     Status(u8),
     AskedNothing,
+    Keep(&'a str),
     HalfTold,
 }
 
@@ -107,6 +108,7 @@ pub(crate) fn read_line(line: &str) -> Option<Line<'_>> {
         "hex" => Line::Hex(rest),
         "calls" => Line::Calls(read_calls(rest)?),
         "asked" => Line::Asked(rest),
+        "keep" => Line::Keep(rest),
         "status" => Line::Status(rest.parse::<u8>().ok()?),
         _ => return None,
     })

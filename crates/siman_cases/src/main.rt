@@ -18,6 +18,7 @@
 //! | `calls MOST AT KIND` | each call reads or writes at most so many bytes, and the call of this number fails, from 1: `other`, `interrupted`, or `nothing`, where it takes none |
 //! | `asked NAME`, `asked make NAME` | the next file that must be opened, or made |
 //! | `asked-nothing` | no file must be opened or made |
+//! | `keep NAME` | a file must be made, whatever it holds; it stands under this name for the cases behind |
 //! | `status N` | the status that must be answered |
 //! | `half-told` | what is told of faults can't be written whole |
 #![tactic(auto)]

@@ -89,6 +89,12 @@ fn compare_files<W: Write>(case: &Case, shelf: &Shelf<'_>, out: &mut W) -> io::R
         Some(asked) => compare(name, "asked", shelf.asked.as_bytes(), asked.as_bytes(), out)?,
         None => true,
     };
+    if case.keep.is_some() {
+        return match &shelf.left {
+            Some(_) => Ok(asked),
+            None => compare(name, "left", b"no file\n", b"a file", out),
+        };
+    }
     let left = match (&shelf.left, case.is_left) {
         (Some(left), true) => compare(name, "left", left, &case.left.bytes, out)?,
         (None, false) => true,
@@ -98,9 +104,8 @@ fn compare_files<W: Write>(case: &Case, shelf: &Shelf<'_>, out: &mut W) -> io::R
     Ok(asked && left)
 }
 
-/// Runs the program on a case, and prints what is otherwise; whether nothing is.
-fn try_case<W: Write>(alloc: Global, case: &Case, out: &mut W) -> io::Result<bool> {
-    let left = run_case(alloc, case);
+/// Prints what a run left otherwise than its case wants; whether nothing is otherwise.
+fn compare_all<W: Write>(case: &Case, left: &Outcome<'_>, out: &mut W) -> io::Result<bool> {
     let name = &case.name;
     let ended = compare_ended(case, left.ended, out)?;
     let answered = compare(name, "out", &left.out.bytes, &case.out.bytes, out)?;
@@ -109,13 +114,28 @@ fn try_case<W: Write>(alloc: Global, case: &Case, out: &mut W) -> io::Result<boo
     Ok(ended && answered && told && files)
 }
 
+/// Runs the program on a case, and prints what is otherwise: whether nothing is, and the file that
+/// was left.
+fn try_case<W: Write>(
+    alloc: Global,
+    case: &Case,
+    out: &mut W,
+) -> io::Result<(bool, Option<Vec<u8>>)> {
+    let left = run_case(alloc, case);
+    let good = compare_all(case, &left, out)?;
+    let Outcome { shelf, .. } = left;
+    let Shelf { left, .. } = shelf;
+    Ok((good, left))
+}
+
 impl Tally {
     /// Tries a case that is whole; before the first there is none.
-    fn add<W: Write>(&mut self, alloc: Global, case: &Case, out: &mut W) -> io::Result<()> {
+    fn add<W: Write>(&mut self, alloc: Global, case: &mut Case, out: &mut W) -> io::Result<()> {
         if case.name.is_empty() {
             return Ok(());
         }
-        let good = try_case(alloc, case, out)?;
+        let (good, left) = try_case(alloc, case, out)?;
+        case.keep_left(left)?;
         self.tried = self.tried.saturating_add(1);
         if !good {
             self.otherwise = self.otherwise.saturating_add(1);
@@ -155,6 +175,6 @@ pub(crate) fn try_cases<W: Write>(alloc: Global, text: &str, out: &mut W) -> io:
             return Ok(tally);
         }
     }
-    tally.add(alloc, &case, out)?;
+    tally.add(alloc, &mut case, out)?;
     Ok(tally)
 }

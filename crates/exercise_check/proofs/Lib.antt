@@ -6,6 +6,7 @@ mod Judged
 mod Orders
 mod Goodness
 mod Courses
+mod Counted
 mod Links
 mod Explained
 mod Known

@@ -84,6 +84,15 @@ length-steps-more r s steps k within =
 pub length-steps-none : (r : PlainRecording) (s : ℕ) → length (log_at s (order_of r [])) ≡ 0
 length-steps-none r s = ap length (log_at-order_of-none r s)
 
+pub length-order-more : (r : PlainRecording) (s : ℕ) (steps : List Step) (step : Step)
+    → length (log_at s (order_of r (steps ++ step ∷ []))) ≡ length (log_at s (order_of r steps)) +
+    (if is_some (own_event r s step.place) then 1 else 0)
+length-order-more r s steps step =
+    ap length (log_at-order_of-snoc r s steps step) ∙ longer (own_event r s step.place) (log_at s (order_of r steps))
+
+pub length-order-none : (r : PlainRecording) (s : ℕ) → length (log_at s (order_of r [])) ≡ 0
+length-order-none r s = length-steps-none r s
+
 pub length-entries-more : (r : PlainRecording) (s i : ℕ)
     → length (log_before r s (i + 1)) ≡ length (log_before r s i) + (if is_some (own_event r s i) then 1 else 0)
 length-entries-more r s i =

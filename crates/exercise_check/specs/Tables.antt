@@ -2,8 +2,8 @@
 use Rattle.std.specs.Prelude.{◌≡◌, ⊤, ℕ, List, length, slice_get, slice_index_or, Option, Some, None, IfSome, ◌<◌, option_and_then}
 use Rattle.exercise_model.specs.declared.state.Change.{Change}
 use Rattle.exercise_model.specs.Entry.{Entry}
-use Rattle.exercise_model.specs.Recording.{PlainRecording, IsRecording}
-use Rattle.exercise_model.specs.History.{Event, Send, Get, Tell, event_of, station_of, station_at}
+use Rattle.exercise_model.specs.Recording.{PlainRecording}
+use Rattle.exercise_model.specs.History.{Event, Send, Get, Tell, event_of, station_of, station_at, log_at}
 use Rattle.exercise_model.specs.Meaning.{meaning}
 use Rattle.exercise_model.specs.State.{change_made, state_after}
 use Rattle.exercise_model.specs.Cause.{send_cause, tell_rows, first_cause}
@@ -14,8 +14,8 @@ use Rattle.exercise_check.specs.declared.cause.Judgement.TheVariants.{Allowed}
 use Rattle.exercise_check.specs.declared.tables.Tables.{Tables}
 use Rattle.exercise_check.specs.declared.findings.Findings.{Findings}
 use Rattle.exercise_check.specs.declared.certificate.Step.{Step}
-use Rattle.exercise_check.specs.Goodness.{GoodBelow}
-use Rattle.exercise_check.specs.Course.{Judges}
+use Rattle.exercise_check.specs.Order.{order_of}
+use Rattle.exercise_check.specs.Course.{IsCourse, Judges}
 use Rattle.exercise_check.specs.Firsts.{AreFirsts}
 
 -- One value for each entry below n, and each is what P says of its entry.
@@ -34,10 +34,29 @@ change_at r j = option_and_then (λ e. changed_by r j (event_of e)) (slice_get r
 abbrev pub IsChangeAt : PlainRecording → ℕ → Option Change → Type 0
 IsChangeAt r j change = change ≡ change_at r j
 
+-- how many entries of each station stand before entry n
+abbrev pub IsCountBefore : PlainRecording → ℕ → ℕ → ℕ → Type 0
+IsCountBefore r n s count = count ≡ length (log_before r s n)
+
+abbrev pub AreCounts : PlainRecording → ℕ → List ℕ → Type 0
+AreCounts r n counts = IsColumn 0 (IsCountBefore r n) (length r.setting.stations) counts
+
+-- how many entries of each station were taken
+abbrev pub IsCountTaken : PlainRecording → List Step → ℕ → ℕ → Type 0
+IsCountTaken r steps s count = count ≡ length (log_at s (order_of r steps))
+
+abbrev pub AreTaken : PlainRecording → List Step → List ℕ → Type 0
+AreTaken r steps taken = IsColumn 0 (IsCountTaken r steps) (length r.setting.stations) taken
+
+-- how many entries of its station stand before entry j
+abbrev pub IsRankAt : PlainRecording → ℕ → ℕ → Type 0
+IsRankAt r j rank = IfSome (slice_get r.entries j) (λ e. rank ≡ length (log_before r (station_of (event_of e)) j))
+
 -- THE TIE of the tables, after the entries below n
 pub record AreTied (r : PlainRecording) (n : ℕ) (t : Tables) : Type 0 where
   pub firsts : AreFirsts r n t.firsts
   pub changes : IsColumn None (IsChangeAt r) n t.changes.items
+  pub counts : AreCounts r n t.counts.items
 
 -- What the log of its station says of the event of entry j: all but whether a datagram that was received came from somewhere.
 abbrev pub JudgesOwn : PlainRecording → ℕ → Event → Judgement → Type 0
@@ -56,9 +75,10 @@ pub record AreFindings (r : PlainRecording) (n : ℕ) (f : Findings) : Type 0 wh
   pub tied : AreTied r n f.tables
   pub judgements : IsColumn (Allowed None) (JudgesAt r) n f.judgements.items
   pub pairs : f.pairs.items ≡ values_below (pair_of r) n
+  pub ranks : IsColumn 0 (IsRankAt r) n f.ranks.items
 
--- WHAT A COURSE KEEPS TO: its recording and steps are those of a course, and all entries are found
-pub record Keeps (r : PlainRecording) (steps : List Step) (f : Findings) : Type 0 where
-  pub limits : IsRecording r
-  pub good : GoodBelow r steps (length steps)
+-- WHAT A COURSE KEEPS TO: its recording and steps are those of a course, all entries are found, and those that were taken are counted
+pub record Keeps (r : PlainRecording) (steps : List Step) (f : Findings) (taken : List ℕ) : Type 0 where
+  pub course : IsCourse (record { recording = r; steps = steps })
   pub found : AreFindings r (length r.entries) f
+  pub counted : AreTaken r steps taken

@@ -1,6 +1,6 @@
 //! A course over a log: steps that are taken one after the other, each judged by those before it.
 
-ghost use Rattle.std.specs.Prelude.{◌≡◌, ◌<◌, length, slice_get, IfOk, IfSome, IfNone, OnErr};
+ghost use Rattle.std.specs.Prelude.{◌≡◌, ◌<◌, ◌==◌, length, slice_index_or, slice_get, IfOk, IfSome, IfNone, OnErr};
 ghost use Rattle.exercise_model.specs.Cause.{IsAllowed};
 ghost use Rattle.exercise_model.specs.History.{event_of, station_of, log_at, log_of};
 ghost use Rattle.exercise_check.specs.Order.{is_next, link_number};
@@ -12,8 +12,9 @@ use crate::account::account;
 use crate::cause::{Judgement, judge};
 use crate::certificate::{Certificate, NO_LINK, Step};
 use crate::checked::Checked;
+use crate::counts::{count_taken, no_counts};
 use crate::findings::{Findings, find};
-use crate::order::{entries_before, events_in, next_entry, station_of};
+use crate::order::{next_entry, station_of};
 use exercise_model::{Cause, ExerciseLog};
 use std::alloc::{AllocError, Global};
 use std::marker::Model;
@@ -28,6 +29,7 @@ pub struct Course<'a, L: ExerciseLog> {
     log: &'a L,
     steps: Vec<Step>,
     found: Findings,
+    taken: Vec<u32>,
 }
 
 impl<'a, L: ExerciseLog> Model for Course<'a, L> {
@@ -35,7 +37,7 @@ impl<'a, L: ExerciseLog> Model for Course<'a, L> {
 
     ghost view = { λ c. record { recording = L.recording c.log.now; steps = c.steps.items } };
 
-    ghost invariant = { λ c. Keeps (L.recording c.log.now) c.steps.items c.found };
+    ghost invariant = { λ c. Keeps (L.recording c.log.now) c.steps.items c.found c.taken.items };
 }
 
 /// What going on by an entry comes to.
@@ -59,6 +61,15 @@ fn link_number(link: Option<usize>) -> u32
     }
 }
 
+/// Whether as many entries of a station were taken as stand before one.
+fn is_due(taken: &[u32], ranks: &[u32], station: usize, place: usize) -> bool
+    requires station { station < length taken.now }
+    requires place { place < length ranks.now }
+    ensures { result ≡ (slice_index_or taken.now station 0 == slice_index_or ranks.now place 0) }
+{
+    taken[station] == ranks[place]
+}
+
 impl<'a, L: ExerciseLog> Course<'a, L> {
     /// The course over a log before its first step.
     pub fn begin(alloc: Global, log: &'a L) -> Result<Course<'a, L>, AllocError>
@@ -67,10 +78,12 @@ impl<'a, L: ExerciseLog> Course<'a, L> {
         // To count the entries shows that the recording keeps its limits.
         let _entries = log.entry_count();
         let found = find(alloc, log)?;
+        let taken = no_counts(alloc, log.station_count())?;
         Ok(Course {
             log,
             steps: Vec::new(alloc),
             found,
+            taken,
         })
     }
 
@@ -89,7 +102,7 @@ impl<'a, L: ExerciseLog> Course<'a, L> {
         ensures { IfSome (slice_get self.now.recording.entries place) (λ e. result ≡ is_next self.now.recording self.now.steps place (event_of e)) }
     {
         let station = station_of(&self.log.entry(place));
-        events_in(self.log, &self.steps, station) == entries_before(self.log, station, place)
+        is_due(&self.taken, &self.found.ranks, station, place)
     }
 
     /// The next entry of a station, or `None` where all its entries were taken.
@@ -122,6 +135,7 @@ impl<'a, L: ExerciseLog> Course<'a, L> {
                     place: place as u32,
                     link,
                 })?;
+                count_taken(&mut self.taken, self.log, place);
                 Ok(Progress::Taken(link))
             }
         }

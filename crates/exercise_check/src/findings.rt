@@ -2,12 +2,11 @@
 
 ghost use Rattle.std.specs.Prelude.{◌≡◌, ◌<◌, ◌+◌, length, OnOk, IfOk, IfSome};
 ghost use Rattle.exercise_model.specs.Account.{pair_of};
-ghost use Rattle.exercise_model.specs.Recording.{PlainRecording};
 ghost use Rattle.exercise_check.specs.Tables.{AreTied, AreFindings};
 
 use crate::cause::{Judgement, judge_own};
 use crate::link::pair_of;
-use crate::tables::{Tables, no_tables, note_tables};
+use crate::tables::{Tables, no_tables, note_tables, rank_at};
 use exercise_model::ExerciseLog;
 use std::alloc::{AllocError, Global};
 
@@ -20,6 +19,8 @@ pub(crate) struct Findings {
     pub judgements: Vec<Judgement>,
     /// The entry of the request that each answer takes up.
     pub pairs: Vec<Option<u32>>,
+    /// How many entries of its station stand before each entry.
+    pub ranks: Vec<u32>,
 }
 
 /// The number of an entry, which every one is in 32 bits.
@@ -33,15 +34,17 @@ pub(crate) fn number(entry: Option<usize>) -> Option<u32>
     }
 }
 
-/// What was found before the first entry. It takes no memory.
-fn nothing_found(alloc: Global) -> Findings
-    ensures { (r : PlainRecording) → AreFindings r 0 result }
+/// What was found before the first entry.
+fn nothing_found<L: ExerciseLog>(alloc: Global, log: &L) -> Result<Findings, AllocError>
+    ensures { IfOk result (λ found. AreFindings (L.recording log.now) 0 found) }
 {
-    Findings {
-        tables: no_tables(alloc),
+    let tables = no_tables(alloc, log)?;
+    Ok(Findings {
+        tables,
         judgements: Vec::new(alloc),
         pairs: Vec::new(alloc),
-    }
+        ranks: Vec::new(alloc),
+    })
 }
 
 /// The pair of an entry, as it is reported.
@@ -63,8 +66,10 @@ fn find_entry<L: ExerciseLog>(found: &mut Findings, log: &L, entry: usize) -> Re
 {
     let judgement = judge_own(log, &found.tables, entry);
     let pair = pair_number(log, &found.tables, entry);
+    let rank = rank_at(log, &found.tables, entry);
     found.judgements.push(judgement)?;
     found.pairs.push(pair)?;
+    found.ranks.push(rank)?;
     note_tables(&mut found.tables, log, entry)
 }
 
@@ -72,7 +77,7 @@ fn find_entry<L: ExerciseLog>(found: &mut Findings, log: &L, entry: usize) -> Re
 pub(crate) fn find<L: ExerciseLog>(alloc: Global, log: &L) -> Result<Findings, AllocError>
     ensures { let r = L.recording log.now in IfOk result (AreFindings r (length r.entries)) }
 {
-    let mut found = nothing_found(alloc);
+    let mut found = nothing_found(alloc, log)?;
     for entry in 0..log.entry_count() {
         find_entry(&mut found, log, entry)?;
     }

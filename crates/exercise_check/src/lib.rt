@@ -19,6 +19,7 @@ mod certificate_text;
 mod change;
 mod checked;
 mod checker;
+mod counts;
 mod course;
 mod exchange;
 mod findings;

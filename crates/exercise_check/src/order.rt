@@ -32,28 +32,13 @@ pub(crate) fn is_own<L: ExerciseLog>(log: &L, station: usize, entry: usize) -> b
 
 /// How many of a station's events stand in the order that steps name.
 #[tactic(auto, using(crate::proofs::Orders::order_steps))]
-pub(crate) fn events_in<L: ExerciseLog>(log: &L, steps: &[Step], station: usize) -> usize
+fn events_in<L: ExerciseLog>(log: &L, steps: &[Step], station: usize) -> usize
     requires { ArePlaced (L.recording log.now) steps.now }
     ensures { result ≡ length (log_at station (order_of (L.recording log.now) steps.now)) }
 {
     let mut count = 0;
     for step in steps {
         if is_own(log, station, step.place as usize) {
-            count += 1;
-        }
-    }
-    count
-}
-
-/// How many of a station's entries stand before one.
-#[tactic(auto, using(crate::proofs::Orders::order_steps))]
-pub(crate) fn entries_before<L: ExerciseLog>(log: &L, station: usize, before: usize) -> usize
-    requires { before ≤ length (L.recording log.now).entries }
-    ensures { result ≡ length (log_before (L.recording log.now) station before) }
-{
-    let mut count = 0;
-    for i in 0..before {
-        if is_own(log, station, i) {
             count += 1;
         }
     }

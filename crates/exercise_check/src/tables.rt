@@ -1,10 +1,11 @@
 //! What a pass over a log keeps of the entries behind it, to look it up for the entries ahead.
 
-ghost use Rattle.std.specs.Prelude.{◌≡◌, ◌<◌, ◌+◌, length, OnOk};
-ghost use Rattle.exercise_model.specs.Recording.{PlainRecording};
-ghost use Rattle.exercise_check.specs.Tables.{AreTied};
+ghost use Rattle.std.specs.Prelude.{◌≡◌, ◌<◌, ◌+◌, length, OnOk, IfOk};
+ghost use Rattle.exercise_check.specs.Tables.{AreTied, IsRankAt};
 
+use crate::counts::{count_entry, no_counts};
 use crate::firsts::{Firsts, no_firsts, note_entry};
+use crate::order::station_of;
 use crate::state::change_at;
 use exercise_model::{Change, ExerciseLog};
 use std::alloc::{AllocError, Global};
@@ -16,16 +17,29 @@ pub(crate) struct Tables {
     pub firsts: Firsts,
     /// What each entry changes.
     pub changes: Vec<Option<Change>>,
+    /// How many entries of each station there were.
+    pub counts: Vec<u32>,
 }
 
-/// What is kept before the first entry. It takes no memory.
-pub(crate) fn no_tables(alloc: Global) -> Tables
-    ensures { (r : PlainRecording) → AreTied r 0 result }
+/// What is kept before the first entry.
+pub(crate) fn no_tables<L: ExerciseLog>(alloc: Global, log: &L) -> Result<Tables, AllocError>
+    ensures { IfOk result (λ tables. AreTied (L.recording log.now) 0 tables) }
 {
-    Tables {
+    let counts = no_counts(alloc, log.station_count())?;
+    Ok(Tables {
         firsts: no_firsts(alloc),
         changes: Vec::new(alloc),
-    }
+        counts,
+    })
+}
+
+/// How many entries of its station stand before the next entry of a log.
+pub(crate) fn rank_at<L: ExerciseLog>(log: &L, tables: &Tables, entry: usize) -> u32
+    requires within { entry < length (L.recording log.now).entries }
+    requires tied { AreTied (L.recording log.now) entry tables.now }
+    ensures { IsRankAt (L.recording log.now) entry result }
+{
+    tables.counts[station_of(&log.entry(entry))]
 }
 
 /// Keeps the next entry of a log.
@@ -41,5 +55,6 @@ pub(crate) fn note_tables<L: ExerciseLog>(
 {
     let change = change_at(log, &tables.firsts, entry);
     tables.changes.push(change)?;
+    count_entry(&mut tables.counts, log, entry);
     note_entry(&mut tables.firsts, log, entry)
 }

@@ -13,7 +13,7 @@ loop-course-init g c = ap (λ (v : CourseData). v.recording) c.in_ok-course.ensu
 pub loop-course-smaller : goal.loop-course-smaller
 loop-course-smaller g c =
     let v = c.sweep.new.course in
-    let course : IsCourse v = subst IsCourse c.course.view_is c.course.invariant in
+    let course : IsCourse v = subst IsCourse c.course.view_is c.course.invariant.course in
     let few = good_few v.recording course.limits v.steps course.good in
     let longer : length c.loop-course.course.steps < length v.steps = c.in_ok-sweep.ensures.longer c.if-not-branch.false in
     let same : length v.recording.entries ≡ c.entry_count-count.result = ap (λ (r : PlainRecording). length r.entries)

@@ -4,7 +4,7 @@ use Rattle.exercise_check.proofs.course.Course.next_entry.Goals as goal
 
 pub next_entry-requires : goal.next_entry-requires
 next_entry-requires g c =
-    rw c.deref.ensures.value (are_placed (g.L.ExerciseLog.recording c.self.inside.log.now) c.self.inside.steps.items c.self.invariant.good)
+    rw c.deref.ensures.value (are_placed (g.L.ExerciseLog.recording c.self.inside.log.now) c.self.inside.steps.items c.self.invariant.course.good)
 
 pub returns-clause-own : goal.returns-clause-own
 returns-clause-own g c =
@@ -19,5 +19,5 @@ returns-clause-next g c =
 pub returns-clause-done : goal.returns-clause-done
 returns-clause-done g c =
     rw (← c.self.view_is) (done_if
-    (g.L.ExerciseLog.recording c.self.inside.log.now) c.self.inside.steps.items c.args.station c.next_entry.result c.self.invariant.good
+    (g.L.ExerciseLog.recording c.self.inside.log.now) c.self.inside.steps.items c.args.station c.next_entry.result c.self.invariant.course.good
     (rw c.deref.ensures.value at c.next_entry.ensures.none))

@@ -101,7 +101,7 @@ fn a_station_that_can_go_on_is_not_blocked(rt: HostRuntime) {
 }
 
 /// How many entries the recordings have of which all certificates are tried.
-const ENTRIES: u32 = 4;
+const ENTRIES: u32 = 3;
 
 /// How many steps there are to try: each entry with each link, or with none.
 const CHOICES: u32 = ENTRIES * (ENTRIES + 1);
@@ -127,7 +127,7 @@ fn numbered(alloc: Global, number: u32) -> Option<Certificate> {
 /// How many of all certificates of so many steps the checker accepts.
 fn accepted(alloc: Global, log: &Recording) -> u32 {
     let mut accepted = 0u32;
-    for number in 0..CHOICES * CHOICES * CHOICES * CHOICES {
+    for number in 0..CHOICES * CHOICES * CHOICES {
         if numbered(alloc, number).is_some_and(|tried| check(alloc, log, &tried).is_ok()) {
             accepted = accepted.wrapping_add(1);
         }
@@ -141,29 +141,16 @@ fn explanations(alloc: Global, done: &[Done<'_>]) -> Option<u32> {
 }
 
 #[test]
-fn stations_that_wait_for_each_other_have_no_explanation(rt: HostRuntime) {
-    let from_second = comment(NONE);
-    let done = [
-        Received(0, &from_second),
-        Sent(0, &FROM_FIRST),
-        Received(1, &FROM_FIRST),
-        Sent(1, &from_second),
-    ];
-    assert_eq!(rt; explanations(rt.alloc(), &done), Some(0));
+fn a_request_that_was_not_sent_has_no_explanation(rt: HostRuntime) {
+    assert_eq!(rt; explanations(rt.alloc(), &[GETS, ANSWERS, HEARS]), Some(0));
 }
 
 #[test]
 fn a_request_that_was_not_received_has_no_explanation(rt: HostRuntime) {
-    assert_eq!(rt;
-        explanations(rt.alloc(), &[ASKS, ASKS, ANSWERS, HEARS]),
-        Some(0)
-    );
+    assert_eq!(rt; explanations(rt.alloc(), &[ASKS, ANSWERS, HEARS]), Some(0));
 }
 
 #[test]
 fn entries_in_no_common_order_have_one_explanation(rt: HostRuntime) {
-    assert_eq!(rt;
-        explanations(rt.alloc(), &[GETS, ANSWERS, ASKS, HEARS]),
-        Some(1)
-    );
+    assert_eq!(rt; explanations(rt.alloc(), &[GETS, ANSWERS, ASKS]), Some(1));
 }

@@ -1,18 +1,19 @@
 -- Bytes begin with at most one header: the one that is read at its offsets, exactly where none of it is refused.
 use Rattle.std.proofs.Common.{◌≡◌, ◌≢◌, ◌≤◌, ℕ, Bool, true, false, eqb, ltb, inl, inr, List, length, Option, Some, None, Result, Ok, Err, refl, sym, ap, ◌∙◌, arith, rules, eqb-true, eq-eqb}
-use Rattle.std.specs.Prelude.{if◌then◌else◌, ◌==◌, not, IfOk, IfErr}
+use Rattle.std.specs.Prelude.{◌∷◌, [], if◌then◌else◌, ◌==◌, ◌||◌, not, IfOk, IfErr}
 use Rattle.std.specs.Int.{w8, w16, w32}
 use Rattle.std.proofs.lemmas.Bool.{le-ltb, cases_lt, lt-ltb}
-use Rattle.dis_records.specs.declared.header.TheConstants.{LARGEST_DATAGRAM}
+use Rattle.dis_records.specs.declared.header.TheConstants.{LARGEST_DATAGRAM, VERSIONS}
 use Rattle.dis_records.specs.declared.kind.Kind.{Kind}
 use Rattle.dis_records.specs.declared.kind.Kind.TheVariants as kinds
 use Rattle.dis_records.specs.declared.header.Header.{Header}
 use Rattle.dis_records.specs.declared.header.HeaderFault.{HeaderFault}
 use Rattle.dis_records.specs.declared.header.Version.{Version}
+use Rattle.dis_records.specs.declared.header.VersionRow.{VersionRow}
 use Rattle.dis_records.specs.declared.header.Version.TheVariants as versions
 use Rattle.dis_records.specs.Kind.{kind_code, kind_from, is_kind_code}
-use Rattle.dis_records.specs.Layout.{spelled_number}
-use Rattle.dis_records.specs.Header.{IsHeader, version_code, header_at, header_refusal}
+use Rattle.dis_records.specs.Layout.{ByteIf, StandsAt, spelled_number}
+use Rattle.dis_records.specs.Header.{IsHeader, row_where, has_number, version_code, is_version, version_from, has_status, carried_status, header_at, header_refusal}
 
 pub kind_from-kind_code : (kind : Kind) → kind_from (kind_code kind) ≡ kind
 unfolding kind_from
@@ -43,11 +44,55 @@ is_kind_code-kind_code kinds.DataPdu = refl
 is_kind_code-kind_code kinds.EventReport = refl
 is_kind_code-kind_code kinds.Comment = refl
 
-version_is : (version : Version) → version_code version ≡ 7
-version_is versions.V7 = refl
+-- ---- the table of versions
 
-same_version : (v w : Version) → v ≡ w
-same_version versions.V7 versions.V7 = refl
+version_from-version_code : (version : Version) → version_from (version_code version) ≡ version
+unfolding version_from
+version_from-version_code versions.V6 = refl
+version_from-version_code versions.V7 = refl
+
+is_version-version_code : (version : Version) → is_version (version_code version) ≡ true
+is_version-version_code versions.V6 = refl
+is_version-version_code versions.V7 = refl
+
+-- each row has the number of its version
+abbrev AreNumbered : List VersionRow → Type 0
+AreNumbered [] = Unit {0}
+AreNumbered (row ∷ rows) = (version_code row.version ≡ row.number) × AreNumbered rows
+
+numbered : AreNumbered VERSIONS
+numbered = (refl, (refl, tt))
+
+row_numbered : (rows : List VersionRow) (n : ℕ) → AreNumbered rows → has_number rows n ≡ true
+    → version_code (row_where (λ row. row.number == n) rows).version ≡ n
+row_numbered [] n are e = absurd cc
+row_numbered (row ∷ rows) n are e = by (row.number == n) refl e (row_numbered rows n are.1) where
+  by : (test : Bool) → (row.number == n) ≡ test → (test || has_number rows n) ≡ true
+      → (has_number rows n ≡ true → version_code (row_where (λ row. row.number == n) rows).version ≡ n)
+      → version_code (if test then row else row_where (λ row. row.number == n) rows).version ≡ n
+  by true same e rest = are.0 ∙ eqb-true row.number n same
+  by false same e rest = rest e
+
+pub version_code-version_from : (n : ℕ) → is_version n ≡ true → version_code (version_from n) ≡ n
+unfolding version_from
+version_code-version_from n e = row_numbered VERSIONS n numbered e
+
+-- ---- a byte that is there by the version
+
+pub status_stands : (there : Bool) (at : ℕ) (b : List ℕ) → StandsAt (ByteIf there (if there then spelled_number w8 at b else 0)) at b
+status_stands true at b = refl
+status_stands false at b = tt
+
+pub status_again : (there : Bool) (n : ℕ) → (if there then n else 0) ≡ (if there then (if there then n else 0) else 0)
+status_again true n = refl
+status_again false n = refl
+
+status_read : (there : Bool) (n at : ℕ) (b : List ℕ) → StandsAt (ByteIf there n) at b → n ≡ (if there then n else 0)
+    → n ≡ (if there then spelled_number w8 at b else 0)
+status_read true n at b stands is = stands
+status_read false n at b stands is = is
+
+-- ---- what is there is read
 
 same_fields : (g : Header) (version : Version) (exercise : ℕ) (kind : Kind) (stamp own status : ℕ) → g.version ≡ version → g.exercise ≡ exercise
     → g.kind ≡ kind → g.stamp ≡ stamp → g.length ≡ own → g.status ≡ status
@@ -58,7 +103,7 @@ same_fields g version exercise kind stamp own status a b c d e f = rw (← a, �
 pub header_stands : (h : Header) (b : List ℕ) → IsHeader h b → header_refusal b ≡ None
 header_stands h b p =
     let x = p.stands in
-    let version : spelled_number w8 0 b ≡ 7 = sym x.0 ∙ version_is h.version in
+    let version : is_version (spelled_number w8 0 b) ≡ true = ap is_version (sym x.0) ∙ is_version-version_code h.version in
     let family : spelled_number w8 3 b ≡ 5 = sym x.1.1.1.0 in
     let kind : is_kind_code (spelled_number w8 2 b) ≡ true = ap is_kind_code (sym x.1.1.0) ∙ is_kind_code-kind_code h.kind in
     let long : ltb (length b) 12 ≡ false = le-ltb (length b) 12 p.room in
@@ -71,13 +116,16 @@ header_stands h b p =
 pub header_is : (h : Header) (b : List ℕ) → IsHeader h b → h ≡ header_at b
 header_is h b p =
     let x = p.stands in
-    same_fields h versions.V7 (spelled_number w8 1 b) (kind_from (spelled_number w8 2 b)) (spelled_number w32 4 b) (spelled_number w16 8 b) (spelled_number w8 10 b)
-    (same_version h.version versions.V7)
+    let version : h.version ≡ version_from (spelled_number w8 0 b) = sym (version_from-version_code h.version) ∙ ap version_from x.0 in
+    same_fields h (version_from (spelled_number w8 0 b)) (spelled_number w8 1 b) (kind_from (spelled_number w8 2 b)) (spelled_number w32 4 b) (spelled_number w16 8 b)
+    (carried_status (version_from (spelled_number w8 0 b)) (spelled_number w8 10 b))
+    version
     x.1.0
     (sym (kind_from-kind_code h.kind) ∙ ap kind_from x.1.1.0)
     x.1.1.1.1.0
     x.1.1.1.1.1.0
-    x.1.1.1.1.1.1.0
+    (status_read (has_status h.version) h.status 10 b x.1.1.1.1.1.1.0 p.status_is
+    ∙ ap (λ (v : Version). carried_status v (spelled_number w8 10 b)) version)
 
 -- ---- what is not refused is there
 
@@ -110,17 +158,27 @@ kind_code-kind_from n e =
 pub header_reads : (b : List ℕ) → header_refusal b ≡ None → IsHeader (header_at b) b
 header_reads b e =
     let short = unless (ltb (length b) 12) _ _ e in
-    let version = unless (not (eqb (spelled_number w8 0 b) 7)) _ _ short.1 in
+    let version = unless (not (is_version (spelled_number w8 0 b))) _ _ short.1 in
     let family = unless (not (eqb (spelled_number w8 3 b) 5)) _ _ version.1 in
     let kind = unless (not (is_kind_code (spelled_number w8 2 b))) _ _ family.1 in
     let long = unless (ltb LARGEST_DATAGRAM (length b)) _ _ kind.1 in
     let own = unless (not (eqb (spelled_number w16 8 b) (length b))) _ _ long.1 in
     record {
       stands = (
-        sym (eqb-true _ _ (otherwise _ version.0)),
-        (refl, (kind_code-kind_from (spelled_number w8 2 b) (otherwise (is_kind_code (spelled_number w8 2 b)) kind.0), (sym (eqb-true _ _ (otherwise _ family.0)), (refl, (refl, (refl, (tt, tt))))))),
+        version_code-version_from (spelled_number w8 0 b) (otherwise (is_version (spelled_number w8 0 b)) version.0),
+        (
+          refl,
+          (
+            kind_code-kind_from (spelled_number w8 2 b) (otherwise (is_kind_code (spelled_number w8 2 b)) kind.0),
+            (
+              sym (eqb-true _ _ (otherwise _ family.0)),
+              (refl, (refl, (status_stands (has_status (version_from (spelled_number w8 0 b))) 10 b, (tt, tt)))),
+            ),
+          ),
+        ),
       );
       length_is = eqb-true _ _ (otherwise _ own.0);
+      status_is = status_again (has_status (version_from (spelled_number w8 0 b))) (spelled_number w8 10 b);
       room = not_below _ _ short.0;
       limit = not_below _ _ long.0;
     }

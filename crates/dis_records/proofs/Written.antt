@@ -1,12 +1,14 @@
 -- Fields that fit stand in their own text.
 use Rattle.std.proofs.Common.{◌≡◌, ℕ, ◌+◌, ◌^◌, ◌<◌, ◌≤◌, List, [], ◌∷◌, ◌++◌, length, take, drop, refl, sym, ap, subst, ◌∙◌, append_assoc, arith}
+use Rattle.std.specs.Prelude.{true, false}
 use Rattle.std.specs.Int.{Width, w8, w16, w32, byte_len, from_be_bytes, to_be_bytes}
 use Rattle.std.proofs.lemmas.Nat.{from_be_bytes-to_be_bytes_2, from_be_bytes-to_be_bytes_4}
 use Rattle.std.proofs.lemmas.List.{append-nil, take_at, drop_at, take-append-le, drop-append-le, length-append, length-drop, length-replicate}
-use Rattle.dis_records.specs.Layout.{Field, Byte, Number, Padding, Value, FieldFits, Fit, field_size, field_text, StandsAt, StandAt, size, text, Spell, spelled_number, value_at, bytes_for, cleared}
+use Rattle.dis_records.specs.Layout.{Field, Byte, ByteIf, Number, Padding, Value, FieldFits, Fit, field_size, field_text, StandsAt, StandAt, size, text, Spell, spelled_number, value_at, bytes_for, cleared}
 
 length-field_text : (f : Field) → FieldFits f → length (field_text f) ≡ field_size f
 length-field_text (Byte n) fits = refl
+length-field_text (ByteIf there n) fits = refl
 length-field_text (Number w n) fits = fits.0
 length-field_text (Padding n) fits = length-replicate n 0
 length-field_text (Value bits bytes) fits = fits.0
@@ -18,6 +20,8 @@ behind front piece back n len = rw (drop_at front (piece ++ back) (length front)
 field_stands : (f : Field) (front back : List ℕ) → FieldFits f → StandsAt f (length front) (front ++ (field_text f ++ back))
 unfolding spelled_number value_at
 field_stands (Byte n) front back fits = sym (ap (λ (bs : List ℕ). from_be_bytes w8 bs) (behind front (n ∷ []) back 1 refl))
+field_stands (ByteIf true n) front back fits = sym (ap (λ (bs : List ℕ). from_be_bytes w8 bs) (behind front (n ∷ []) back 1 refl))
+field_stands (ByteIf false n) front back fits = tt
 field_stands (Number w n) front back fits =
     sym (ap (λ (bs : List ℕ). from_be_bytes w bs) (behind front (to_be_bytes w n) back (byte_len w) fits.0) ∙ fits.1)
 field_stands (Padding n) front back fits = tt

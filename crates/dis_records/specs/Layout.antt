@@ -1,10 +1,11 @@
 -- The language of layouts: fields one after the other, numbers big-endian.
-use Rattle.std.specs.Prelude.{◌≡◌, ℕ, ◌+◌, ◌-◌, ◌*◌, ◌/◌, ◌%◌, ◌^◌, ◌==◌, List, [], ◌∷◌, ◌++◌, length, take, drop, replicate, nat_le, if◌then◌else◌}
+use Rattle.std.specs.Prelude.{◌≡◌, ℕ, Bool, true, false, ◌+◌, ◌-◌, ◌*◌, ◌/◌, ◌%◌, ◌^◌, ◌==◌, List, [], ◌∷◌, ◌++◌, length, take, drop, replicate, nat_le, if◌then◌else◌}
 use Rattle.std.specs.Int.{Width, w8, byte_len, from_be_bytes, to_be_bytes}
 
--- A field: a byte, a number in the bytes of its width, bytes that may be anything, or the first so many bits of a value in whole bytes.
+-- A field: a byte, a byte only where a test holds and else one that may be anything, a number in the bytes of its width, bytes that may be anything, or the first so many bits of a value in whole bytes.
 pub data Field : Type 0 where
   Byte : ℕ → Field
+  ByteIf : Bool → ℕ → Field
   Number : Width → ℕ → Field
   Padding : ℕ → Field
   Value : ℕ → List ℕ → Field
@@ -36,6 +37,7 @@ value_at bits at b = cleared bits (take (bytes_for bits) (drop at b))
 
 abbrev pub field_size : Field → ℕ
 field_size (Byte n) = 1
+field_size (ByteIf there n) = 1
 field_size (Number w n) = byte_len w
 field_size (Padding n) = n
 field_size (Value bits bytes) = bytes_for bits
@@ -43,6 +45,8 @@ field_size (Value bits bytes) = bytes_for bits
 -- The field stands in b at the offset.
 abbrev pub StandsAt : Field → ℕ → List ℕ → Type 0
 StandsAt (Byte n) at b = n ≡ spelled_number w8 at b
+StandsAt (ByteIf true n) at b = n ≡ spelled_number w8 at b
+StandsAt (ByteIf false n) at b = Unit {0}
 StandsAt (Number w n) at b = n ≡ spelled_number w at b
 StandsAt (Padding n) at b = Unit {0}
 StandsAt (Value bits bytes) at b = bytes ≡ value_at bits at b
@@ -70,6 +74,7 @@ pub record Spell (fs : List Field) (b : List ℕ) : Type 0 where
 -- the spelling of a field in which padding is zero
 abbrev pub field_text : Field → List ℕ
 field_text (Byte n) = n ∷ []
+field_text (ByteIf there n) = (if there then n else 0) ∷ []
 field_text (Number w n) = to_be_bytes w n
 field_text (Padding n) = replicate n 0
 field_text (Value bits bytes) = bytes
@@ -82,6 +87,7 @@ text (f ∷ fs) = field_text f ++ text fs
 -- The text of the field is of its size, and reads as the field.
 abbrev pub FieldFits : Field → Type 0
 FieldFits (Byte n) = Unit {0}
+FieldFits (ByteIf there n) = Unit {0}
 FieldFits (Number w n) = (length (to_be_bytes w n) ≡ byte_len w) × (from_be_bytes w (to_be_bytes w n) ≡ n)
 FieldFits (Padding n) = Unit {0}
 FieldFits (Value bits bytes) = (length bytes ≡ bytes_for bits) × (cleared bits bytes ≡ bytes)

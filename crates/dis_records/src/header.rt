@@ -1,8 +1,8 @@
 //! The header that each datagram begins with.
 
-ghost use Rattle.std.specs.Prelude.{◌≡◌, length, IfOk, IfErr, Some, None, Ok};
+ghost use Rattle.std.specs.Prelude.{◌≡◌, ◌↔◌, length, not, IfOk, IfErr, IfSome, IsNone, IsTrue, Some, None, Ok};
 ghost use Rattle.dis_records.specs.Layout.{Fit, text};
-ghost use Rattle.dis_records.specs.Header.{IsHeader, header_layout, header_at, header_refusal, version_code};
+ghost use Rattle.dis_records.specs.Header.{IsHeader, header_layout, header_at, header_refusal, version_row, version_code, is_version, carried_status};
 
 use crate::field::{u8_at, u16_at, u32_at};
 use crate::kind::Kind;
@@ -18,20 +18,73 @@ pub const LARGEST_DATAGRAM: usize = 8192;
 /// The protocol family Simulation Management.
 const FAMILY: u8 = 5;
 
-/// The protocol version: 7 is IEEE 1278.1-2012.
+/// A protocol version that is read.
 #[derive(Clone, Copy, Debug, PartialEq, Eq)]
 pub enum Version {
+    /// IEEE 1278.1A-1998.
+    V6,
+    /// IEEE 1278.1-2012.
     V7,
 }
 
+/// What the headers of a protocol version are.
+#[derive(Clone, Copy, Debug)]
+pub struct VersionRow {
+    /// The number that the header carries.
+    pub number: u8,
+    pub version: Version,
+    /// Whether byte 10 of the header is the PDU status. Otherwise it is padding, as byte 11 is in
+    /// each version.
+    pub has_status: bool,
+}
+
+/// The table of the protocol versions that are read, a row each. A datagram of any other is
+/// refused.
+pub const VERSIONS: [VersionRow; 2] = [
+    VersionRow {
+        number: 6,
+        version: Version::V6,
+        has_status: false,
+    },
+    VersionRow {
+        number: 7,
+        version: Version::V7,
+        has_status: true,
+    },
+];
+
 impl Version {
+    fn row(self) -> VersionRow
+        ensures { result ≡ version_row self }
+    {
+        VERSIONS[self as usize]
+    }
+
     /// The number that the header carries.
     pub fn code(self) -> u8
         ensures { result ≡ version_code self }
     {
-        match self {
-            Version::V7 => 7,
+        self.row().number
+    }
+
+    /// The version of a number, if it is one that is read.
+    pub fn from_code(code: u8) -> Option<Version>
+        ensures version { IfSome result (λ version. version_code version ≡ code) }
+        ensures none { IsNone result ↔ IsTrue (not (is_version code)) }
+    {
+        for row in VERSIONS {
+            if row.number == code {
+                return Some(row.version);
+            }
         }
+        None
+    }
+
+    /// The PDU status that a header of this version carries: this one, or 0 where it carries none.
+    pub fn carried_status(self, status: u8) -> u8
+        ensures { result ≡ carried_status self status }
+    {
+        if self.row().has_status { status } else { 0 }
     }
 }
 
@@ -46,7 +99,7 @@ pub struct Header {
     pub stamp: u32,
     /// The length of the whole PDU in bytes, header included.
     pub length: u16,
-    /// The PDU status, carried as a number.
+    /// The PDU status, carried as a number; 0 in a version whose headers have none.
     pub status: u8,
 }
 
@@ -55,7 +108,7 @@ pub struct Header {
 pub enum HeaderFault {
     /// It has fewer than 12 bytes.
     Truncated,
-    /// The protocol version is this number and not 7.
+    /// The protocol version is this number, which is none that is read.
     Version(u8),
     /// The protocol family is this number and not 5.
     Family(u8),
@@ -109,9 +162,9 @@ fn read_fields(bytes: &[u8]) -> Result<Header, HeaderFault>
     if bytes.len() < HEADER_SIZE {
         return Err(HeaderFault::Truncated);
     }
-    let version = match u8_at(bytes, 0) {
-        7 => Version::V7,
-        other => return Err(HeaderFault::Version(other)),
+    let number = u8_at(bytes, 0);
+    let Some(version) = Version::from_code(number) else {
+        return Err(HeaderFault::Version(number));
     };
     let family = u8_at(bytes, 3);
     if family != FAMILY {
@@ -134,11 +187,12 @@ fn read_fields(bytes: &[u8]) -> Result<Header, HeaderFault>
         kind,
         stamp: u32_at(bytes, 4),
         length,
-        status: u8_at(bytes, 10),
+        status: version.carried_status(u8_at(bytes, 10)),
     })
 }
 
-/// The text of a header, with its padding zero.
+/// The text of a header, with its padding zero; so the status of a version whose headers have none
+/// is not written.
 pub fn write_header(header: &Header) -> [u8; 12]
     ensures text { result ≡ text (header_layout header.now) }
     ensures fits { Fit (header_layout header.now) }
@@ -163,7 +217,7 @@ fn text_of(header: Header) -> [u8; 12]
         s3,
         l0,
         l1,
-        header.status,
+        header.version.carried_status(header.status),
         0,
     ]
 }

@@ -10,7 +10,7 @@ use Rattle.siman_pdus.specs.Answers.{same_id, same_pair, is_answer_to}
 use Rattle.siman_pdus.specs.Role.{is_request_body, request_id_of}
 use Rattle.siman_pdus.specs.Ranges.{IsInRange}
 use Rattle.siman_pdus.specs.Same.{IsSameOrder}
-use Rattle.siman_pdus.specs.Spelling.{body_kind, pdu_text}
+use Rattle.siman_pdus.specs.Spelling.{body_kind, carried, pdu_text}
 use Rattle.exercise_model.specs.declared.acknowledge.AcknowledgeKey.{AcknowledgeKey}
 use Rattle.exercise_model.specs.declared.state.Change.{Change}
 use Rattle.exercise_model.specs.Station.{is_entity}
@@ -259,7 +259,7 @@ states_turns a station s [] are settled e = state_start a s e
 states_turns a station s (Tells n y ∷ ts) are settled e =
     told_keeps a.exercise a.station (log_in a s ts) s n y e ∙ states_turns a station s ts are settled e
 states_turns a station s (Orders o ∷ ts) are settled e =
-    others_keep a.exercise a.station (log_in a s ts) s (pdu_text o) o are.0.means (silent_by o.body able are.0.request) e
+    others_keep a.exercise a.station (log_in a s ts) s (pdu_text o) (carried o) are.0.means (silent_by o.body able are.0.request) e
     ∙ states_turns a station s ts are.1 settled e
 states_turns a station s (Passes b ∷ ts) are settled e =
     received_keeps a.exercise a.station (log_in a s ts) s b e ∙ states_turns a station s ts are settled e

@@ -187,6 +187,7 @@ pub record IsAnswer (a : Outfit) (y : ℕ → EntityState) (q p : Pdu) : Type 0 
   pub application : p.origin.application ≡ a.station.address.application
   pub exercise : p.exercise ≡ a.exercise
   pub id : request_id_of p.body ≡ request_id_of q.body
+  pub status : p.status ≡ 0
 
 -- one request, seen by its kind and identifier
 record Asks (q : Pdu) (kind : Kind) (request : ℕ) : Type 0 where
@@ -205,6 +206,7 @@ answer_is a y q stamp m body kind request own asks matches id fits can = record 
   application = refl;
   exercise = refl;
   id = id ∙ sym asks.id_is;
+  status = refl;
 } where
   same : same_id (request_id_of body) (request_id_of q.body) ≡ true
   same = ap (λ (o : Option ℕ). same_id o (request_id_of q.body)) id ∙ ap (same_id (Some request)) asks.id_is ∙ equal_self request

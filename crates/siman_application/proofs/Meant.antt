@@ -5,8 +5,8 @@ use Rattle.siman_pdus.specs.declared.pdu.Pdu.{Pdu}
 use Rattle.siman_pdus.specs.Ranges.{IsInRange}
 use Rattle.siman_pdus.specs.Reading.{reading}
 use Rattle.siman_pdus.specs.Role.{is_request_body}
-use Rattle.siman_pdus.specs.Spelling.{pdu_text}
-use Rattle.siman_pdus.proofs.Offered.{text_is_read, read_in_range}
+use Rattle.siman_pdus.specs.Spelling.{carried, pdu_text}
+use Rattle.siman_pdus.proofs.Offered.{text_is_carried, read_in_range}
 use Rattle.exercise_model.specs.Meaning.{meaning}
 use Rattle.siman_application.specs.Outfit.{Outfit}
 use Rattle.siman_application.specs.Ranges.{IsOutfitInRange}
@@ -25,9 +25,9 @@ pub record IsTaken (b : List ℕ) (q : Pdu) : Type 0 where
   pub read : reading b ≡ Some q
   pub ranges : IsInRange q
 
--- the text of an order means it, and it is a request
+-- the text of an order means what is carried of it, and it is a request
 pub record IsOrdered (a : Outfit) (p : Pdu) : Type 0 where
-  pub means : meaning a.exercise (pdu_text p) ≡ Some p
+  pub means : meaning a.exercise (pdu_text p) ≡ Some (carried p)
   pub request : is_request_body p.body ≡ true
 
 -- the turns, where `later` says that a reply is due later on
@@ -44,7 +44,7 @@ taken b q is = record { read = is.read; ranges = read_in_range b q is.bytes is.r
 
 ordered : (a : Outfit) (p : Pdu) → IsOrder a p → IsOrdered a p
 ordered a p is = record {
-  means = request_means a.exercise (pdu_text p) p (text_is_read p is.ranges is.size) (ap (λ (n : ℕ). n == a.exercise) is.exercise ∙ equal_self a.exercise) is.request;
+  means = request_means a.exercise (pdu_text p) (carried p) (text_is_carried p is.ranges is.size) (ap (λ (n : ℕ). n == a.exercise) is.exercise ∙ equal_self a.exercise) is.request;
   request = is.request;
 }
 

@@ -17,7 +17,7 @@ use Rattle.siman_pdus.specs.declared.pdu.Body.TheVariants.{CreateEntity, RemoveE
 use Rattle.siman_pdus.specs.declared.pdu.Pdu.{Pdu}
 use Rattle.siman_pdus.specs.Answers.{same_id, same_pair}
 use Rattle.siman_pdus.specs.Role.{is_request_body, request_id_of}
-use Rattle.siman_pdus.specs.Spelling.{body_kind, pdu_text}
+use Rattle.siman_pdus.specs.Spelling.{body_kind, carried, pdu_text}
 use Rattle.exercise_model.specs.declared.acknowledge.AcknowledgeKey.{AcknowledgeKey}
 use Rattle.exercise_model.specs.declared.state.Change.{Change}
 use Rattle.exercise_model.specs.Station.{is_entity, is_absent}
@@ -184,7 +184,7 @@ none_taken a (d ∷ ds) spelled q p target id none =
       by : (b : Bool) → is_for_entities (body_kind d.body) ≡ b → request_taken_up a.exercise a.station.address p (play a ds) ≡ None → request_taken_up a.exercise a.station.address p (play a (d ∷ ds)) ≡ None
       by true e rest =
           ap (request_taken_up a.exercise a.station.address p) (play_more a d ds true e)
-          ∙ taken_get a.exercise a p d 0 0 (pdu_text d) (pdu_text (answer a (known a ds) d 0)) (play a ds) (spelled.0 e).0
+          ∙ taken_get a.exercise a p (carried d) 0 0 (pdu_text d) (pdu_text (answer a (known a ds) d 0)) (play a ds) (spelled.0 e).0
           (other_not_asked a q d p target id (first_none q d ds none).1) rest
       by false e rest = ap (request_taken_up a.exercise a.station.address p) (play_more a d ds false e) ∙ rest
 
@@ -307,8 +307,8 @@ answered_state x a log s t b c q p first can e = by (responds able p) refl where
 
 -- a request under no key before, and its answer, go on in the play
 first_in_play : (a : Outfit) (d : Pdu) (ds : List Pdu) → is_for a d ≡ true → AreFor a ds → AreSpelled a ds → first_under d ds ≡ None
-    → meaning a.exercise (pdu_text d) ≡ Some d → meaning a.exercise (pdu_text (answer a (known a ds) d 0)) ≡ Some (answer a (known a ds) d 0)
-    → IsFirstAnswer a.exercise a.station (play a ds) (pdu_text d) (pdu_text (answer a (known a ds) d 0)) d (answer a (known a ds) d 0)
+    → meaning a.exercise (pdu_text d) ≡ Some (carried d) → meaning a.exercise (pdu_text (answer a (known a ds) d 0)) ≡ Some (answer a (known a ds) d 0)
+    → IsFirstAnswer a.exercise a.station (play a ds) (pdu_text d) (pdu_text (answer a (known a ds) d 0)) (carried d) (answer a (known a ds) d 0)
 first_in_play a d ds own are spelled none m n =
     let p = answer a (known a ds) d 0 in
     let is = is_answer a (known a ds) d 0 own in
@@ -330,7 +330,7 @@ states_go_on a d ds own are spelled none e = by (is_for_entities (body_kind d.bo
   by : (b : Bool) → is_for_entities (body_kind d.body) ≡ b → state_over a (d ∷ ds) e ≡ after (answer a (known a ds) d 0) d (state_over a ds) e
   by true f =
       ap (λ (log : History). state_after a.exercise a.station log e) (play_more a d ds true f)
-      ∙ answered_state a.exercise a (play a ds) 0 0 (pdu_text d) (pdu_text (answer a (known a ds) d 0)) d (answer a (known a ds) d 0)
+      ∙ answered_state a.exercise a (play a ds) 0 0 (pdu_text d) (pdu_text (answer a (known a ds) d 0)) (carried d) (answer a (known a ds) d 0)
       (first_in_play a d ds own are spelled.1 none (spelled.0 f).0 (spelled.0 f).1) (is_answer a (known a ds) d 0 own).able_can e
   by false f =
       ap (λ (log : History). state_after a.exercise a.station log e) (play_more a d ds false f)

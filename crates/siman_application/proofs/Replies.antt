@@ -22,8 +22,8 @@ use Rattle.siman_pdus.specs.Ranges.{IsFixedInRange, IsVariableInRange, AreDatums
 use Rattle.siman_pdus.specs.Reading.{reading}
 use Rattle.siman_pdus.specs.Role.{is_request_body}
 use Rattle.siman_pdus.specs.Same.{is_same_order}
-use Rattle.siman_pdus.specs.Spelling.{body_kind, body_layout, pdu_size, pdu_text}
-use Rattle.siman_pdus.proofs.Offered.{text_is_read}
+use Rattle.siman_pdus.specs.Spelling.{body_kind, body_layout, HasCarriedStatus, carried, pdu_size, pdu_text}
+use Rattle.siman_pdus.proofs.Offered.{text_is_read, text_is_carried, zero_is_carried}
 use Rattle.exercise_model.specs.Station.{is_entity, is_absent}
 use Rattle.exercise_model.specs.Change.{able, unable}
 use Rattle.siman_application.specs.Outfit.{Outfit}
@@ -33,7 +33,7 @@ use Rattle.siman_application.specs.Distinct.{Placed, is_for, is_under_key, first
 use Rattle.siman_application.specs.Answer.{Knowledge, chosen, is_meant, own_number, answer_pdu, plain_answer, created, obeyed, no_datums, data_answer, held_records, told_of, ids_of, brought, answer_by, answer}
 use Rattle.siman_application.specs.Kept.{AreFor}
 use Rattle.siman_application.specs.Play.{is_for_entities, fixed_after, variable_after, known, answer_under, reply_after, reply}
-use Rattle.siman_application.proofs.Answered.{for_parts, is_chosen, outside}
+use Rattle.siman_application.proofs.Answered.{for_parts, is_answer, is_chosen, outside}
 use Rattle.siman_application.proofs.Cut.{cut_is, cut_fits, data_size}
 
 -- Records under identifiers.
@@ -227,6 +227,10 @@ answer_size_by a k q stamp (Comment datums) e = absurd cc
 answer_size : (a : Outfit) (k : Knowledge) (q : Pdu) (stamp : ℕ) → is_for a q ≡ true → pdu_size (answer a k q stamp) ≤ LARGEST_DATAGRAM
 answer_size a k q stamp own = answer_size_by a k q stamp q.body (for_parts a q own).request
 
+-- An answer has status 0.
+answer_status : (a : Outfit) (k : Knowledge) (q : Pdu) (stamp : ℕ) → is_for a q ≡ true → HasCarriedStatus (answer a k q stamp)
+answer_status a k q stamp own = zero_is_carried (answer a k q stamp) (is_answer a k q stamp own).status
+
 -- A request for entities and its answer, which needs nothing that is known of datums.
 
 small_body : (body : Body) → is_for_entities (body_kind body) ≡ true → size (body_layout body) ≤ 20
@@ -243,15 +247,15 @@ small_body (DataPdu request datums) e = absurd cc
 small_body (EventReport event datums) e = absurd cc
 small_body (Comment datums) e = absurd cc
 
-pub request_read : (q : Pdu) → IsInRange q → is_for_entities (body_kind q.body) ≡ true → reading (pdu_text q) ≡ Some q
-request_read q r e = let small = small_body q.body e in text_is_read q r (omega (arith, small))
+pub request_read : (q : Pdu) → IsInRange q → is_for_entities (body_kind q.body) ≡ true → reading (pdu_text q) ≡ Some (carried q)
+request_read q r e = let small = small_body q.body e in text_is_carried q r (omega (arith, small))
 
 pub answer_read : (a : Outfit) (k : Knowledge) (q : Pdu) (stamp : ℕ) → IsOutfitInRange a → IsInRange q → stamp < 2 ^ 32 → is_for a q ≡ true
     → is_for_entities (body_kind q.body) ≡ true
     → reading (pdu_text (answer a k q stamp)) ≡ Some (answer a k q stamp)
 answer_read a k q stamp own r s mine e =
     text_is_read (answer a k q stamp) (answer_in_by a k q stamp own r s q.body r.body (λ no. let clash : true ≡ false = sym e ∙ no in absurd cc))
-    (answer_size a k q stamp mine)
+    (answer_status a k q stamp mine) (answer_size a k q stamp mine)
 
 -- Replies.
 
@@ -292,6 +296,11 @@ reply_size a ds q stamp are =
     reply_as (λ p. pdu_size p ≤ LARGEST_DATAGRAM) a ds q stamp (answer_size a (known a ds) q stamp)
     (λ f e. answer_size a (known a f.before) f.request stamp (first_in (λ d. is_for a d ≡ true) q ds (each_for a ds are) f e).0)
 
+pub reply_status : (a : Outfit) (ds : List Pdu) (q : Pdu) (stamp : ℕ) → AreFor a ds → IfSome (reply_after a ds q stamp) HasCarriedStatus
+reply_status a ds q stamp are =
+    reply_as HasCarriedStatus a ds q stamp (answer_status a (known a ds) q stamp)
+    (λ f e. answer_status a (known a f.before) f.request stamp (first_in (λ d. is_for a d ≡ true) q ds (each_for a ds are) f e).0)
+
 -- Each distinct request is for the station, and is as each that was taken.
 
 own_distinct : (a : Outfit) (qs : List Pdu) → Each (λ d. is_for a d ≡ true) (distinct a qs)
@@ -319,10 +328,11 @@ reply_read a qs q stamp own each r s =
     let ds = distinct a qs in
     let all = each_distinct IsInRange a qs each in
     reply_as (λ p. reading (pdu_text p) ≡ Some p) a ds q stamp
-    (λ mine. text_is_read (answer a (known a ds) q stamp) (answer_in_range a ds q stamp own all r s) (answer_size a (known a ds) q stamp mine))
+    (λ mine. text_is_read (answer a (known a ds) q stamp) (answer_in_range a ds q stamp own all r s) (answer_status a (known a ds) q stamp mine)
+    (answer_size a (known a ds) q stamp mine))
     (λ f e. let found = first_in IsInRange q ds all f e in
     text_is_read (answer a (known a f.before) f.request stamp) (answer_in_range a f.before f.request stamp own found.1 found.0 s)
-    (answer_size a (known a f.before) f.request stamp (for_at a qs q f e)))
+    (answer_status a (known a f.before) f.request stamp (for_at a qs q f e)) (answer_size a (known a f.before) f.request stamp (for_at a qs q f e)))
 
 -- A reply is an answer to a request for the station: what holds of each of these holds of it.
 pub reply_answers : (Q : Pdu → Type 0) (a : Outfit) (qs : List Pdu) (q : Pdu) (stamp : ℕ)

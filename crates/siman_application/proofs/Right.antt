@@ -8,7 +8,7 @@ use Rattle.siman_pdus.specs.declared.pdu.Pdu.{Pdu}
 use Rattle.siman_pdus.specs.DatumLists.{DatumLists}
 use Rattle.siman_pdus.specs.Ranges.{AreDatumsInRange, IsInRange}
 use Rattle.siman_pdus.specs.Same.{is_same_order}
-use Rattle.siman_pdus.specs.Spelling.{pdu_text}
+use Rattle.siman_pdus.specs.Spelling.{carried, pdu_text}
 use Rattle.dis_records.specs.declared.entity_state.EntityState.TheVariants.{Absent}
 use Rattle.std.proofs.lemmas.Bool.Decides.{nat_tests}
 use Rattle.std.proofs.lemmas.Bool.{and_parts, leb-true}
@@ -80,7 +80,7 @@ known_more a q ds stamp es es' d d' own are spelled none k states told =
 pub spelled_more : (a : Outfit) (q : Pdu) (ds : List Pdu) → is_for a q ≡ true → IsInRange q → IsOutfitInRange a → AreSpelled a ds
     → AreSpelled a (q ∷ ds)
 spelled_more a q ds own range outfit spelled = (
-  λ e. (taken_means a (pdu_text q) q (request_read q range e) own, answer_means a (known a ds) q 0 own (answer_read a (known a ds) q 0 outfit range (omega arith) own e)),
+  λ e. (taken_means a (pdu_text q) (carried q) (request_read q range e) own, answer_means a (known a ds) q 0 own (answer_read a (known a ds) q 0 outfit range (omega arith) own e)),
   spelled,
 )
 

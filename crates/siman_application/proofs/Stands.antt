@@ -11,7 +11,7 @@ use Rattle.siman_pdus.specs.declared.roles.Role.TheVariants as roles
 use Rattle.siman_pdus.specs.Answers.{same_id, is_answer_to}
 use Rattle.siman_pdus.specs.Role.{role_of, is_request_role, is_request_body}
 use Rattle.siman_pdus.specs.Same.{IsSameOrder}
-use Rattle.siman_pdus.specs.Spelling.{pdu_text}
+use Rattle.siman_pdus.specs.Spelling.{carried, pdu_text}
 use Rattle.exercise_model.specs.declared.acknowledge.AcknowledgeKey.{AcknowledgeKey}
 use Rattle.exercise_model.specs.declared.cause.Cause.{Cause}
 use Rattle.exercise_model.specs.declared.cause.Cause.TheVariants.{WrongSender, ReusedIdentifier, NoRequest, WrongAnswer, ChangedAnswer, Impossible}
@@ -263,7 +263,7 @@ pub stands_turns : (a : Outfit) → IsOutfitInRange a → (s : ℕ) (later : Boo
 stands_turns a station s later [] are settled = tt
 stands_turns a station s later (Tells e y ∷ ts) are settled = stands_turns a station s later ts are settled
 stands_turns a station s later (Orders o ∷ ts) are settled = (
-  λ r e body. let is : o ≡ r = one_of o r (meaning a.exercise (pdu_text o)) are.0.means e in
+  λ r e body. let is : carried o ≡ r = one_of (carried o) r (meaning a.exercise (pdu_text o)) are.0.means e in
       let no : is_request_body r.body ≡ false = no_request_by (role_of r.body) body in
       let yes : is_request_body r.body ≡ true = ap (λ (w : Pdu). is_request_body w.body) (sym is) ∙ are.0.request in absurd cc,
   stands_turns a station s later ts are.1 settled,

@@ -5,7 +5,7 @@ use Rattle.std.specs.declared.hash.BuildHasherDefault.{BuildHasherDefault}
 use Rattle.indexmap.specs.IndexMap.{IndexMap, values}
 use Rattle.siman_pdus.specs.declared.pdu.Pdu.{Pdu}
 use Rattle.siman_pdus.specs.Role.{request_id_of}
-use Rattle.siman_pdus.specs.Spelling.{body_kind, pdu_text}
+use Rattle.siman_pdus.specs.Spelling.{body_kind, carried, pdu_text}
 use Rattle.exercise_model.specs.Meaning.{meaning}
 use Rattle.siman_application.specs.declared.kept.KeptRequest.{KeptRequest}
 use Rattle.siman_application.specs.declared.kept.RequestKey.{RequestKey}
@@ -51,12 +51,12 @@ abbrev pub AreAnswered : Outfit → List Pdu → List KeptRequest → Type 0
 AreAnswered a ds [] = Unit {0}
 AreAnswered a ds (k ∷ ks) = IsAnswered a ds k × AreAnswered a (k.request ∷ ds) ks
 
--- The text of each request for entities means it, and that of its answer the answer.
+-- The text of each request for entities means what is carried of it, and that of its answer the answer.
 abbrev pub AreSpelled : Outfit → List Pdu → Type 0
 AreSpelled a [] = Unit {0}
 AreSpelled a (d ∷ ds) =
     (is_for_entities (body_kind d.body) ≡ true
-    → (meaning a.exercise (pdu_text d) ≡ Some d) × (meaning a.exercise (pdu_text (answer a (known a ds) d 0)) ≡ Some (answer a (known a ds) d 0)))
+    → (meaning a.exercise (pdu_text d) ≡ Some (carried d)) × (meaning a.exercise (pdu_text (answer a (known a ds) d 0)) ≡ Some (answer a (known a ds) d 0)))
     × AreSpelled a ds
 
 -- Each request is for the station.

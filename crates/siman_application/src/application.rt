@@ -7,7 +7,7 @@ ghost use Rattle.siman_application.specs.declared.entity_list.TheConstants.{MOST
 ghost use Rattle.dis_records.specs.declared.header.TheConstants.{LARGEST_DATAGRAM};
 ghost use Rattle.exercise_model.specs.Station.{is_station};
 ghost use Rattle.siman_pdus.specs.Ranges.{IsInRange};
-ghost use Rattle.siman_pdus.specs.Spelling.{pdu_size};
+ghost use Rattle.siman_pdus.specs.Spelling.{HasCarriedStatus, pdu_size};
 ghost use Rattle.siman_application.specs.Lending.{EndsTaken};
 ghost use Rattle.siman_application.specs.Play.{state_over, fixed_after, variable_after, reply_after};
 ghost use Rattle.siman_application.specs.Ranges.{IsOutfitInRange};
@@ -119,6 +119,7 @@ impl Application {
         ensures reply { IfOk result (λ answer. option_copied answer ≡ reply_after self.old.outfit (came self.old) pdu.now stamp) }
         ensures in_range { IfOk result (λ answer. IfSome (option_copied answer) IsInRange) }
         ensures size { IfOk result (λ answer. IfSome (option_copied answer) (λ p. pdu_size p ≤ LARGEST_DATAGRAM)) }
+        ensures status { IfOk result (λ answer. IfSome (option_copied answer) HasCarriedStatus) }
         ensures fault { IfErr result (λ fault. fault ≡ AppFault.Memory) }
         ensures no_memory { is_new self.old pdu.now ≡ false → IsOk result }
     {
@@ -136,6 +137,7 @@ impl Application {
         ensures leaves { Leaves self.old pdu.now result self.new }
         ensures reply { IfOk result (λ place. option_and_then (λ i. option_map (λ k. k.answer) (slice_get self.new.kept i)) place ≡ reply_after self.old.outfit (came self.old) pdu.now stamp) }
         ensures size { IfSome (reply_after self.old.outfit (came self.old) pdu.now stamp) (λ p. pdu_size p ≤ LARGEST_DATAGRAM) }
+        ensures status { IfSome (reply_after self.old.outfit (came self.old) pdu.now stamp) HasCarriedStatus }
         ensures within { IfOk result (λ place. IfSome place (λ i. i < length self.new.kept)) }
         ensures fault { IfErr result (λ fault. fault ≡ AppFault.Memory) }
         ensures no_memory { is_new self.old pdu.now ≡ false → IsOk result }

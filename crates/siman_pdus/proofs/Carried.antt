@@ -1,6 +1,6 @@
 -- A PDU in its ranges is carried by the fields of its layout: they fit, and their text is bytes.
-use Rattle.std.proofs.Common.{◌≡◌, ℕ, zero, suc, ◌+◌, ◌^◌, ◌<◌, ◌≤◌, List, [], ◌∷◌, ◌++◌, length, get_or, arith, inl, inr}
-use Rattle.std.specs.Prelude.{All, Some}
+use Rattle.std.proofs.Common.{◌≡◌, ℕ, zero, suc, ◌+◌, ◌^◌, ◌<◌, ◌≤◌, List, [], ◌∷◌, ◌++◌, length, get_or, refl, ap, sym, ◌∙◌, arith, inl, inr}
+use Rattle.std.specs.Prelude.{Bool, true, false, ◌↔◌, if◌then◌else◌, All, Some}
 use Rattle.std.specs.Int.{w16, w32, byte_at, bytes_high_first}
 use Rattle.std.proofs.Math.Nat.{mod-lt}
 use Rattle.std.proofs.lemmas.Bool.{cases_lt}
@@ -17,17 +17,17 @@ use Rattle.dis_records.specs.declared.kind.Kind.TheVariants as kinds
 use Rattle.dis_records.specs.ClockTime.{clock_time_layout}
 use Rattle.dis_records.specs.Datum.{Datum, fixed_layouts, variable_layout, variable_layouts, id_layouts}
 use Rattle.dis_records.specs.Entity.{entity_layout}
-use Rattle.dis_records.specs.Header.{header_layout, version_code}
+use Rattle.dis_records.specs.Header.{header_layout, version_code, has_status, carried_status}
 use Rattle.dis_records.specs.Kind.{kind_code}
-use Rattle.dis_records.specs.Layout.{Field, Byte, Number, Padding, FieldFits, Fit, field_text, size, text}
+use Rattle.dis_records.specs.Layout.{Field, Byte, ByteIf, Number, Padding, FieldFits, Fit, field_text, size, text}
 use Rattle.siman_pdus.specs.DatumLists.{DatumLists, IdLists}
 use Rattle.siman_pdus.specs.declared.pdu.Body.{Body}
 use Rattle.siman_pdus.specs.declared.pdu.Body.TheVariants.{CreateEntity, RemoveEntity, StartResume, StopFreeze, Acknowledge, ActionRequest, ActionResponse, DataQuery, SetData, DataPdu, EventReport, Comment}
 use Rattle.siman_pdus.specs.declared.pdu.Pdu.{Pdu}
 use Rattle.siman_pdus.specs.Ranges.{IsEntityIdInRange, IsTimeInRange, IsFixedInRange, IsVariableInRange, AreDatumsInRange, AreIdsInRange, IsBodyInRange, IsInRange}
 use Rattle.siman_pdus.specs.Reading.{reading}
-use Rattle.siman_pdus.specs.Spelling.{body_kind, body_layout, datums_layout, ids_layout, header_of, pdu_layout, pdu_size, pdu_text, Spells}
-use Rattle.siman_pdus.proofs.Spellings.{reading_is, text_spelled}
+use Rattle.siman_pdus.specs.Spelling.{body_kind, body_layout, datums_layout, ids_layout, header_of, pdu_layout, pdu_size, pdu_text, HasCarriedStatus, Spells, carried}
+use Rattle.siman_pdus.proofs.Spellings.{reading_is, text_spelled_exactly, carried_spelled}
 use Rattle.siman_pdus.proofs.Texts.{fits16, fits32, size_fixed, size_ids, size_join, variable_least}
 use Rattle.dis_records.proofs.Offered.{length-text}
 
@@ -68,6 +68,10 @@ high_bytes (suc k) n = All-cons IsByte (byte_at k n) (bytes_high_first k n) (is_
 
 byte : (n : ℕ) → n < 2 ^ 8 → Carries (Byte n)
 byte n h = record { fits = tt; bytes = All-cons IsByte n [] h (All-nil IsByte) }
+
+byte_if : (there : Bool) (n : ℕ) → n < 2 ^ 8 → Carries (ByteIf there n)
+byte_if true n h = record { fits = tt; bytes = All-cons IsByte n [] h (All-nil IsByte) }
+byte_if false n h = record { fits = tt; bytes = All-cons IsByte 0 [] (omega arith) (All-nil IsByte) }
 
 number16 : (n : ℕ) → n < 2 ^ 16 → Carries (Number w16 n)
 number16 n h = record { fits = fits16 n h; bytes = high_bytes 2 n }
@@ -151,6 +155,7 @@ body (Comment d) h le = datums d h le
 -- ---- the header
 
 is_version_byte : (version : Version) → IsByte (version_code version)
+is_version_byte versions.V6 = omega arith
 is_version_byte versions.V7 = omega arith
 
 is_kind_byte : (kind : Kind) → IsByte (kind_code kind)
@@ -170,7 +175,7 @@ is_kind_byte kinds.Comment = omega arith
 header : (p : Pdu) (n : ℕ) → IsInRange p → n < 2 ^ 16 → Carry (header_layout (header_of p n))
 header p n h lt = (
   byte _ (is_version_byte p.version),
-  (byte _ h.exercise, (byte _ (is_kind_byte (body_kind p.body)), (byte 5 (omega arith), (number32 _ h.stamp, (number16 n lt, (byte _ h.status, (padding 1, tt))))))),
+  (byte _ h.exercise, (byte _ (is_kind_byte (body_kind p.body)), (byte 5 (omega arith), (number32 _ h.stamp, (number16 n lt, (byte_if (has_status p.version) _ h.status, (padding 1, tt))))))),
 )
 
 -- ---- a PDU
@@ -185,11 +190,21 @@ pdu_carried p h le =
     (Carry-append (front ++ origin) target (Carry-append front origin (header p n h (omega (arith, le))) (entity p.origin h.origin)) (entity p.target h.target))
     (body p.body h.body (omega (arith, le)))
 
-pub text_is_spelled : (p : Pdu) → IsInRange p → pdu_size p ≤ LARGEST_DATAGRAM → Spells p (pdu_text p)
-text_is_spelled p h le = text_spelled p (fit_carried (pdu_layout p (pdu_size p)) (pdu_carried p h le)) le
+pub text_is_spelled : (p : Pdu) → IsInRange p → pdu_size p ≤ LARGEST_DATAGRAM → HasCarriedStatus p ↔ Spells p (pdu_text p)
+text_is_spelled p h le = text_spelled_exactly p (fit_carried (pdu_layout p (pdu_size p)) (pdu_carried p h le)) le
 
-pub text_is_read : (p : Pdu) → IsInRange p → pdu_size p ≤ LARGEST_DATAGRAM → reading (pdu_text p) ≡ Some p
-text_is_read p h le = reading_is p (pdu_text p) (text_is_spelled p h le)
+pub text_is_read : (p : Pdu) → IsInRange p → HasCarriedStatus p → pdu_size p ≤ LARGEST_DATAGRAM → reading (pdu_text p) ≡ Some p
+text_is_read p h status le = reading_is p (pdu_text p) ((text_is_spelled p h le).0 status)
+
+pub text_is_carried : (p : Pdu) → IsInRange p → pdu_size p ≤ LARGEST_DATAGRAM → reading (pdu_text p) ≡ Some (carried p)
+text_is_carried p h le = reading_is (carried p) (pdu_text p) (carried_spelled p (fit_carried (pdu_layout p (pdu_size p)) (pdu_carried p h le)) le)
+
+-- status 0 is carried by every version
+pub zero_is_carried : (p : Pdu) → p.status ≡ 0 → HasCarriedStatus p
+zero_is_carried p e = e ∙ zero (has_status p.version) ∙ ap (carried_status p.version) (sym e) where
+  zero : (there : Bool) → ◌≡◌ {A = ℕ} 0 (if there then 0 else 0)
+  zero true = refl
+  zero false = refl
 
 pub text_has_size : (p : Pdu) → IsInRange p → pdu_size p ≤ LARGEST_DATAGRAM → length (pdu_text p) ≡ pdu_size p
 text_has_size p h le = length-text (pdu_layout p (pdu_size p)) (fit_carried (pdu_layout p (pdu_size p)) (pdu_carried p h le))

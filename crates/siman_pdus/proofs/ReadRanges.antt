@@ -1,6 +1,6 @@
 -- What is read of bytes is in its ranges.
 use Rattle.std.proofs.Common.{◌≡◌, ℕ, zero, suc, ◌+◌, ◌-◌, ◌*◌, ◌^◌, ◌<◌, ◌≤◌, List, [], ◌∷◌, length, map, get_or, take, drop, Some, None, Result, Ok, Err, sym, subst, ◌∙◌, arith, inl, inr}
-use Rattle.std.specs.Prelude.{All, IfOk}
+use Rattle.std.specs.Prelude.{Bool, true, false, if◌then◌else◌, All, IfOk}
 use Rattle.std.specs.Int.{w8, w16, w32}
 use Rattle.std.proofs.Math.Nat.{div-mul-le_self}
 use Rattle.std.proofs.lemmas.Bool.{cases_lt, le-leb, lt-leb}
@@ -11,7 +11,7 @@ use Rattle.dis_records.specs.declared.kind.Kind.TheVariants as kinds
 use Rattle.dis_records.specs.ClockTime.{clock_time_at}
 use Rattle.dis_records.specs.Datum.{Datum, canonical, padded}
 use Rattle.dis_records.specs.Entity.{entity_at}
-use Rattle.dis_records.specs.Header.{header_at, header_refusal}
+use Rattle.dis_records.specs.Header.{has_status, header_at, header_refusal}
 use Rattle.dis_records.specs.Layout.{spelled_number, bytes_for, first_bits, cleared, total}
 use Rattle.dis_records.specs.Records.{fixed_at, variable_at, variable_sizes, ids_at}
 use Rattle.dis_records.specs.Views.{variable_start, shown_datums, shown_ids}
@@ -47,6 +47,10 @@ AreBytes-take n b h i =
 below8 : (at : ℕ) (b : List ℕ) → AreBytes b → spelled_number w8 at b < 2 ^ 8
 unfolding spelled_number
 below8 at b h = let x = AreBytes-take 1 (drop at b) (AreBytes-drop at b h) in omega (arith, x 0)
+
+carried_below : (there : Bool) (n : ℕ) → n < 2 ^ 8 → (if there then n else 0) < 2 ^ 8
+carried_below true n h = h
+carried_below false n h = omega arith
 
 below16 : (at : ℕ) (b : List ℕ) → AreBytes b → spelled_number w16 at b < 2 ^ 16
 unfolding spelled_number
@@ -153,7 +157,7 @@ module _ (b : List ℕ) (bytes : AreBytes b) where
       record {
         exercise = below8 1 b bytes;
         stamp = below32 4 b bytes;
-        status = below8 10 b bytes;
+        status = carried_below (has_status (header_at b).version) (spelled_number w8 10 b) (below8 10 b bytes);
         origin = entity_in_range b bytes 12;
         target = entity_in_range b bytes 18;
         body = body_in_range kind (refused_whole kind b (header_reads b parts.0).room parts.1);

@@ -11,7 +11,8 @@ use Rattle.siman_pdus.specs.Equality.{datums_decide, ids_decide}
 use Rattle.siman_pdus.specs.declared.pdu.Body.{Body}
 use Rattle.siman_pdus.specs.declared.pdu.Body.TheVariants.{CreateEntity, RemoveEntity, StartResume, StopFreeze, Acknowledge, ActionRequest, ActionResponse, DataQuery, SetData, DataPdu, EventReport, Comment}
 use Rattle.siman_pdus.specs.declared.pdu.Pdu.{Pdu}
-use Rattle.siman_pdus.specs.Same.{same_time, same_entity, same_version, same_body, IsSameOrder, is_same_order, is_same_pdu}
+use Rattle.dis_records.specs.Header.{same_version}
+use Rattle.siman_pdus.specs.Same.{same_time, same_entity, same_body, IsSameOrder, is_same_order, is_same_pdu}
 
 same_time_fields : (t u : ClockTime) → t.hour ≡ u.hour → t.past ≡ u.past → t ≡ u
 same_time_fields t u p q = rw (p, q) refl
@@ -32,6 +33,9 @@ entity_decides i j =
     (Decides-and (i.application == j.application) (i.entity == j.entity) (Decides-eqb i.application j.application) (Decides-eqb i.entity j.entity)))
 
 version_decides : (v w : Version) → Decides (same_version v w) (v ≡ w)
+version_decides versions.V6 versions.V6 = (λ e. refl, λ e. refl)
+version_decides versions.V6 versions.V7 = (λ e. absurd cc, λ e. absurd cc)
+version_decides versions.V7 versions.V6 = (λ e. absurd cc, λ e. absurd cc)
 version_decides versions.V7 versions.V7 = (λ e. refl, λ e. refl)
 
 -- two tests and a rest

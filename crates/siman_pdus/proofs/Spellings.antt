@@ -1,18 +1,18 @@
 -- What is read is spelled so, and what is spelled so is read.
 use Rattle.std.proofs.Common.{◌≡◌, ◌≤◌, ℕ, ◌⊎◌, inl, inr, List, [], ◌∷◌, ◌++◌, length, Option, Some, None, Result, Ok, Err, refl, sym, ap, subst, ◌∙◌, arith}
-use Rattle.std.specs.Prelude.{IfOk, IfErr}
+use Rattle.std.specs.Prelude.{Bool, true, false, ◌↔◌, if◌then◌else◌, IfOk, IfErr}
 use Rattle.std.specs.Result.{result_ok}
-use Rattle.std.specs.Int.{w8, w16}
+use Rattle.std.specs.Int.{w8, w16, w32}
 use Rattle.std.proofs.lemmas.List.{length-append}
 use Rattle.dis_records.specs.declared.header.TheConstants.{LARGEST_DATAGRAM}
 use Rattle.dis_records.specs.declared.entity.EntityId.{EntityId}
 use Rattle.dis_records.specs.declared.header.Header.{Header}
-use Rattle.dis_records.specs.Layout.{Fit, Spell, spelled_number}
-use Rattle.dis_records.specs.Header.{IsHeader, header_at, header_refusal}
-use Rattle.dis_records.specs.Entity.{entity_at}
+use Rattle.dis_records.specs.Layout.{Field, Byte, ByteIf, Number, Padding, Fit, Spell, field_text, text, spelled_number}
+use Rattle.dis_records.specs.Header.{IsHeader, version_code, has_status, header_at, header_refusal}
+use Rattle.dis_records.specs.Entity.{entity_at, entity_layout}
 use Rattle.dis_records.specs.Kind.{kind_code}
 use Rattle.dis_records.specs.declared.header.HeaderFault.{HeaderFault}
-use Rattle.dis_records.proofs.Offered.{length-text, text_spells, number_at-append, header_is, header_reads, header_stands}
+use Rattle.dis_records.proofs.Offered.{length-text, text_spells, number_at-append, header_is, header_reads, header_stands, status_again}
 use Rattle.siman_pdus.specs.declared.fault.PduFault.{PduFault}
 use Rattle.siman_pdus.specs.declared.fault.PduFault.TheVariants as faults
 use Rattle.siman_pdus.specs.declared.fault.ViewFault.{ViewFault}
@@ -20,7 +20,7 @@ use Rattle.siman_pdus.specs.declared.fault.ViewFault.TheVariants as view_faults
 use Rattle.siman_pdus.specs.declared.pdu.Body.{Body}
 use Rattle.siman_pdus.specs.declared.pdu.Pdu.{Pdu}
 use Rattle.siman_pdus.specs.declared.views.PduView.{PduView}
-use Rattle.siman_pdus.specs.Spelling.{body_kind, header_of, pdu_layout, pdu_size, pdu_text, Spells}
+use Rattle.siman_pdus.specs.Spelling.{body_kind, body_layout, header_of, pdu_layout, pdu_size, pdu_text, HasCarriedStatus, Spells, carried}
 use Rattle.siman_pdus.specs.Shape.{body_refusal}
 use Rattle.siman_pdus.specs.Reading.{body_at, pdu_of, view_from, pdu_from, first_refusal, view_refusal, pdu_refusal, refusal_of, viewed, reading, unless_refused}
 use Rattle.siman_pdus.proofs.Ends.{refused_whole, whole_not_refused}
@@ -62,6 +62,7 @@ reading_spells b passes =
         stand = (x.0, (x.1.0, (kind, (x.1.1.1.0, (x.1.1.1.1.0, (own, (x.1.1.1.1.1.1.0, (tt, (refl, (refl, (refl, (refl, (refl, (refl, body.stand))))))))))))));
         whole = omega (arith, body.whole_is);
       };
+      status_is = is_header.status_is;
       limit = is_header.limit;
     }
 
@@ -89,6 +90,7 @@ spelled_read p b spells =
     let is_header : IsHeader h b = record {
       stands = (x.0, (x.1.0, (x.1.1.0, (x.1.1.1.0, (x.1.1.1.1.0, (x.1.1.1.1.1.0, (x.1.1.1.1.1.1.0, (tt, tt))))))));
       length_is = refl;
+      status_is = spells.status_is;
       room = omega (arith, spells.spell.whole);
       limit = spells.limit;
     } in
@@ -190,11 +192,33 @@ answered_reads (Err fault) b answered = elim answered.1 [
 
 -- ---- what is written
 
-pub text_spelled : (p : Pdu) → Fit (pdu_layout p (pdu_size p)) → pdu_size p ≤ LARGEST_DATAGRAM → Spells p (pdu_text p)
-text_spelled p fits limit =
+text_spelled : (p : Pdu) → Fit (pdu_layout p (pdu_size p)) → HasCarriedStatus p → pdu_size p ≤ LARGEST_DATAGRAM → Spells p (pdu_text p)
+text_spelled p fits status limit =
     let layout = pdu_layout p (pdu_size p) in
     let len : length (pdu_text p) ≡ pdu_size p = length-text layout fits in
     record {
       spell = subst (λ (n : ℕ). Spell (pdu_layout p n) (pdu_text p)) (sym len) (text_spells layout fits);
+      status_is = status;
       limit = omega (arith, len);
     }
+
+pub text_spelled_exactly : (p : Pdu) → Fit (pdu_layout p (pdu_size p)) → pdu_size p ≤ LARGEST_DATAGRAM → HasCarriedStatus p ↔ Spells p (pdu_text p)
+text_spelled_exactly p fits limit = (λ status. text_spelled p fits status limit, λ spells. spells.status_is)
+
+-- what is not there is not written
+text_alike : (front back : List Field) (there : Bool) (n : ℕ)
+    → text (front ++ (ByteIf there (if there then n else 0) ∷ back)) ≡ text (front ++ (ByteIf there n ∷ back))
+text_alike [] back true n = refl
+text_alike [] back false n = refl
+text_alike (f ∷ front) back there n = ap (λ (bytes : List ℕ). field_text f ++ bytes) (text_alike front back there n)
+
+carried_text : (p : Pdu) → pdu_text (carried p) ≡ pdu_text p
+carried_text p =
+    text_alike (Byte (version_code p.version) ∷ Byte p.exercise ∷ Byte (kind_code (body_kind p.body)) ∷ Byte 5 ∷ Number w32 p.stamp ∷ Number w16 (pdu_size p) ∷ [])
+    (Padding 1 ∷ entity_layout p.origin ++ entity_layout p.target ++ body_layout p.body) (has_status p.version) p.status
+
+-- the text of a PDU spells what is carried of it
+pub carried_spelled : (p : Pdu) → Fit (pdu_layout p (pdu_size p)) → pdu_size p ≤ LARGEST_DATAGRAM → Spells (carried p) (pdu_text p)
+carried_spelled p fits limit =
+    subst (λ (b : List ℕ). Spells (carried p) b) (carried_text p)
+    (text_spelled (carried p) fits (status_again (has_status p.version) p.status) limit)

@@ -63,7 +63,7 @@ abbrev entity : Known (Struct (shape EntityId.the_type))
 entity = struct_known (shape EntityId.the_type) (uint_known w16, (uint_known w16, (uint_known w16, tt)))
 
 abbrev version : Known (Enum (data_of.shape Version.the_type))
-version = enum_known (data_of.shape Version.the_type) (tt, tt)
+version = enum_known (data_of.shape Version.the_type) (tt, (tt, tt))
 
 abbrev body : Known (Enum (data_of.shape Body.the_type))
 body = enum_known (data_of.shape Body.the_type) (

@@ -1,9 +1,8 @@
 -- When two bodies are the same, and two PDUs the same order, field by field.
-use Rattle.std.specs.Prelude.{◌≡◌, Bool, true, false, ◌&&◌, ◌==◌}
+use Rattle.std.specs.Prelude.{◌≡◌, Bool, false, ◌&&◌, ◌==◌}
 use Rattle.dis_records.specs.declared.clock_time.ClockTime.{ClockTime}
 use Rattle.dis_records.specs.declared.entity.EntityId.{EntityId}
-use Rattle.dis_records.specs.declared.header.Version.{Version}
-use Rattle.dis_records.specs.declared.header.Version.TheVariants as versions
+use Rattle.dis_records.specs.Header.{same_version}
 use Rattle.siman_pdus.specs.declared.pdu.Body.{Body}
 use Rattle.siman_pdus.specs.declared.pdu.Body.TheVariants.{CreateEntity, RemoveEntity, StartResume, StopFreeze, Acknowledge, ActionRequest, ActionResponse, DataQuery, SetData, DataPdu, EventReport, Comment}
 use Rattle.siman_pdus.specs.declared.pdu.Pdu.{Pdu}
@@ -14,9 +13,6 @@ same_time t u = (t.hour == u.hour) && (t.past == u.past)
 
 abbrev pub same_entity : EntityId → EntityId → Bool
 same_entity i j = (i.site == j.site) && ((i.application == j.application) && (i.entity == j.entity))
-
-abbrev pub same_version : Version → Version → Bool
-same_version versions.V7 versions.V7 = true
 
 -- the same case, and the same fields
 abbrev pub same_body : Body → Body → Bool

@@ -1,5 +1,5 @@
 -- The grammar: which bytes spell a PDU. Each layout is in the order and the words of the standard (IEEE 1278.1-2012, 7.5.2 to 7.5.13).
-use Rattle.std.specs.Prelude.{ℕ, ◌≤◌, List, [], ◌∷◌, ◌++◌, length}
+use Rattle.std.specs.Prelude.{◌≡◌, ℕ, ◌≤◌, List, [], ◌∷◌, ◌++◌, length}
 use Rattle.std.specs.Int.{w16, w32}
 use Rattle.dis_records.specs.declared.header.TheConstants.{LARGEST_DATAGRAM}
 use Rattle.dis_records.specs.declared.kind.Kind.{Kind}
@@ -7,7 +7,7 @@ use Rattle.dis_records.specs.declared.kind.Kind.TheVariants as kinds
 use Rattle.dis_records.specs.declared.header.Header.{Header}
 use Rattle.dis_records.specs.declared.datum.FixedDatum.{FixedDatum}
 use Rattle.dis_records.specs.Layout.{Field, Byte, Number, Padding, size, text, Spell}
-use Rattle.dis_records.specs.Header.{header_layout}
+use Rattle.dis_records.specs.Header.{header_layout, carried_status}
 use Rattle.dis_records.specs.Entity.{entity_layout}
 use Rattle.dis_records.specs.ClockTime.{clock_time_layout}
 use Rattle.dis_records.specs.Datum.{Datum, fixed_layouts, variable_layouts, id_layouts}
@@ -79,15 +79,24 @@ header_of p n = record { version = p.version; exercise = p.exercise; kind = body
 abbrev pub pdu_layout : Pdu → ℕ → List Field
 pdu_layout p n = header_layout (header_of p n) ++ entity_layout p.origin ++ entity_layout p.target ++ body_layout p.body
 
--- b is a datagram of at most 8192 bytes that spells p, with its own length in the header.
+-- The status is one that a header of the version carries: any where it has one, and otherwise 0.
+abbrev pub HasCarriedStatus : Pdu → Type 0
+HasCarriedStatus p = p.status ≡ carried_status p.version p.status
+
+-- b is a datagram of at most 8192 bytes that spells p, with its own length in the header; the status is 0 where the version has none.
 pub record Spells (p : Pdu) (b : List ℕ) : Type 0 where
   pub spell : Spell (pdu_layout p (length b)) b
+  pub status_is : HasCarriedStatus p
   pub limit : length b ≤ LARGEST_DATAGRAM
 
 -- the number of bytes of each spelling of p
 abbrev pub pdu_size : Pdu → ℕ
 pdu_size p = size (pdu_layout p 0)
 
--- the canonical text of p: its spelling in which padding is zero
+-- p as a datagram carries it: with status 0 where its version has none
+abbrev pub carried : Pdu → Pdu
+carried p = record p { status = carried_status p.version p.status }
+
+-- the canonical text of p: the spelling of what is carried of it in which padding is zero
 abbrev pub pdu_text : Pdu → List ℕ
 pdu_text p = text (pdu_layout p (pdu_size p))

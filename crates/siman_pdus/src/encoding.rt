@@ -8,7 +8,7 @@ ghost use Rattle.dis_records.specs.Datum.{fixed_layouts, variable_layout, variab
 ghost use Rattle.dis_records.specs.Entity.{entity_layout};
 ghost use Rattle.dis_records.specs.Header.{header_layout};
 ghost use Rattle.dis_records.specs.Layout.{Byte, Number, Padding, size};
-ghost use Rattle.siman_pdus.specs.Spelling.{records_layout, id_lists_layout, body_kind, body_layout, pdu_layout, pdu_size, pdu_text, Spells};
+ghost use Rattle.siman_pdus.specs.Spelling.{records_layout, id_lists_layout, body_kind, body_layout, pdu_layout, pdu_size, pdu_text, HasCarriedStatus, Spells, carried};
 ghost use Rattle.siman_pdus.specs.Writing.{HasRoom, Puts};
 
 use crate::fault::EncodeFault;
@@ -258,12 +258,16 @@ fn put_pdu(out: &mut Vec<u8>, pdu: &Pdu, length: u16)
     put_body(out, &pdu.body);
 }
 
-/// Appends the canonical text of a PDU: its spelling in which padding is zero. It takes no memory
-/// where the vector's spare capacity holds the text, and an error leaves the vector unchanged.
+/// Appends the canonical text of a PDU: its spelling in which padding is zero. The status of a
+/// version whose headers have none is not written. It takes no memory where the vector's spare
+/// capacity holds the text, and an error leaves the vector unchanged.
 pub fn encode(pdu: &Pdu, out: &mut Vec<u8>) -> Result<(), EncodeFault>
     ensures ok { OnOk result (out.new.items ≡ out.old.items ++ pdu_text pdu.now) }
-    // What is written is decoded again, to the same PDU.
-    ensures spelled { OnOk result (Spells pdu.now (pdu_text pdu.now)) }
+    // What is written is decoded again, to the same PDU, exactly where its status is 0 or its
+    // version has one.
+    ensures spelled { OnOk result (HasCarriedStatus pdu.now ↔ Spells pdu.now (pdu_text pdu.now)) }
+    // Otherwise it is decoded to the same PDU with status 0.
+    ensures carried { OnOk result (Spells (carried pdu.now) (pdu_text pdu.now)) }
     ensures too_long { (result ≡ Err EncodeFault.TooLong) ↔ (LARGEST_DATAGRAM < pdu_size pdu.now) }
     // It lacks memory only where the room that is spare does not do.
     ensures memory { result ≡ Err EncodeFault.Memory → vec_capacity out.old < vec_len out.old + pdu_size pdu.now }

@@ -1,11 +1,11 @@
 //! The ranges of the numbers of a PDU.
 
-ghost use Rattle.std.specs.Prelude.{◌≡◌, ◌<◌, ◌≤◌, ℕ, List, Some, length, slice_index};
+ghost use Rattle.std.specs.Prelude.{◌≡◌, ◌<◌, ◌≤◌, ◌↔◌, ℕ, List, Some, length, slice_index};
 ghost use Rattle.dis_records.specs.declared.header.TheConstants.{LARGEST_DATAGRAM};
 ghost use Rattle.siman_pdus.specs.declared.pdu.Pdu.{Pdu};
 ghost use Rattle.siman_pdus.specs.Ranges.{AreDatumsInRange, IsInRange};
 ghost use Rattle.siman_pdus.specs.Reading.{reading};
-ghost use Rattle.siman_pdus.specs.Spelling.{Spells, pdu_size, pdu_text};
+ghost use Rattle.siman_pdus.specs.Spelling.{HasCarriedStatus, Spells, carried, pdu_size, pdu_text};
 
 use crate::datums::Datums;
 use crate::pdu::Pdu;
@@ -22,11 +22,13 @@ pub fn datums_are_in_range(datums: &Datums)
 {}
 
 /// Laws of ranges: what is read of bytes is in its ranges, and what is in its ranges and has at
-/// most 8192 bytes is spelled by its canonical text, which is bytes and is read as it.
+/// most 8192 bytes is spelled by its canonical text, which is bytes and is read as it, exactly
+/// where its status is 0 or its version has one; otherwise as the same PDU with status 0.
 pub fn ranges_and_texts_agree()
     ensures in_range { (pdu : Pdu) (b : List ℕ) → ((i : ℕ) → slice_index b i < 256) → reading b ≡ Some pdu → IsInRange pdu }
-    ensures spelled { (pdu : Pdu) → IsInRange pdu → pdu_size pdu ≤ LARGEST_DATAGRAM → Spells pdu (pdu_text pdu) }
-    ensures read { (pdu : Pdu) → IsInRange pdu → pdu_size pdu ≤ LARGEST_DATAGRAM → reading (pdu_text pdu) ≡ Some pdu }
+    ensures spelled { (pdu : Pdu) → IsInRange pdu → pdu_size pdu ≤ LARGEST_DATAGRAM → HasCarriedStatus pdu ↔ Spells pdu (pdu_text pdu) }
+    ensures read { (pdu : Pdu) → IsInRange pdu → HasCarriedStatus pdu → pdu_size pdu ≤ LARGEST_DATAGRAM → reading (pdu_text pdu) ≡ Some pdu }
+    ensures carried { (pdu : Pdu) → IsInRange pdu → pdu_size pdu ≤ LARGEST_DATAGRAM → reading (pdu_text pdu) ≡ Some (carried pdu) }
     ensures size { (pdu : Pdu) → IsInRange pdu → pdu_size pdu ≤ LARGEST_DATAGRAM → length (pdu_text pdu) ≡ pdu_size pdu }
     ensures bytes { (pdu : Pdu) → IsInRange pdu → pdu_size pdu ≤ LARGEST_DATAGRAM → (i : ℕ) → slice_index (pdu_text pdu) i < 256 }
 {}

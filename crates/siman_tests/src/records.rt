@@ -21,6 +21,27 @@ fn headers_are_read_and_written(rt: HostRuntime) {
     assert!(rt; write_header(&header) == written);
 }
 
+#[test]
+fn headers_of_version_6_carry_no_status(rt: HostRuntime) {
+    let bytes = [6, 9, 22, 5, 0x12, 0x34, 0x56, 0x78, 0, 13, 0x81, 0xFF, 0x55];
+    let header = Header {
+        version: Version::V6,
+        exercise: 9,
+        kind: Kind::Comment,
+        stamp: 0x1234_5678,
+        length: 13,
+        status: 0,
+    };
+    let with_status = Header {
+        status: 0x81,
+        ..header
+    };
+    let written = [6, 9, 22, 5, 0x12, 0x34, 0x56, 0x78, 0, 13, 0, 0];
+    assert_eq!(rt; read_header(&bytes), Ok(header));
+    assert!(rt; write_header(&header) == written);
+    assert!(rt; write_header(&with_status) == written);
+}
+
 /// The number of the first bytes, from 0, that are refused otherwise.
 fn first_refused_otherwise(rows: &[(&[u8], HeaderFault)]) -> Option<usize> {
     for (i, (bytes, fault)) in rows.iter().enumerate() {
@@ -40,7 +61,7 @@ fn the_first_refusal_is_told(rt: HostRuntime) {
     let mut foreign = unknown;
     foreign[3] = 1;
     let mut old = foreign;
-    old[0] = 6;
+    old[0] = 5;
     let mut long = [0; 8193];
     long[..4].copy_from_slice(&[7, 0, 22, 5]);
     let rows: [(&[u8], HeaderFault); 6] = [
@@ -48,7 +69,7 @@ fn the_first_refusal_is_told(rt: HostRuntime) {
         (&short, HeaderFault::LengthField(29)),
         (&unknown, HeaderFault::Kind(23)),
         (&foreign, HeaderFault::Family(1)),
-        (&old, HeaderFault::Version(6)),
+        (&old, HeaderFault::Version(5)),
         (&long, HeaderFault::Long),
     ];
     assert_eq!(rt; first_refused_otherwise(&rows), None);

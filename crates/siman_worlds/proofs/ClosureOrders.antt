@@ -221,7 +221,7 @@ answer_kept settings past x p read answer q e request =
     let yes : is_answer_body q.body ≡ true = subst (λ (r : Pdu). is_answer_body r.body ≡ true) same answer in absurd cc
 
 pub own_read : (w : WorldData) (s : ℕ) (p : Pdu) → IsOwn w s p → reading (pdu_text p) ≡ Some p
-own_read w s p is = text_is_read p is.ranges is.size
+own_read w s p is = text_is_read p is.ranges is.status is.size
 
 -- the log and the calls of a station after one more act of it
 kept_own : (settings : Settings) (s x : ℕ) (call : Call) (calls : ℕ → List Call) (log : History) → AreKept settings (call ∷ calls s) x log

@@ -12,8 +12,8 @@ use Rattle.siman_pdus.specs.declared.pdu.Pdu.{Pdu}
 use Rattle.siman_pdus.specs.Ranges.{IsInRange}
 use Rattle.siman_pdus.specs.Reading.{reading}
 use Rattle.siman_pdus.specs.Role.{is_request_body}
-use Rattle.siman_pdus.specs.Spelling.{pdu_size, pdu_text}
-use Rattle.siman_pdus.proofs.Offered.{text_is_read}
+use Rattle.siman_pdus.specs.Spelling.{HasCarriedStatus, pdu_size, pdu_text}
+use Rattle.siman_pdus.proofs.Offered.{text_is_read, zero_is_carried}
 use Rattle.exercise_model.specs.Entry.{Entry, Sent, Received, Told}
 use Rattle.exercise_model.specs.Place.{first_below}
 use Rattle.exercise_model.specs.Setting.{is_from}
@@ -89,6 +89,7 @@ pub record IsSent (w : WorldData) (b : List ℕ) : Type 0 where
   pub pdu : Pdu
   pub text_is : pdu_text pdu ≡ b
   pub ranges : IsInRange pdu
+  pub status : HasCarriedStatus pdu
   pub size : pdu_size pdu ≤ LARGEST_DATAGRAM
   pub station : ℕ
   pub within : station < length w.stations
@@ -110,18 +111,19 @@ pub sent_at : (w : WorldData) (c : Course) → Stands w c → (k : ℕ) (b : Lis
 sent_at w c stands k b e = item_at (IsSent w) (sent_in c.entries) k b stands.sent e
 
 pub sent_read : (w : WorldData) (b : List ℕ) (is : IsSent w b) → reading b ≡ Some is.pdu
-sent_read w b is = subst (λ (c : List ℕ). reading c ≡ Some is.pdu) is.text_is (text_is_read is.pdu is.ranges is.size)
+sent_read w b is = subst (λ (c : List ℕ). reading c ≡ Some is.pdu) is.text_is (text_is_read is.pdu is.ranges is.status is.size)
 
 -- Orders and replies.
 
--- a PDU of a station, its numbers in their ranges, of at most 8192 bytes
+-- a PDU of a station, its numbers in their ranges, with a status that its version carries, of at most 8192 bytes
 pub record IsOwn (w : WorldData) (s : ℕ) (p : Pdu) : Type 0 where
   pub ranges : IsInRange p
+  pub status : HasCarriedStatus p
   pub size : pdu_size p ≤ LARGEST_DATAGRAM
   pub from : is_from (station_of w s).station.address p ≡ true
 
 own_sent : (w : WorldData) (s : ℕ) (p : Pdu) → s < length w.stations → IsOwn w s p → IsSent w (pdu_text p)
-own_sent w s p within is = record { pdu = p; text_is = refl; ranges = is.ranges; size = is.size; station = s; within = within; own = is.from }
+own_sent w s p within is = record { pdu = p; text_is = refl; ranges = is.ranges; status = is.status; size = is.size; station = s; within = within; own = is.from }
 
 from_same : (w : WorldData) (s : ℕ) (p : Pdu) → p.origin.site ≡ (station_of w s).station.address.site
     → p.origin.application ≡ (station_of w s).station.address.application → is_from (station_of w s).station.address p ≡ true
@@ -134,10 +136,12 @@ from_same w s p site application =
 pub record IsOwnOrder (w : WorldData) (s : ℕ) (p : Pdu) : Type 0 where
   pub order : IsOrder (outfit_of w s) p
   pub origin : p.origin ≡ manager_id (settings_of w s)
+  pub status : p.status ≡ 0
 
 pub order_own : (w : WorldData) (s : ℕ) (p : Pdu) → IsOwnOrder w s p → IsOwn w s p
 order_own w s p is = record {
   ranges = is.order.ranges;
+  status = zero_is_carried p is.status;
   size = is.order.size;
   from = from_same w s p (ap (λ (i : EntityId). i.site) is.origin) (ap (λ (i : EntityId). i.application) is.origin);
 }
@@ -150,6 +154,7 @@ made_own w c s now order own range can =
       order = made_stands w s own (count_made (settings_of w s) (c.calls s)) order (stamp_of now)
           (record { request = parts.0; range = range; stamp_is = stamp_within now }) parts.1;
       origin = refl;
+      status = refl;
     }
 
 -- the order of each life
@@ -157,7 +162,7 @@ pub life_own : (w : WorldData) (s : ℕ) → IsOutfitInRange (outfit_of w s) →
     → life (settings_of w s) past k ≡ Some l → IsOwnOrder w s l.order
 life_own w s own past fit k l e =
     lives_as (IsOwnOrder w s) (settings_of w s)
-    (λ n order stamp is none. record { order = made_stands w s own n order stamp is none; origin = refl }) past fit k l e
+    (λ n order stamp is none. record { order = made_stands w s own n order stamp is none; origin = refl; status = refl }) past fit k l e
 
 -- a repeat is of a life
 pub record IsRepeat (settings : Settings) (past : List Call) (stamp : ℕ) (p : Pdu) : Type 0 where
@@ -192,6 +197,7 @@ repeat_own w c s now p own fit e =
       order = repeat_stands w s is.life_is.order (stamp_of now)
           (stamp_within now) first.order;
       origin = first.origin;
+      status = first.status;
     })
 
 pub some_of : {X : Type 0} (P : X → Type 0) (o : Option X) (x : X) → o ≡ Some x → IfSome o P → P x
@@ -204,6 +210,8 @@ pub reply_own : (w : WorldData) (c : Course) (s now : ℕ) (q p : Pdu) → IsOut
 reply_own w c s now q p own came range e =
     let a = outfit_of w s in record {
       ranges = some_of IsInRange (reply_by w c s now q) p e (reply_in_range a (c.came s) q (stamp_of now) own came range (stamp_within now));
+      status = some_of HasCarriedStatus (reply_by w c s now q) p e (reply_answers HasCarriedStatus a (c.came s) q (stamp_of now)
+          (λ k d mine. zero_is_carried (answer a k d (stamp_of now)) (is_answer a k d (stamp_of now) mine).status));
       size = some_of (λ r. pdu_size r ≤ LARGEST_DATAGRAM) (reply_by w c s now q) p e (reply_is_short a (c.came s) q (stamp_of now));
       from = some_of (λ r. is_from (station_of w s).station.address r ≡ true) (reply_by w c s now q) p e
           (reply_answers (λ r. is_from (station_of w s).station.address r ≡ true) a (c.came s) q (stamp_of now)

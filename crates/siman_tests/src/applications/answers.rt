@@ -166,6 +166,25 @@ fn another_order_under_a_known_identifier_gets_none(rt: HostRuntime) -> Result<(
 }
 
 #[test]
+fn an_answer_has_the_version_of_its_request(rt: HostRuntime) -> Result<(), Fail> {
+    let mut old = CREATE;
+    old[0] = 6;
+    let mut padded = old;
+    padded[10..12].copy_from_slice(&[0xAB, 0xCD]);
+    let mut able = ABLE;
+    able[0] = 6;
+    // The copy is the same order, that of version 7 is another.
+    let steps: [Step<'_, '_>; 4] = [
+        Delivered(&padded, 0, &able),
+        Delivered(&old, 0, &able),
+        Delivered(&CREATE, 0, &[]),
+        Stands(7, Stopped),
+    ];
+    assert_eq!(rt; first_otherwise(rt.alloc(), &EMPTY, &steps)?, None);
+    Ok(())
+}
+
+#[test]
 fn entities_are_created_and_removed(rt: HostRuntime) -> Result<(), Fail> {
     let create = create(ANY, 1);
     let created = acknowledge(of(1), 1, 1, 1);

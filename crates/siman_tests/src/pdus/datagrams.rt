@@ -240,6 +240,35 @@ fn the_fields_of_a_pdu(rt: HostRuntime) {
     assert!(rt; fields(rt.alloc(), &COMMENT) == expected);
 }
 
+/// What a datagram is written as when it was read and its status was set, if it is a PDU.
+fn written_with_status(alloc: Global, bytes: &[u8], status: u8) -> Option<Vec<u8>> {
+    let mut pdu = decode(alloc, bytes).ok()?;
+    pdu.status = status;
+    let mut out = Vec::new(alloc);
+    encode(&pdu, &mut out).ok()?;
+    Some(out)
+}
+
+/// Whether it is written as these bytes.
+fn is_written_with_status(alloc: Global, bytes: &[u8], status: u8, text: &[u8]) -> bool {
+    match written_with_status(alloc, bytes, status) {
+        Some(out) => out.as_slice() == text,
+        None => false,
+    }
+}
+
+#[test]
+fn version_6_carries_no_status(rt: HostRuntime) {
+    let mut text = CREATE;
+    text[0] = 6;
+    let mut padded = text;
+    padded[10..12].copy_from_slice(&[0xAB, 0xCD]);
+    let expected: Option<Fields> = Some(((Version::V6, 1, 0, 0), MANAGER, ENTITY, Some(28)));
+    assert!(rt; fields(rt.alloc(), &padded) == expected);
+    assert!(rt; is_written_with_status(rt.alloc(), &padded, 0, &text));
+    assert!(rt; is_written_with_status(rt.alloc(), &padded, 9, &text));
+}
+
 #[test]
 fn entities_are_created_and_removed(rt: HostRuntime) {
     let rows: [(&[u8], Says<'_>); 2] = [

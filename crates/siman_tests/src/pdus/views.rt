@@ -189,7 +189,7 @@ fn first_otherwise(rows: &[(&[u8], ViewFault)]) -> Option<usize> {
 #[test]
 fn refusals_of_a_header_are_told(rt: HostRuntime) {
     let mut old = CREATE;
-    old[0] = 6;
+    old[0] = 5;
     let mut other = CREATE;
     other[3] = 1;
     let mut unknown = CREATE;
@@ -200,7 +200,7 @@ fn refusals_of_a_header_are_told(rt: HostRuntime) {
     long[..28].copy_from_slice(&CREATE);
     let rows: [(&[u8], ViewFault); 6] = [
         (&CREATE[..11], ViewFault::Header(HeaderFault::Truncated)),
-        (&old, ViewFault::Header(HeaderFault::Version(6))),
+        (&old, ViewFault::Header(HeaderFault::Version(5))),
         (&other, ViewFault::Header(HeaderFault::Family(1))),
         (&unknown, ViewFault::Header(HeaderFault::Kind(23))),
         (&long, ViewFault::Header(HeaderFault::Long)),
@@ -232,8 +232,8 @@ fn is_told(alloc: Global, fault: ViewFault, text: &str, number: u8) -> Option<bo
 #[test]
 fn refusals_have_the_texts_of_decoding(rt: HostRuntime) {
     let alloc = rt.alloc();
-    let header = ViewFault::Header(HeaderFault::Version(6));
-    assert_eq!(rt; is_told(alloc, header, "version 6", 2), Some(true));
+    let header = ViewFault::Header(HeaderFault::Version(5));
+    assert_eq!(rt; is_told(alloc, header, "version 5", 2), Some(true));
     let short = ViewFault::BodyShort(12);
     assert_eq!(rt; is_told(alloc, short, "body-short at 12", 7), Some(true));
     let long = ViewFault::BodyLong(28);

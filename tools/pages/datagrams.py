@@ -9,6 +9,8 @@ Pdu = namedtuple("Pdu", "kind header origin target fields records")
 Header = namedtuple("Header", "version exercise stamp status")
 
 LONGEST_HEX, LONGEST_DATAGRAM = 65_536, 8192
+# The protocol versions that are read, each with whether byte 10 of its header is the PDU status.
+VERSIONS = {6: False, 7: True}
 CREATE, REMOVE, START, STOP, ACKNOWLEDGE = 11, 12, 13, 14, 15
 ACTION_REQUEST, ACTION_RESPONSE, DATA_QUERY, SET_DATA, DATA = 16, 17, 18, 19, 20
 ABLE, UNABLE = 1, 2
@@ -64,7 +66,7 @@ def decoded(datagram):
     version, exercise, kind, family = datagram[:4]
     length = number(datagram[8:10])
     for holds, text in [
-        (version != 7, f"2 version {version}"),
+        (version not in VERSIONS, f"2 version {version}"),
         (family != 5, f"3 family {family}"),
         (kind not in BODIES, f"4 kind {kind}"),
         (len(datagram) > LONGEST_DATAGRAM, "5 long"),
@@ -72,7 +74,8 @@ def decoded(datagram):
     ]:
         if holds:
             raise Refusal(text)
-    header = Header(version, exercise, number(datagram[4:8]), datagram[10])
+    status = datagram[10] if VERSIONS[version] else 0
+    header = Header(version, exercise, number(datagram[4:8]), status)
     return decoded_body(kind, header, Parts(datagram, 12))
 
 

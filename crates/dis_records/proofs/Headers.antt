@@ -1,6 +1,6 @@
 -- Bytes begin with at most one header: the one that is read at its offsets, exactly where none of it is refused.
 use Rattle.std.proofs.Common.{◌≡◌, ◌≢◌, ◌≤◌, ℕ, Bool, true, false, eqb, ltb, inl, inr, List, length, Option, Some, None, Result, Ok, Err, refl, sym, ap, ◌∙◌, arith, rules, eqb-true, eq-eqb}
-use Rattle.std.specs.Prelude.{◌∷◌, [], if◌then◌else◌, ◌==◌, ◌||◌, not, IfOk, IfErr}
+use Rattle.std.specs.Prelude.{◌∷◌, [], ◌⊎◌, ◌↔◌, IsTrue, nat_le, if◌then◌else◌, ◌==◌, ◌||◌, not, IfOk, IfErr}
 use Rattle.std.specs.Int.{w8, w16, w32}
 use Rattle.std.proofs.lemmas.Bool.{le-ltb, cases_lt, lt-ltb}
 use Rattle.dis_records.specs.declared.header.TheConstants.{LARGEST_DATAGRAM, VERSIONS}
@@ -76,6 +76,18 @@ row_numbered (row ∷ rows) n are e = by (row.number == n) refl e (row_numbered 
 pub version_code-version_from : (n : ℕ) → is_version n ≡ true → version_code (version_from n) ≡ n
 unfolding version_from
 version_code-version_from n e = row_numbered VERSIONS n numbered e
+
+-- the numbers that are read
+pub version_read : (n : ℕ) → IsTrue (is_version n) ↔ ((n ≡ 6) ⊎ (n ≡ 7))
+version_read n = (known (6 == n) refl (7 == n) refl, λ one. elim one [ inl six ↦ rw six refl | inr seven ↦ rw seven refl ]) where
+  known : (six : Bool) → (6 == n) ≡ six → (seven : Bool) → (7 == n) ≡ seven → IsTrue (six || (seven || false)) → (n ≡ 6) ⊎ (n ≡ 7)
+  known true a seven b is = inl (sym (eqb-true 6 n a))
+  known false a true b is = inr (sym (eqb-true 7 n b))
+  known false a false b is = absurd cc
+
+pub status_known : (version : Version) → has_status version ≡ nat_le 7 (version_code version)
+status_known versions.V6 = refl
+status_known versions.V7 = refl
 
 -- ---- a byte that is there by the version
 

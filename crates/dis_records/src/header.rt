@@ -1,8 +1,9 @@
 //! The header that each datagram begins with.
 
-ghost use Rattle.std.specs.Prelude.{◌≡◌, ◌↔◌, length, not, IfOk, IfErr, IfSome, IsNone, IsTrue, Some, None, Ok};
+ghost use Rattle.std.specs.Prelude.{◌≡◌, ◌↔◌, ◌⊎◌, ℕ, nat_le, length, not, IfOk, IfErr, IfSome, IsNone, IsTrue, Some, None, Ok};
 ghost use Rattle.dis_records.specs.Layout.{Fit, text};
-ghost use Rattle.dis_records.specs.Header.{IsHeader, header_layout, header_at, header_refusal, version_row, version_code, is_version, carried_status};
+ghost use Rattle.dis_records.specs.declared.header.Version.{Version};
+ghost use Rattle.dis_records.specs.Header.{IsHeader, header_layout, header_at, header_refusal, version_row, version_code, is_version, has_status, carried_status};
 
 use crate::field::{u8_at, u16_at, u32_at};
 use crate::kind::Kind;
@@ -87,6 +88,14 @@ impl Version {
         if self.row().has_status { status } else { 0 }
     }
 }
+
+/// Laws of the table of versions: those that are read are 6 and 7, under these names, and headers
+/// have a PDU status from version 7 on.
+pub fn versions_are_known()
+    ensures names { (version_code Version.V6 ≡ 6) × (version_code Version.V7 ≡ 7) }
+    ensures read { (n : ℕ) → IsTrue (is_version n) ↔ ((n ≡ 6) ⊎ (n ≡ 7)) }
+    ensures status { (version : Version) → has_status version ≡ nat_le 7 (version_code version) }
+{}
 
 /// The header of a PDU (IEEE 1278.1-2012, 6.2.66). Its numbers are big-endian in a datagram.
 #[derive(Clone, Copy, Debug, PartialEq, Eq)]

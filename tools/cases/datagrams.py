@@ -21,6 +21,9 @@ def try_datagrams(trials):
             ways.add(datagram[:place] + bytes([datagram[place] ^ 1 << place % 8]) + datagram[place + 1 :])
         for way in sorted(ways):
             trials.expect(["pdu", way.hex()], pages.answer_to_datagram(way))
+        for version in (5, 6, 8):
+            other = bytes([version]) + datagram[1:]
+            trials.expect(["pdu", other.hex()], pages.answer_to_datagram(other))
     for place, values in {0: (0, 6, 8), 2: (0, 10, 23, 255), 3: (0, 4, 10), 4: (255,), 8: (1, 255), 10: (9,)}.items():
         for value in values:
             changed = bytearray.fromhex(README_DATAGRAM.decode())

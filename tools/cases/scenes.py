@@ -155,6 +155,28 @@ def answering_scenes():
     ]  # fmt: skip
 
 
+def version_scenes():
+    """Exercises of protocol version 6, and of both versions: what MODEL.md says of them."""
+    order, answer = request(version=6), acknowledge(version=6)
+    report = "yes records=4 others=0\nanswer 2 request 1\nknown 3 change 2\nentity 2:3:7 stopped\n"
+    none = [(0, NO_LINK), (1, NO_LINK)]
+    again = [sent(MANAGER, order), sent(MANAGER, request(version=6, stamp=4, status=3))]
+    mixed = [sent(MANAGER, request()), sent(MANAGER, order)]
+    changed = [sent(MANAGER, request()), received(APPLICATION, order)]
+    padded = [sent(MANAGER, order), received(APPLICATION, request(version=6, status=3))]
+    unread = [sent(MANAGER, request(version=5)), received(APPLICATION, request(version=8))]
+    return [
+        scene("a creation in version 6", *exchange(order, answer), report),
+        scene("its answer alone in version 6", *exchange(request(), answer), report),
+        scene("its answer alone in version 7", *exchange(order, acknowledge()), report),
+        scene("a repeat in version 6", again, none, "yes records=2 others=0\n"),
+        scene("a repeat in another version", mixed, none, no(1, 6)),
+        scene("received in another version", changed, [(0, NO_LINK), (1, 0)], no(1, 12)),
+        scene("received with other padding", padded, [(0, NO_LINK), (1, 0)], no(1, 12)),
+        scene("versions 5 and 8", unread, none, "yes records=2 others=2\n"),
+    ]
+
+
 def receiving_scenes():
     """Causes 11 to 13."""
     first = [(0, NO_LINK)]
@@ -172,4 +194,7 @@ def receiving_scenes():
 
 def scenes():
     """Recordings and certificates with each cause 1 to 13, and the answer to each stated by hand."""
-    return worked_scenes() + certificate_scenes() + sending_scenes() + answering_scenes() + receiving_scenes()
+    return [
+        *worked_scenes(), *certificate_scenes(), *sending_scenes(), *answering_scenes(), *version_scenes(),
+        *receiving_scenes(),
+    ]  # fmt: skip

@@ -47,7 +47,8 @@ def any_entry(random, course):
     if kind == 21:
         return sent(station, pdu(kind, (*course.address(station), 0), (*target, entity)))
     origin, identifier = (*course.address(station), 0), random.randrange(1, 9)
-    return sent(station, request(kind, (*target, entity), identifier, origin, stamp=random.randrange(2)))
+    stamp, version = random.randrange(2), 6 if identifier % 4 == 0 else 7
+    return sent(station, request(kind, (*target, entity), identifier, origin, stamp=stamp, version=version))
 
 
 def any_answer(random, address, order):
@@ -55,7 +56,8 @@ def any_answer(random, address, order):
     identifier = int.from_bytes(order.fields.get("request", b""), "big")
     flag = {CREATE: 1, REMOVE: 2, START: 3, STOP: 4}.get(order.kind)
     if flag and random.random() < 0.95:
-        return acknowledge(flag, random.choice((ABLE, ABLE, ABLE, UNABLE, 3)), origin, identifier, target)
+        response, version = random.choice((ABLE, ABLE, ABLE, UNABLE, 3)), random.choice((6, 7, 7))
+        return acknowledge(flag, response, origin, identifier, target, version=version)
     return pdu(random.choice((DATA, ACTION_RESPONSE)), origin, target, request=identifier)
 
 

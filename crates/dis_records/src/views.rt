@@ -1,6 +1,6 @@
 //! The datums of a body, and the identifiers of a query, where they stand in a datagram.
 
-ghost use Rattle.std.specs.Prelude.{◌≡◌};
+ghost use Rattle.std.specs.Prelude.{◌≡◌, length};
 ghost use Rattle.dis_records.specs.Views.{DatumsFit, IdsFit, shown_datums, shown_ids};
 
 use crate::field::u32_at;
@@ -34,6 +34,22 @@ impl<'a> DatumsView<'a> {
         ensures { result ≡ shown_datums counts bytes.now }
     {
         DatumsView { bytes, counts }
+    }
+
+    /// How many fixed datum records there are.
+    #[tactic(auto, using(crate::proofs::Lists::fixed_count))]
+    pub fn fixed_count(&self) -> u32
+        ensures { result ≡ length self.now.fixed }
+    {
+        u32_at(self.bytes, self.counts)
+    }
+
+    /// How many variable datum records there are.
+    #[tactic(auto, using(crate::proofs::Lists::variable_count))]
+    pub fn variable_count(&self) -> u32
+        ensures { result ≡ length self.now.variable }
+    {
+        u32_at(self.bytes, self.counts + 4)
     }
 
     /// The fixed datum records, in order.
@@ -84,6 +100,22 @@ impl<'a> IdsView<'a> {
         ensures { result ≡ shown_ids counts bytes.now }
     {
         IdsView { bytes, counts }
+    }
+
+    /// How many identifiers of fixed datums there are.
+    #[tactic(auto, using(crate::proofs::Lists::fixed_id_count))]
+    pub fn fixed_count(&self) -> u32
+        ensures { result ≡ length self.now.fixed }
+    {
+        u32_at(self.bytes, self.counts)
+    }
+
+    /// How many identifiers of variable datums there are.
+    #[tactic(auto, using(crate::proofs::Lists::variable_id_count))]
+    pub fn variable_count(&self) -> u32
+        ensures { result ≡ length self.now.variable }
+    {
+        u32_at(self.bytes, self.counts + 4)
     }
 
     /// The identifiers of fixed datums, in order.

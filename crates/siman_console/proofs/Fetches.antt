@@ -1,8 +1,7 @@
 -- What was fetched of a reader, and that what is made of it depends on no more.
-use Rattle.std.proofs.Common.{◌≡◌, ℕ, ◌+◌, ◌<◌, ◌≤◌, List, [], ◌++◌, Option, Some, None, Err, nat_lt, length, take, IfSome, if◌then◌else◌, arith, sym, ap, subst, ◌∙◌, inl, inr, take_all}
+use Rattle.std.proofs.Common.{◌≡◌, ℕ, ◌+◌, ◌<◌, List, Option, Some, None, Err, nat_lt, length, take, IfSome, if◌then◌else◌, arith, sym, ap, subst, ◌∙◌, inl, inr, take_all}
 use Rattle.std.proofs.lemmas.Bool.{cases_lt}
 use Rattle.std.proofs.lemmas.Bool.Decides.{nat_tests}
-use Rattle.std.proofs.lemmas.Grind.{common_steps}
 use Rattle.std.proofs.lemmas.List.{length-take-le}
 use Rattle.siman_worlds.specs.declared.script.TheConstants.{LARGEST_SCRIPT}
 use Rattle.siman_worlds.specs.declared.script_fault.ScriptFault.TheVariants.{BadLine}

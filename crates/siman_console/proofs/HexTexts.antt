@@ -1,13 +1,12 @@
 -- Hex text that a datagram or a word was written as.
 use Rattle.std.proofs.Common.{◌≡◌, ℕ, ◌<◌, ◌≤◌, List, [], ◌∷◌, nat_lt, length, Some, None, if◌then◌else◌, refl, arith, ap, ◌∙◌}
 use Rattle.std.proofs.lemmas.Bool.Decides.{nat_tests}
-use Rattle.std.proofs.lemmas.Grind.{common_steps}
 use Rattle.std.specs.Result.{result_ok}
 use Rattle.siman_console.specs.declared.hex_text.TheConstants.{LONGEST_HEX}
 use Rattle.hex.specs.Hex.{IsBytes, encode_lower, lower_digits, decode_of}
 use Rattle.hex.proofs.HexLemmas.{decode_of-encode_lower, length-encode_with}
 use Rattle.siman_console.specs.HexText.{bytes_of}
-use Rattle.siman_console.specs.Answer.{not_byte_pairs, answer_to, said_of_bytes, said_of_hex}
+use Rattle.siman_console.specs.Answer.{answer_to, said_of_bytes, said_of_hex}
 use Rattle.siman_console.specs.Lines.{told_of_said, told_of_line}
 
 -- a test that fails

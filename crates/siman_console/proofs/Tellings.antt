@@ -1,8 +1,8 @@
 -- What is told of lines, one after the other.
-use Rattle.std.proofs.Common.{◌≡◌, ◌≢◌, ◌⊎◌, ℕ, zero, suc, ◌+◌, ◌<◌, ◌≤◌, max, List, [], ◌∷◌, ◌++◌, length, take, nat_lt, if◌then◌else◌, Option, Some, None, Result, Ok, Err, refl, sym, ap, ◌∙◌, subst, inl, inr, arith, append_assoc, append-nil, length-append, length-take-le, take_all}
+use Rattle.std.proofs.Common.{◌≡◌, ◌≢◌, ℕ, suc, ◌+◌, ◌<◌, max, List, [], ◌∷◌, ◌++◌, length, take, nat_lt, if◌then◌else◌, Option, Some, None, Result, Ok, Err, refl, sym, ap, ◌∙◌, subst, inl, inr, arith, append_assoc, append-nil, length-append, length-take-le, take_all}
 use Rattle.std.specs.Prelude.{IfSome}
 use Rattle.std.specs.Result.{IsErrAnd}
-use Rattle.std.specs.Io.KnownBytes.{Appends, Consumes, Keeps, IsAtEnd}
+use Rattle.std.specs.Io.KnownBytes.{Appends, Keeps, IsAtEnd}
 use Rattle.std.proofs.KnownBytes.{Appends-trans, Appends-kept, Appends-nil, Keeps-refl}
 use Rattle.std.proofs.lemmas.Bool.{cases_lt}
 use Rattle.std.proofs.lemmas.Bool.Decides.{nat_tests}
@@ -21,7 +21,7 @@ use Rattle.siman_console.specs.declared.lines.Stop.{Stop}
 use Rattle.siman_console.specs.declared.lines.Stop.TheVariants as stops
 use Rattle.siman_console.specs.Answer.{not_byte_pairs, said_of_reading, said_of_bytes, said_of_hex, IsSaid}
 use Rattle.siman_console.specs.HexText.{bytes_of}
-use Rattle.siman_console.specs.Lines.{Told, untold, and_then, told_of_said, told_of_line, told_of, IsWritten, WritesTorn, OfFirst, StopsAfter, TellsLines, TellsBad, TellsLine, ReadsLine, ReadsLines, HoldsLine, EndsLines}
+use Rattle.siman_console.specs.Lines.{Told, untold, and_then, told_of_said, told_of_line, told_of, IsWritten, WritesTorn, StopsAfter, TellsLines, TellsBad, TellsLine, ReadsLine, ReadsLines, HoldsLine, EndsLines}
 use Rattle.siman_console.specs.Outcome.{Stream, Outcome}
 
 -- ---- what is told

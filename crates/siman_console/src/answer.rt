@@ -8,7 +8,7 @@ ghost use Rattle.siman_console.specs.Answer.{refusal_line, answer_to, said_of_he
 ghost use Rattle.siman_console.specs.Lines.{told_of_said, told_of_line};
 
 use crate::records::pdu_lines;
-use siman_pdus::{PduFault, decode, spellings_are_apart};
+use siman_pdus::{PduFault, spellings_are_apart, view};
 use std::alloc::{AllocError, Global};
 use std::marker::Model;
 
@@ -50,15 +50,14 @@ impl Answer {
     pub fn to(alloc: Global, datagram: &[u8]) -> Result<Answer, AllocError>
         ensures { IfOk result (λ answer. answer ≡ answer_to datagram.now) }
     {
-        match decode(alloc, datagram) {
+        match view(datagram) {
             Ok(pdu) => Ok(Answer {
                 status: SHOWN,
                 text: pdu_lines(alloc, &pdu)?,
             }),
-            Err(PduFault::Memory) => Err(AllocError),
             Err(fault) => Ok(Answer {
                 status: REFUSED,
-                text: refusal_line(alloc, fault)?,
+                text: refusal_line(alloc, PduFault::from(fault))?,
             }),
         }
     }

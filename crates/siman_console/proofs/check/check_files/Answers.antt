@@ -1,5 +1,5 @@
 -- A recording that was fetched and judged, or could not be fetched, and what may have stood in its place.
-use Rattle.std.proofs.Common.{Option, Some, None, rules, subst}
+use Rattle.std.proofs.Common.{rules, subst}
 use Rattle.std.specs.Prelude.{IfSome, Err}
 use Rattle.exercise_check.specs.Certificate.{certificate_at}
 use Rattle.exercise_check.specs.declared.certificate_fault.CertificateFormatFault.TheVariants as faults

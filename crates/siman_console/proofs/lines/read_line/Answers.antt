@@ -1,6 +1,5 @@
 -- A byte is read, or there is none.
-use Rattle.std.proofs.Common.{◌≡◌, ◌≢◌, ◌<◌, get_or, length, rules, arith}
-use Rattle.std.specs.Io.KnownBytes.{Consumes}
+use Rattle.std.proofs.Common.{◌≡◌, ◌≢◌, ◌<◌, get_or, rules, arith}
 use Rattle.siman_console.proofs.LineReadings.{so_far-same, one_byte, byte-held, byte-past, line-ended, line-last, no-line}
 use Rattle.siman_console.proofs.lines.read_line.Goals as goal
 use Rattle.siman_console.proofs.lines.read_line.Goals.{then-held-buffer, else-held-buffer}

@@ -1,5 +1,5 @@
 -- A line that is bad, or that was not told whole.
-use Rattle.std.proofs.Common.{◌≡◌, ◌<◌, Err, length, rules, arith, subst}
+use Rattle.std.proofs.Common.{◌<◌, Err, length, rules, subst}
 use Rattle.siman_console.specs.declared.fault.Fault.TheVariants.{NotBytePairs}
 use Rattle.siman_console.specs.Answer.{said_of_hex, IsSaid}
 use Rattle.siman_console.proofs.Tellings.{line-bad, line-stopped}

@@ -1,7 +1,6 @@
 -- One line after the other is read and told.
-use Rattle.std.proofs.Common.{◌≡◌, ◌+◌, ℕ, List, Ok, Err, length, take, refl, rules, arith, subst, sym}
+use Rattle.std.proofs.Common.{◌≡◌, ◌+◌, Ok, Err, length, take, refl, arith, subst}
 use Rattle.siman_console.specs.declared.hex_text.TheConstants.{LONGEST_HEX}
-use Rattle.siman_console.specs.declared.lines.Stop.{Stop}
 use Rattle.siman_console.specs.Lines.{HoldsLine, ReadsNext}
 use Rattle.siman_console.proofs.Tellings.{stream, line-held, err_known, err_some, told-none, told-more, told-short, told-short-some}
 use Rattle.siman_console.proofs.lines.tell_lines.Goals as goal

@@ -1,5 +1,5 @@
 -- A recording that was fetched and shown, or could not be fetched, and what may have stood in its place.
-use Rattle.std.proofs.Common.{Err, rules, subst}
+use Rattle.std.proofs.Common.{rules, subst}
 use Rattle.exercise_recording.specs.Reading.{recording_at}
 use Rattle.siman_console.specs.declared.show.TheConstants.{LARGEST_RECORDING}
 use Rattle.siman_console.specs.Show.{Shows}

@@ -4,6 +4,7 @@ mod Columns
 mod Changed
 mod Judged
 mod Orders
+mod FirstSenders
 mod Goodness
 mod Courses
 mod Counted

@@ -1,11 +1,12 @@
 -- The order that steps name, one step after another.
 use Rattle.std.proofs.Common.{◌≡◌, ℕ, ◌+◌, ◌<◌, ◌≤◌, List, [], ◌∷◌, ◌++◌, length, take, drop, cond, Option, Some, None, true, false, refl, sym, ap, ◌∙◌, append_assoc, append-nil}
-use Rattle.std.specs.Prelude.{slice_get, slice_index_or, option_and_then, is_some, nat_eq, ◌==◌, ◌||◌, if◌then◌else◌}
-use Rattle.std.specs.Option.{option_map_or, option_to_list}
+use Rattle.std.specs.Prelude.{IfSome, slice_get, slice_index_or, option_and_then, is_some, nat_eq, ◌==◌, ◌||◌, if◌then◌else◌}
+use Rattle.std.specs.Option.{option_map_or, option_or, option_to_list}
 use Rattle.std.specs.List.{list_any}
 use Rattle.std.proofs.Math.Numerals.{add-one}
 use Rattle.std.proofs.Math.Nat.{add-zero}
 use Rattle.std.proofs.lemmas.List.{take_more, drop_more, drop_all}
+use Rattle.std.proofs.lemmas.Option.{slice_get_within}
 use Rattle.std.proofs.lemmas.List.Folds.{list_any-append}
 use Rattle.std.proofs.Math.Bool.{or-false, or-true}
 use Rattle.exercise_model.specs.Entry.{Entry}
@@ -115,6 +116,34 @@ first_sender-all es b steps k past = ap (first_sender es b) (drop_all k steps pa
 pub first_sender-none : (es : List Entry) (b : List ℕ) → first_sender es b [] ≡ None
 unfolding first_sender
 first_sender-none es b = refl
+
+-- one step more sends a datagram first where none before does
+pub first_sender-snoc : (es : List Entry) (b : List ℕ) (steps : List Step) (step : Step)
+    → first_sender es b (steps ++ step ∷ []) ≡ option_or (first_sender es b steps)
+    (if option_map_or (λ e. sends b (event_of e)) (slice_get es step.place) false then Some step.place else None)
+unfolding first_sender
+first_sender-snoc es b [] step = refl
+first_sender-snoc es b (s ∷ steps) step =
+    elim (option_map_or (λ e. sends b (event_of e)) (slice_get es s.place) false) as (λ t. cond t (Some s.place) (first_sender es b (steps ++ step ∷ []))
+    ≡ option_or (cond t (Some s.place) (first_sender es b steps))
+    (if option_map_or (λ e. sends b (event_of e)) (slice_get es step.place) false then Some step.place else None)) [
+      | true ↦ refl
+      | false ↦ first_sender-snoc es b steps step
+    ]
+
+-- who sent first is an entry
+pub sender_within : (es : List Entry) (b : List ℕ) (steps : List Step) → IfSome (first_sender es b steps) (λ e. e < length es)
+unfolding first_sender
+sender_within es b [] = tt
+sender_within es b (s ∷ steps) =
+    elim (slice_get es s.place) as (λ o. slice_get es s.place ≡ o
+    → IfSome (if option_map_or (λ e. sends b (event_of e)) o false then Some s.place else first_sender es b steps) (λ e. e < length es)) [
+      | None ↦ λ _. sender_within es b steps
+      | Some e ↦ λ at. elim (sends b (event_of e)) as (λ t. IfSome (if t then Some s.place else first_sender es b steps) (λ e. e < length es)) [
+        | true ↦ slice_get_within es s.place e at
+        | false ↦ sender_within es b steps
+      ]
+    ] refl
 
 is_some-first : (es : List Entry) (b : List ℕ) (step : Step) (o : Option ℕ)
     → is_some (if option_map_or (λ e. sends b (event_of e)) (slice_get es step.place) false then Some step.place else o) ≡

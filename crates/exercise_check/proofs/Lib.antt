@@ -5,6 +5,7 @@ mod Changed
 mod Judged
 mod Orders
 mod FirstSenders
+mod Reused
 mod Goodness
 mod Courses
 mod Counted

@@ -28,6 +28,7 @@ mod key;
 mod laws;
 mod link;
 mod order;
+mod requests;
 mod senders;
 mod state;
 mod tables;

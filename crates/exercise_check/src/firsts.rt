@@ -4,9 +4,9 @@ ghost use Rattle.std.specs.Prelude.{◌≡◌, ◌<◌, ◌≤◌, ◌+◌, leng
 ghost use Rattle.std.specs.Option.{option_or, option_map_or};
 ghost use Rattle.indexmap.specs.IndexMap.{get};
 ghost use Rattle.exercise_check.specs.declared.key.Key.{Key};
-ghost use Rattle.exercise_check.specs.Firsts.{same_key, first_under, AreFirsts};
+ghost use Rattle.exercise_check.specs.Firsts.{same_key, key_at, first_under, AreFirsts};
 
-use crate::key::{Key, key_at};
+use crate::key::Key;
 use exercise_model::ExerciseLog;
 use indexmap::IndexMap;
 use std::alloc::{AllocError, Global};
@@ -35,20 +35,22 @@ fn note(firsts: &mut Firsts, key: Option<Key>, entry: u32) -> Result<(), AllocEr
     Ok(())
 }
 
-/// Keeps the next entry of a log.
+/// Keeps the next entry of a log, which has this key.
 #[tactic(auto, unfolding(crate::specs::Firsts::first_under), using(exercise_model::proofs::Offered::account_steps))]
 pub(crate) fn note_entry<L: ExerciseLog>(
     firsts: &mut Firsts,
     log: &L,
     entry: usize,
+    key: Option<Key>,
 ) -> Result<(), AllocError>
     requires within { entry < length (L.recording log.now).entries }
+    requires key { key ≡ key_at (L.recording log.now) entry }
     requires tied { AreFirsts (L.recording log.now) entry firsts.old }
     ensures { OnOk result (AreFirsts (L.recording log.now) (entry + 1) firsts.new) }
 {
     // To count the entries shows that the recording keeps its limits.
     let _entries = log.entry_count();
-    note(firsts, key_at(log, entry), entry as u32)
+    note(firsts, key, entry as u32)
 }
 
 /// The first entry under a key.

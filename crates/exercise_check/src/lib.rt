@@ -24,6 +24,7 @@ mod course;
 mod exchange;
 mod findings;
 mod firsts;
+mod found;
 mod key;
 mod laws;
 mod link;

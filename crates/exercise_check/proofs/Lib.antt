@@ -6,6 +6,7 @@ mod Judged
 mod Orders
 mod FirstSenders
 mod Reused
+mod Looks
 mod Goodness
 mod Courses
 mod Counted

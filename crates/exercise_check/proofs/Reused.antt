@@ -13,6 +13,7 @@ use Rattle.siman_pdus.specs.Role.{is_request_body, request_id_of}
 use Rattle.siman_pdus.specs.Answers.{same_id}
 use Rattle.siman_pdus.specs.Same.{IsSameOrder, is_same_order}
 use Rattle.siman_pdus.proofs.Offered.{order_decides}
+use Rattle.exercise_model.specs.Entry.{Entry}
 use Rattle.exercise_model.specs.Recording.{PlainRecording}
 use Rattle.exercise_model.specs.History.{Event, Send, Get, Tell, event_of}
 use Rattle.exercise_model.specs.Meaning.{meaning}
@@ -516,3 +517,17 @@ either_test a m n = ⊎_elim (λ e. ap (λ b. b || nat_eq m n) e) (λ e. ap (λ 
 pub written_twice : {X : Type 0} (b : Bool) (u v w : X) → cond b u (cond b v w) ≡ cond b u w
 written_twice true u v w = refl
 written_twice false u v w = refl
+
+-- an entry that is no Send of a PDU
+pub requests_pass : (r : PlainRecording) (n : ℕ) (e : Entry) (requests : Requests) → slice_get r.entries n ≡ Some e
+    → ((k : Identifier) → request_by r k (event_of e) ≡ None) → AreRequests r n requests → AreRequests r (n + 1) requests
+unfolding request_at
+requests_pass r n e requests at none tied k =
+    tied k ∙ sym (kept_still r k n (ap (option_and_then (λ e. request_by r k (event_of e))) at ∙ none k)) ∙ ap (kept_under r k) (sym (add-one n))
+
+pub other_unasked : (r : PlainRecording) (s : ℕ) (b : List ℕ) → meaning r.setting.exercise b ≡ None → (k : Identifier) → request_by r k (Send s b) ≡ None
+other_unasked r s b other k = ap (option_and_then (request_under k s)) other
+
+-- before the first entry
+pub none_kept : (r : PlainRecording) (requests : Requests) → ((k : Identifier) → get same_identifier requests k ≡ None) → AreRequests r 0 requests
+none_kept r requests none k = none k ∙ sym (ap (option_map (kept_of r k 0)) (first_none r k))

@@ -1,4 +1,3 @@
-mod Sent
 mod Keyed
 mod Columns
 mod Changed

@@ -32,6 +32,7 @@ mod order;
 mod requests;
 mod senders;
 mod state;
+mod table;
 mod tables;
 
 pub use certificate::{Certificate, NO_LINK, Step};

@@ -1,6 +1,6 @@
 //! The requests that each station sends under each request identifier, kept in a table.
 
-ghost use Rattle.std.specs.Prelude.{◌≡◌, ◌<◌, ◌+◌, ◌&&◌, not, true, length, option_map, option_and_then, OnOk, IfOk, None, Some, false, if◌then◌else◌, unwrap_or};
+ghost use Rattle.std.specs.Prelude.{◌≡◌, ◌<◌, ◌+◌, ◌&&◌, not, true, length, option_map, option_and_then, OnOk, IfOk, None, Some, false, if◌then◌else◌};
 ghost use Rattle.std.specs.Option.{option_map_or};
 ghost use Rattle.siman_pdus.specs.Reading.{pdu_of};
 ghost use Rattle.siman_pdus.specs.Role.{is_request_body};
@@ -14,11 +14,11 @@ ghost use Rattle.exercise_check.specs.declared.requests.Kept.{Kept};
 ghost use Rattle.exercise_check.specs.Requests.{same_identifier, identifier_of, AreRequests, IsSendOf};
 
 use crate::change::sent_by;
+use crate::table::{Table, keep_first};
 use exercise_model::ExerciseLog;
-use indexmap::IndexMap;
 use siman_pdus::{PduView, is_request, request_id, same_order};
 use std::alloc::{AllocError, Global};
-use std::hash::{BuildHasherDefault, DefaultHasher};
+use std::hash::BuildHasherDefault;
 
 /// What the requests of one station have in common that are looked up together.
 #[derive(Clone, Copy, Debug, PartialEq, Eq, Hash)]
@@ -38,9 +38,8 @@ pub(crate) struct Kept {
     pub mixed: bool,
 }
 
-/// What is kept under each identifier. The identifiers come from a recording, whose writer may be a
-/// stranger, so the hasher is one for which nobody writes down keys that fall together.
-pub(crate) type Requests = IndexMap<Identifier, Kept, BuildHasherDefault<DefaultHasher>>;
+/// What is kept under each identifier.
+pub(crate) type Requests = Table<Identifier, Kept>;
 
 /// No requests. It takes no memory.
 pub(crate) fn no_requests(alloc: Global) -> Requests
@@ -60,21 +59,6 @@ fn identifier_of(station: u16, pdu: &PduView<'_>) -> Option<Identifier>
         Some(request) => Some(Identifier { station, request }),
         None => None,
     }
-}
-
-/// What is kept under an identifier, once this entry is kept as its first where none is.
-fn keep_first(
-    requests: &mut Requests,
-    identifier: Identifier,
-    entry: u32,
-) -> Result<Kept, AllocError>
-    ensures kept { IfOk result (λ kept. kept ≡ unwrap_or (get same_identifier requests.old identifier) (record { first = entry; mixed = false })) }
-    ensures noted { IfOk result (λ kept. (k : Identifier) → get same_identifier requests.new k ≡ (if same_identifier identifier k then Some kept else get same_identifier requests.old k)) }
-{
-    Ok(*requests.entry(identifier)?.or_insert(Kept {
-        first: entry,
-        mixed: false,
-    }))
 }
 
 /// Keeps that one of the requests under an identifier is another order than the first.
@@ -116,7 +100,11 @@ pub(crate) fn note_request<L: ExerciseLog>(
     let Some(identifier) = identifier_of(station, pdu) else {
         return Ok(false);
     };
-    let kept = keep_first(requests, identifier, entry as u32)?;
+    let only = Kept {
+        first: entry as u32,
+        mixed: false,
+    };
+    let kept = keep_first(requests, identifier, only)?;
     let first = kept.first as usize;
     if kept.mixed || first == entry {
         return Ok(kept.mixed);

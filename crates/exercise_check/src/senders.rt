@@ -1,6 +1,6 @@
 //! Who sent a datagram first, kept in a table under the datagram's bytes.
 
-ghost use Rattle.std.specs.Prelude.{◌≡◌, ◌<◌, ◌++◌, ◌∷◌, [], ℕ, List, None, Some, length, OnOk, OnErr, if◌then◌else◌, unwrap_or, bytes_eq};
+ghost use Rattle.std.specs.Prelude.{◌≡◌, ◌<◌, ◌++◌, ◌∷◌, [], ℕ, List, None, length, OnOk, OnErr, bytes_eq};
 ghost use Rattle.std.specs.Cmp.Rules.{comparing, hashing};
 ghost use Rattle.std.specs.Cmp.Lexicographic.{bytes_decides};
 ghost use Rattle.std.proofs.Common.{ap};
@@ -12,10 +12,10 @@ ghost use Rattle.exercise_check.specs.Order.{first_sender};
 ghost use Rattle.exercise_check.specs.Senders.{same_datagram, AreSenders};
 ghost use borrow.Author.Rules.{rules};
 
+use crate::table::{Table, keep_first};
 use exercise_model::{EntryView, ExerciseLog};
-use indexmap::IndexMap;
 use std::alloc::{AllocError, Global};
-use std::hash::{BuildHasherDefault, DefaultHasher, Hash, Hasher};
+use std::hash::{BuildHasherDefault, Hash, Hasher};
 
 /// The bytes of a datagram where they lie, as a key: two are the same where their bytes are. They
 /// are hashed in one write.
@@ -49,28 +49,14 @@ impl<'a> Hash for Datagram<'a> {
     }
 }
 
-/// The first entry that sent each datagram. The datagrams come from a recording, whose writer may be
-/// a stranger, so the hasher is one for which nobody writes down keys that fall together.
-pub(crate) type Senders<'a> = IndexMap<Datagram<'a>, u32, BuildHasherDefault<DefaultHasher>>;
+/// The first entry that sent each datagram.
+pub(crate) type Senders<'a> = Table<Datagram<'a>, u32>;
 
 /// No datagrams. It takes no memory.
 pub(crate) fn no_senders<'a>(alloc: Global) -> Senders<'a>
     ensures { (d : Datagram) → get same_datagram result d ≡ None }
 {
     Senders::with_hasher(alloc, BuildHasherDefault::default())
-}
-
-/// Keeps who sent a datagram, if nobody did before.
-fn note<'a>(
-    senders: &mut Senders<'a>,
-    datagram: Datagram<'a>,
-    place: u32,
-) -> Result<(), AllocError>
-    ensures noted { OnOk result ((d : Datagram) → get same_datagram senders.new d ≡ (if same_datagram datagram.entry d then Some (unwrap_or (get same_datagram senders.old datagram.entry) place) else get same_datagram senders.old d)) }
-    ensures failed { OnErr result (IsUnchanged senders.old senders.new) }
-{
-    senders.entry(datagram)?.or_insert(place);
-    Ok(())
 }
 
 /// Keeps what the entry of a step that is taken sends.
@@ -86,7 +72,10 @@ pub(crate) fn note_sender<'a, L: ExerciseLog>(
     // To count the entries shows that the recording keeps its limits.
     let _entries = log.entry_count();
     match log.entry(place) {
-        EntryView::Sent { bytes, .. } => note(senders, Datagram { bytes }, place as u32),
+        EntryView::Sent { bytes, .. } => {
+            keep_first(senders, Datagram { bytes }, place as u32)?;
+            Ok(())
+        }
         EntryView::Received { .. } | EntryView::Told { .. } => Ok(()),
     }
 }

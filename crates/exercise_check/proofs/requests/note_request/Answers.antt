@@ -32,7 +32,7 @@ returns-then-kept-clause-tied g c =
     c.in_ok-kept.ensures.kept ∙ ap (λ o. unwrap_or o (record { first = n; mixed = false })) (c.requires.tied k) in
     let all = settled r k n q c.in_ok-kept.kept (request_own r n c.args.station q k c.requires.sends is) first
     (either_test c.in_ok-kept.kept.mixed c.in_ok-kept.kept.first n c.then-kept.either) in
-    requests_more r n c.args.station q k c.in_ok-kept.kept c.args.requests.now c.keep_first.new.requests c.requires.sends is all.after
+    requests_more r n c.args.station q k c.in_ok-kept.kept c.args.requests.now c.keep_first.new.table c.requires.sends is all.after
     c.in_ok-kept.ensures.noted c.requires.tied
 
 pub returns-then-kept-clause-reused : goal.returns-then-kept-clause-reused
@@ -126,7 +126,7 @@ returns-else-reused-clause-tied g c =
     let reused : told ≡ is_reused r.setting.exercise q (log_before r k.station n) = differs
     ∙ ap (λ t. option_map_or (λ p. not (is_same_order q p)) (option_and_then (meant_by_send r.setting.exercise) (own_event r t kept.first)) false)
     (c.from.ensures ∙ sym (identified c.args.station q k is).1) ∙ all.reused in
-    requests_more r n c.args.station q k kept c.args.requests.now c.keep_first.new.requests c.requires.sends is
+    requests_more r n c.args.station q k kept c.args.requests.now c.keep_first.new.table c.requires.sends is
     (all.after ∙ ap (λ (b : Bool). Some (record { first = kept.first; mixed = b })) (sym reused ∙ c.if-reused.false ∙ sym c.if-kept.false))
     c.in_ok-kept.ensures.noted c.requires.tied
 

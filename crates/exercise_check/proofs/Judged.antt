@@ -4,12 +4,11 @@ use Rattle.std.specs.Prelude.{option_and_then, IfSome, not, ◌&&◌}
 use Rattle.std.proofs.lemmas.Option.{same_Some}
 use Rattle.siman_pdus.specs.declared.pdu.Pdu.{Pdu}
 use Rattle.exercise_model.specs.Recording.{PlainRecording}
-use Rattle.exercise_model.specs.Setting.{SettingData, station_in, is_recorded}
-use Rattle.exercise_model.specs.History.{Event, Send, Get, Tell, History, log_at, station_at}
+use Rattle.exercise_model.specs.Setting.{SettingData, is_recorded}
+use Rattle.exercise_model.specs.History.{Send, Get, Tell, History, station_at}
 use Rattle.exercise_model.specs.Meaning.{meaning}
 use Rattle.exercise_model.specs.State.{state_after}
 use Rattle.exercise_model.specs.Cause.{send_cause, get_cause, was_sent, tell_rows, first_cause, cause_of}
-use Rattle.exercise_model.specs.Place.{log_before}
 use Rattle.exercise_model.specs.Account.{pair_of_sent}
 use Rattle.exercise_model.specs.declared.cause.Cause.{Cause}
 use Rattle.exercise_model.specs.declared.cause.Cause.TheVariants.{Stranger, NeverSent}

@@ -1,5 +1,5 @@
 -- What is looked up under a key is what a look through the log finds.
-use Rattle.std.proofs.Common.{◌≡◌, ℕ, zero, suc, ◌+◌, ◌<◌, ◌≤◌, List, [], ◌∷◌, length, cond, Option, Some, None, Bool, true, false, refl, sym, ap, ◌∙◌, subst, arith}
+use Rattle.std.proofs.Common.{◌≡◌, ℕ, zero, suc, ◌+◌, ◌<◌, ◌∷◌, length, cond, Option, Some, None, Bool, true, false, refl, sym, ap, ◌∙◌, subst, arith}
 use Rattle.std.specs.Prelude.{IfSome, ◌≢◌, is_some, slice_get, nat_eq, ◌&&◌, ◌||◌, option_map, option_and_then, unwrap_or, if◌then◌else◌}
 use Rattle.std.specs.Option.{option_map_or, option_or}
 use Rattle.std.specs.List.{list_any}
@@ -16,7 +16,7 @@ use Rattle.siman_pdus.specs.Role.{is_request_body, request_id_of}
 use Rattle.siman_pdus.specs.Answers.{same_id, same_pair}
 use Rattle.exercise_model.specs.declared.acknowledge.AcknowledgeKey.{AcknowledgeKey}
 use Rattle.exercise_model.specs.Recording.{PlainRecording}
-use Rattle.exercise_model.specs.History.{Event, Send, Get, Tell, History, event_of, station_at}
+use Rattle.exercise_model.specs.History.{Event, Send, Get, Tell, event_of, station_at}
 use Rattle.exercise_model.specs.Meaning.{meaning}
 use Rattle.exercise_model.specs.Exchange.{is_asked, request_brought, request_taken_up}
 use Rattle.exercise_model.specs.Change.{able, unable, responds, response_of, key_of, responds_under, sends_under, was_acknowledged}
@@ -444,8 +444,19 @@ key_decides : (k l : Key) → Decides (same_key k l) (k ≡ l)
 key_decides k l =
     Decides-like (same_key k l)
     (λ p. key_fields k l p.0 p.1.0 p.1.1.0 p.1.1.1.0 p.1.1.1.1.0 p.1.1.1.1.1.0 p.1.1.1.1.1.1.0 p.1.1.1.1.1.1.1)
-    (λ e. (ap (λ (x : Key). x.role) e, (ap (λ (x : Key). x.response) e, (ap (λ (x : Key). x.station) e, (ap (λ (x : Key). x.flag) e,
-    (ap (λ (x : Key). x.request) e, (ap (λ (x : Key). x.site) e, (ap (λ (x : Key). x.application) e, ap (λ (x : Key). x.entity) e))))))))
+    (λ e. (
+      ap (λ (x : Key). x.role) e,
+      (
+        ap (λ (x : Key). x.response) e,
+        (
+          ap (λ (x : Key). x.station) e,
+          (
+            ap (λ (x : Key). x.flag) e,
+            (ap (λ (x : Key). x.request) e, (ap (λ (x : Key). x.site) e, (ap (λ (x : Key). x.application) e, ap (λ (x : Key). x.entity) e))),
+          ),
+        ),
+      ),
+    ))
     (number_and k.role l.role _ _ (number_and k.response l.response _ _ (number_and k.station l.station _ _ (number_and k.flag l.flag _ _
     (number_and k.request l.request _ _ (number_and k.site l.site _ _ (number_and k.application l.application _ _ (Decides-eqb k.entity l.entity))))))))
 

@@ -1,11 +1,11 @@
 -- The order that steps name, one step after another.
-use Rattle.std.proofs.Common.{◌≡◌, ℕ, ◌+◌, ◌<◌, ◌≤◌, List, [], ◌∷◌, ◌++◌, length, take, drop, cond, Option, Some, None, true, false, refl, sym, ap, ◌∙◌, append_assoc, append-nil}
+use Rattle.std.proofs.Common.{◌≡◌, ℕ, ◌+◌, ◌<◌, List, [], ◌∷◌, ◌++◌, length, take, cond, Option, Some, None, true, false, refl, sym, ap, ◌∙◌, append_assoc, append-nil}
 use Rattle.std.specs.Prelude.{IfSome, slice_get, slice_index_or, option_and_then, is_some, nat_eq, ◌==◌, ◌||◌, if◌then◌else◌}
 use Rattle.std.specs.Option.{option_map_or, option_or, option_to_list}
 use Rattle.std.specs.List.{list_any}
 use Rattle.std.proofs.Math.Numerals.{add-one}
 use Rattle.std.proofs.Math.Nat.{add-zero}
-use Rattle.std.proofs.lemmas.List.{take_more, drop_more, drop_all}
+use Rattle.std.proofs.lemmas.List.{take_more}
 use Rattle.std.proofs.lemmas.Option.{slice_get_within}
 use Rattle.std.proofs.lemmas.List.Folds.{list_any-append}
 use Rattle.std.proofs.Math.Bool.{or-false, or-true}
@@ -102,17 +102,7 @@ length-entries-more r s i =
 pub length-entries-none : (r : PlainRecording) (s : ℕ) → length (log_before r s 0) ≡ 0
 length-entries-none r s = ap length (log_before-none r s)
 
--- the first sender among what is left
-pub first_sender-drop : (es : List Entry) (b : List ℕ) (steps : List Step) (k : ℕ) → k < length steps
-    → first_sender es b (drop k steps) ≡ (if option_map_or (λ e. sends b (event_of e)) (slice_get es (slice_index_or steps k no_step).place) false then Some
-    (slice_index_or steps k no_step).place else first_sender es b (drop (k + 1) steps))
-unfolding first_sender
-first_sender-drop es b steps k within = ap (first_sender es b) (drop_more steps k no_step within)
-
-pub first_sender-all : (es : List Entry) (b : List ℕ) (steps : List Step) (k : ℕ) → length steps ≤ k → first_sender es b (drop k steps) ≡ None
-unfolding first_sender
-first_sender-all es b steps k past = ap (first_sender es b) (drop_all k steps past)
-
+-- before the first step nobody sent anything
 pub first_sender-none : (es : List Entry) (b : List ℕ) → first_sender es b [] ≡ None
 unfolding first_sender
 first_sender-none es b = refl
@@ -175,6 +165,4 @@ pub is_some-first_sender : (r : PlainRecording) (b : List ℕ) (steps : List Ste
 unfolding was_sent order_of
 is_some-first_sender r b steps = sender_along r.entries b steps
 
-pub ruleset order_steps = (length-steps-more, length-steps-none, length-entries-more, length-entries-none, first_sender-drop, first_sender-all, first_sender-none)
-
-pub ruleset sender_steps = (is_some-first_sender)
+pub ruleset order_steps = (length-steps-more, length-steps-none, length-entries-more, length-entries-none)

@@ -1,6 +1,6 @@
 -- Whether a request identifier was used for another order, by its first request.
-use Rattle.std.proofs.Common.{◌≡◌, ℕ, zero, suc, ◌+◌, ◌<◌, ◌≤◌, List, [], ◌∷◌, cond, Option, Some, None, Bool, true, false, refl, sym, ap, ◌∙◌, subst, ⊎_elim, arith}
-use Rattle.std.specs.Prelude.{◌⊎◌, is_some, not, slice_get, nat_eq, nat_lt, ◌&&◌, ◌||◌, ◌==◌, option_map, option_and_then, unwrap_or, if◌then◌else◌}
+use Rattle.std.proofs.Common.{◌≡◌, ℕ, zero, suc, ◌+◌, ◌<◌, ◌≤◌, List, ◌∷◌, cond, Option, Some, None, Bool, true, false, refl, sym, ap, ◌∙◌, subst, ⊎_elim, arith}
+use Rattle.std.specs.Prelude.{◌⊎◌, is_some, not, slice_get, nat_eq, ◌&&◌, ◌||◌, option_map, option_and_then, unwrap_or, if◌then◌else◌}
 use Rattle.std.specs.Option.{option_map_or, option_or}
 use Rattle.std.specs.List.{list_any}
 use Rattle.std.proofs.Math.Numerals.{add-one}

@@ -1,5 +1,5 @@
-use Rattle.std.proofs.Common.{◌≡◌, ℕ, [], length, Some, None, refl, sym, ap, ◌∙◌, subst}
-use Rattle.std.specs.Prelude.{slice_get, option_map}
+use Rattle.std.proofs.Common.{Some, refl, sym, ap, ◌∙◌, subst}
+use Rattle.std.specs.Prelude.{option_map}
 use Rattle.dis_records.specs.Address.{Pair}
 use Rattle.siman_pdus.specs.declared.pdu.Pdu.{Pdu}
 use Rattle.siman_pdus.specs.Reading.{pdu_of}
@@ -10,7 +10,7 @@ use Rattle.exercise_model.specs.Meaning.{meaning}
 use Rattle.exercise_check.specs.declared.found.Found.{Found}
 use Rattle.exercise_check.specs.Firsts.{received_key}
 use Rattle.exercise_check.specs.Tables.{IsFound}
-use Rattle.exercise_check.proofs.Looks.{plain, sent_found, other_sent, received_found, other_received, told_found}
+use Rattle.exercise_check.proofs.Looks.{sent_found, other_sent, received_found, other_received, told_found}
 use Rattle.exercise_check.proofs.Reused.{requests_pass, other_unasked}
 use Rattle.exercise_check.proofs.found.find_at.Goals as goal
 

@@ -1,4 +1,4 @@
-use Rattle.std.proofs.Common.{◌≡◌, ℕ, ◌<◌, length, cond, Some, Bool, true, false, sym, ap, ◌∙◌, arith}
+use Rattle.std.proofs.Common.{◌≡◌, ℕ, cond, Some, Bool, true, false, sym, ap, ◌∙◌, arith}
 use Rattle.std.specs.Prelude.{nat_eq, not, unwrap_or, option_and_then}
 use Rattle.std.specs.Option.{option_map_or}
 use Rattle.indexmap.specs.IndexMap.{get}
@@ -9,8 +9,7 @@ use Rattle.siman_pdus.specs.Same.{is_same_order}
 use Rattle.exercise_model.specs.Place.{own_event, log_before}
 use Rattle.exercise_model.specs.Cause.{is_reused}
 use Rattle.exercise_check.specs.Sent.{meant_by_send}
-use Rattle.exercise_check.specs.Requests.{same_identifier, identifier_of}
-use Rattle.exercise_check.proofs.Columns.{on_ok}
+use Rattle.exercise_check.specs.Requests.{same_identifier}
 use Rattle.exercise_check.specs.declared.requests.Kept.{Kept}
 use Rattle.exercise_check.proofs.Reused.{taken_first, requests_still, requests_more, request_own, settled, unsettled, identified, reused_here, either_test, written_twice}
 use Rattle.exercise_check.proofs.requests.note_request.Goals as goal

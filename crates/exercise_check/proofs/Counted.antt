@@ -1,10 +1,10 @@
 -- How many entries of each station stand before an entry, and how many were taken.
-use Rattle.std.proofs.Common.{◌≡◌, ◌≢◌, ℕ, zero, suc, ◌+◌, ◌<◌, ◌≤◌, List, [], ◌∷◌, ◌++◌, length, cond, Option, Some, None, Bool, true, false, refl, sym, ap, ◌∙◌, ⊎_elim, subst, arith}
+use Rattle.std.proofs.Common.{◌≡◌, ℕ, zero, suc, ◌+◌, ◌<◌, ◌≤◌, List, [], ◌∷◌, ◌++◌, length, cond, Some, None, true, false, refl, sym, ap, ◌∙◌, ⊎_elim, subst, arith}
 use Rattle.std.specs.Prelude.{is_some, slice_get, slice_index_or, nat_eq, ◌==◌, if◌then◌else◌, option_and_then, IfSome}
 use Rattle.std.proofs.Math.Numerals.{add-one}
 use Rattle.exercise_model.specs.Entry.{Entry}
 use Rattle.exercise_model.specs.Recording.{PlainRecording, IsRecording}
-use Rattle.exercise_model.specs.History.{Event, event_of, station_of, log_at, log_of}
+use Rattle.exercise_model.specs.History.{event_of, station_of, log_at}
 use Rattle.exercise_model.specs.Place.{event_at, own_event, log_before}
 use Rattle.exercise_model.proofs.Offered.{beginning_length, log_before-all}
 use Rattle.std.proofs.lemmas.Bool.Decides.{nat_tests}

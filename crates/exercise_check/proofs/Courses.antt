@@ -10,7 +10,7 @@ use Rattle.exercise_model.specs.Entry.{Entry}
 use Rattle.exercise_model.specs.Recording.{PlainRecording, IsRecording}
 use Rattle.exercise_model.specs.Setting.{SettingData, is_recorded}
 use Rattle.exercise_model.specs.History.{Event, History, event_of, station_of, log_at, log_of}
-use Rattle.exercise_model.specs.Cause.{cause_of, get_cause, was_sent}
+use Rattle.exercise_model.specs.Cause.{cause_of, get_cause, was_sent, IsAllowed}
 use Rattle.exercise_model.specs.Place.{log_before, own_event}
 use Rattle.exercise_model.proofs.Offered.{same_beginnings, beginning_length, log_before-all}
 use Rattle.exercise_check.specs.declared.certificate.Step.{Step}
@@ -18,8 +18,9 @@ use Rattle.exercise_check.specs.Order.{order_of, is_next, first_sender, link_of,
 use Rattle.exercise_check.specs.Goodness.{link_cause, event_cause, step_cause, GoodBelow, IsReady}
 use Rattle.exercise_check.specs.declared.course.Progress.{Progress}
 use Rattle.exercise_check.specs.declared.course.Progress.TheVariants.{Taken, Barred}
-use Rattle.exercise_check.specs.declared.cause.Judgement.TheVariants.{Allowed}
+use Rattle.exercise_check.specs.declared.cause.Judgement.TheVariants.{Allowed, Forbidden}
 use Rattle.exercise_check.specs.Course.{CourseData, with_step, IsNext, GoesOn, Judges}
+use Rattle.exercise_check.specs.Tables.{JudgesNext}
 use Rattle.exercise_check.proofs.Goodness.{is_ready, cause_none, good_logs}
 use Rattle.exercise_check.proofs.Orders.{is_some-first_sender}
 
@@ -224,3 +225,34 @@ ordered r steps place next is on =
       | None ↦ λ _. tt
       | Some e ↦ λ here. sym here ∙ on
     ] is
+
+-- what judging the next entry says of going on by it
+
+pub barred_goes : (old : CourseData) (place : ℕ) (cause : Cause) → JudgesNext old.recording old.steps place (Forbidden cause)
+    → IfSome (slice_get old.recording.entries place) (GoesOn old old place (Barred cause))
+barred_goes old place cause =
+    elim (slice_get old.recording.entries place) as (λ o. IfSome o (λ e. Judges (cause_of old.recording.setting (order_of old.recording old.steps) (event_of e))
+    (link_of old.recording old.steps place (event_of e)) (length old.recording.entries) (Forbidden cause)) → IfSome o (GoesOn old old place (Barred cause))) [
+      | None ↦ λ _. tt
+      | Some e ↦ λ is. record { cause_is = is; new_is = refl }
+    ]
+
+pub taken_goes : (old new : CourseData) (place number : ℕ) (link : Option ℕ) → number ≡ link_number link
+    → new ≡ with_step old (record { place = place; link = number }) → JudgesNext old.recording old.steps place (Allowed link)
+    → IfSome (slice_get old.recording.entries place) (GoesOn old new place (Taken number))
+taken_goes old new place number link same step =
+    elim (slice_get old.recording.entries place) as (λ o. IfSome o (λ e. Judges (cause_of old.recording.setting (order_of old.recording old.steps) (event_of e))
+    (link_of old.recording old.steps place (event_of e)) (length old.recording.entries) (Allowed link)) → IfSome o (GoesOn old new place (Taken number))) [
+      | None ↦ λ _. tt
+      | Some e ↦ λ is. record { allowed = is.0; link_is = same ∙ ap link_number is.1; new_is = step }
+    ]
+
+pub allowed_goes : (old : CourseData) (place : ℕ) (link : Option ℕ) → JudgesNext old.recording old.steps place (Allowed link)
+    → IfSome (slice_get old.recording.entries place) (λ e. IsAllowed old.recording.setting (order_of old.recording old.steps) (event_of e))
+allowed_goes old place link =
+    elim (slice_get old.recording.entries place) as (λ o. IfSome o (λ e. Judges (cause_of old.recording.setting (order_of old.recording old.steps) (event_of e))
+    (link_of old.recording old.steps place (event_of e)) (length old.recording.entries) (Allowed link))
+    → IfSome o (λ e. IsAllowed old.recording.setting (order_of old.recording old.steps) (event_of e))) [
+      | None ↦ λ _. tt
+      | Some e ↦ λ is. is.0
+    ]

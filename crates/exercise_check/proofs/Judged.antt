@@ -1,22 +1,27 @@
 -- What a station's log says of its next entry is what the order so far says.
-use Rattle.std.proofs.Common.{◌≡◌, ℕ, List, length, Option, Some, None, refl, sym, ap, ◌∙◌, subst}
-use Rattle.std.specs.Prelude.{option_and_then}
+use Rattle.std.proofs.Common.{◌≡◌, ◌≢◌, ℕ, ◌<◌, List, [], ◌∷◌, length, Option, Some, None, true, false, refl, sym, ap, ◌∙◌, subst}
+use Rattle.std.specs.Prelude.{option_and_then, IfSome, not, ◌&&◌}
+use Rattle.std.proofs.lemmas.Option.{same_Some}
+use Rattle.siman_pdus.specs.declared.pdu.Pdu.{Pdu}
 use Rattle.exercise_model.specs.Recording.{PlainRecording}
-use Rattle.exercise_model.specs.Setting.{station_in}
-use Rattle.exercise_model.specs.History.{Event, Send, Get, Tell, History, log_at, station_at}
+use Rattle.exercise_model.specs.Setting.{SettingData, is_recorded}
+use Rattle.exercise_model.specs.History.{Send, Get, Tell, History, station_at}
 use Rattle.exercise_model.specs.Meaning.{meaning}
 use Rattle.exercise_model.specs.State.{state_after}
-use Rattle.exercise_model.specs.Cause.{send_cause, tell_rows, first_cause, cause_of}
-use Rattle.exercise_model.specs.Place.{log_before}
+use Rattle.exercise_model.specs.Cause.{send_cause, get_cause, was_sent, tell_rows, first_cause, cause_of}
 use Rattle.exercise_model.specs.Account.{pair_of_sent}
 use Rattle.exercise_model.specs.declared.cause.Cause.{Cause}
+use Rattle.exercise_model.specs.declared.cause.Cause.TheVariants.{Stranger, NeverSent}
 use Rattle.dis_records.specs.declared.entity_state.EntityState.{EntityState}
 use Rattle.exercise_check.specs.declared.certificate.Step.{Step}
 use Rattle.exercise_check.specs.declared.cause.Judgement.{Judgement}
-use Rattle.exercise_check.specs.Order.{order_of, link_of}
+use Rattle.exercise_check.specs.declared.cause.Judgement.TheVariants.{Allowed, Forbidden}
+use Rattle.exercise_check.specs.Order.{order_of, first_sender, link_of}
 use Rattle.exercise_check.specs.Goodness.{IsReady}
 use Rattle.exercise_check.specs.Course.{Judges}
-use Rattle.exercise_check.specs.Tables.{JudgesOwn}
+use Rattle.exercise_check.specs.Tables.{JudgesOwn, is_never_sent, is_unsent}
+use Rattle.exercise_check.proofs.Courses.{received_sent, received_unsent, sender_tells}
+use Rattle.exercise_check.proofs.Orders.{sender_within}
 
 pub sent_judged : (r : PlainRecording) (before : List Step) (j s : ℕ) (b : List ℕ) (x : Judgement)
     → IsReady r before j (Send s b) → JudgesOwn r j (Send s b) x
@@ -33,4 +38,102 @@ unfolding cause_of link_of
 told_judged r before j s e y x ready judged =
     subst (λ log. Judges (first_cause (tell_rows y (state_after r.setting.exercise (station_at r s) log e))) None (length r.entries) x) (sym ready) judged
 
-pub ruleset judged_steps = (sent_judged, told_judged)
+-- ---- datagrams that were received
+
+link_other : (r : PlainRecording) (steps : List Step) (place s : ℕ) (b : List ℕ) → meaning r.setting.exercise b ≡ None → link_of r steps place (Get s b) ≡ None
+unfolding link_of
+link_other r steps place s b other = ap (option_and_then (λ (p : Pdu). first_sender r.entries b steps)) other
+
+-- what was never sent, as if nothing had been, means a PDU of a recorded station
+record Unsent (w : SettingData) (b : List ℕ) : Type 0 where
+  pdu : Pdu
+  means : meaning w.exercise b ≡ Some pdu
+  known : is_recorded w pdu ≡ true
+
+unsent : (w : SettingData) (b : List ℕ) (s : ℕ) → cause_of w [] (Get s b) ≡ Some NeverSent → Unsent w b
+unfolding cause_of get_cause was_sent
+unsent w b s =
+    elim (meaning w.exercise b) as (λ o. meaning w.exercise b ≡ o → option_and_then (get_cause w [] b) o ≡ Some NeverSent → Unsent w b) [
+      | None ↦ λ _ h. absurd (cc)
+      | Some p ↦ λ means. elim (is_recorded w p) as (λ k. is_recorded w p ≡ k
+          → first_cause ((not k, Stranger) ∷ (k && not (was_sent b []), NeverSent) ∷ []) ≡ Some NeverSent → Unsent w b) [
+            | false ↦ λ _ h. absurd (cc)
+            | true ↦ λ known _. record { pdu = p; means = means; known = known }
+          ] refl
+    ] refl
+
+-- else what was sent before changes nothing
+received_else : (w : SettingData) (h : History) (b : List ℕ) (s : ℕ) → cause_of w [] (Get s b) ≢ Some NeverSent
+    → cause_of w h (Get s b) ≡ cause_of w [] (Get s b)
+unfolding cause_of get_cause was_sent
+received_else w h b s =
+    elim (meaning w.exercise b) as (λ o. option_and_then (get_cause w [] b) o ≢ Some NeverSent
+    → option_and_then (get_cause w h b) o ≡ option_and_then (get_cause w [] b) o) [
+      | None ↦ λ _. refl
+      | Some p ↦ elim (is_recorded w p) as (λ k. first_cause ((not k, Stranger) ∷ (k && not (was_sent b []), NeverSent) ∷ []) ≢ Some NeverSent
+          → first_cause ((not k, Stranger) ∷ (k && not (was_sent b h), NeverSent) ∷ [])
+          ≡ first_cause ((not k, Stranger) ∷ (k && not (was_sent b []), NeverSent) ∷ [])) [
+            | false ↦ λ _. refl
+            | true ↦ λ n. absurd (n refl)
+          ]
+    ]
+
+-- where nothing speaks against it, it is "other"
+received_other : (w : SettingData) (b : List ℕ) (s : ℕ) → cause_of w [] (Get s b) ≡ None → meaning w.exercise b ≡ None
+unfolding cause_of get_cause was_sent
+received_other w b s =
+    elim (meaning w.exercise b) as (λ o. option_and_then (get_cause w [] b) o ≡ None → o ≡ None) [
+      | None ↦ λ _. refl
+      | Some p ↦ elim (is_recorded w p) as (λ k. first_cause ((not k, Stranger) ∷ (k && not (was_sent b []), NeverSent) ∷ []) ≡ None
+          → Some p ≡ None) [
+            | false ↦ λ h. absurd (cc)
+            | true ↦ λ h. absurd (cc)
+          ]
+    ]
+
+told_unsent : (cause : Option Cause) (entries : ℕ) (alone : Judgement) → is_unsent alone ≡ true → Judges cause None entries alone → cause ≡ Some NeverSent
+told_unsent cause entries (Allowed link) = λ h. absurd (cc)
+told_unsent cause entries (Forbidden given) =
+    elim given as (λ g. is_never_sent g ≡ true → cause ≡ Some g → cause ≡ Some NeverSent) [
+      | NeverSent ↦ λ _ e. e
+      | _ ↦ λ h. absurd (cc)
+    ]
+
+not_unsent : (alone : Judgement) → is_unsent alone ≡ false → alone ≢ Forbidden NeverSent
+not_unsent alone e same = absurd (cc (sym e ∙ ap is_unsent same))
+
+-- a datagram that was sent first by this entry
+pub received_from : (r : PlainRecording) (steps : List Step) (place s : ℕ) (b : List ℕ) (alone : Judgement) (e : ℕ) → Some e ≡ first_sender r.entries b steps
+    → is_unsent alone ≡ true → Judges (cause_of r.setting [] (Get s b)) None (length r.entries) alone
+    → Judges (cause_of r.setting (order_of r steps) (Get s b)) (link_of r steps place (Get s b)) (length r.entries) (Allowed (Some e))
+unfolding cause_of link_of
+received_from r steps place s b alone e is so judged =
+    let u = unsent r.setting b s (told_unsent _ _ alone so judged) in (
+      ap (option_and_then (get_cause r.setting (order_of r steps) b)) u.means
+          ∙ received_sent r.setting (order_of r steps) b u.pdu u.known (sender_tells r b steps (Some e) is),
+      is ∙ sym (ap (option_and_then (λ (p : Pdu). first_sender r.entries b steps)) u.means),
+      subst (λ o. IfSome o (λ e. e < length r.entries)) (sym is) (sender_within r.entries b steps),
+    )
+
+-- a datagram that nobody sent
+pub received_unsent_here : (r : PlainRecording) (steps : List Step) (s : ℕ) (b : List ℕ) (alone : Judgement) → None ≡ first_sender r.entries b steps
+    → is_unsent alone ≡ true → Judges (cause_of r.setting [] (Get s b)) None (length r.entries) alone
+    → cause_of r.setting (order_of r steps) (Get s b) ≡ Some NeverSent
+unfolding cause_of
+received_unsent_here r steps s b alone is so judged =
+    let u = unsent r.setting b s (told_unsent _ _ alone so judged) in
+    ap (option_and_then (get_cause r.setting (order_of r steps) b)) u.means
+    ∙ received_unsent r.setting (order_of r steps) b u.pdu u.known (sender_tells r b steps None is)
+
+-- a datagram whose sender does not matter
+pub received_alone : (r : PlainRecording) (steps : List Step) (place s : ℕ) (b : List ℕ) (alone : Judgement) → is_unsent alone ≡ false
+    → Judges (cause_of r.setting [] (Get s b)) None (length r.entries) alone
+    → Judges (cause_of r.setting (order_of r steps) (Get s b)) (link_of r steps place (Get s b)) (length r.entries) alone
+received_alone r steps place s b (Forbidden cause) so judged =
+    received_else r.setting (order_of r steps) b s
+    (λ never. not_unsent (Forbidden cause) so (ap (λ (c : Cause). Forbidden c) (same_Some cause NeverSent (sym judged ∙ never)))) ∙ judged
+received_alone r steps place s b (Allowed link) so judged = (
+  received_else r.setting (order_of r steps) b s (λ never. absurd (cc (sym never ∙ judged.0))) ∙ judged.0,
+  judged.1 ∙ sym (link_other r steps place s b (received_other r.setting b s judged.0)),
+  judged.2,
+)

@@ -1,11 +1,13 @@
 -- What is looked up under a key is what a look through the log finds.
-use Rattle.std.proofs.Common.{◌≡◌, ℕ, zero, suc, ◌+◌, ◌<◌, ◌≤◌, List, [], ◌∷◌, length, cond, Option, Some, None, Bool, true, false, refl, sym, ap, ◌∙◌, subst, arith}
-use Rattle.std.specs.Prelude.{IfSome, ◌≢◌, is_some, slice_get, nat_eq, ◌&&◌, ◌||◌, option_map, option_and_then, if◌then◌else◌}
+use Rattle.std.proofs.Common.{◌≡◌, ℕ, zero, suc, ◌+◌, ◌<◌, ◌∷◌, length, cond, Option, Some, None, Bool, true, false, refl, sym, ap, ◌∙◌, subst, arith}
+use Rattle.std.specs.Prelude.{IfSome, ◌≢◌, is_some, slice_get, nat_eq, ◌&&◌, ◌||◌, option_map, option_and_then, unwrap_or, if◌then◌else◌}
 use Rattle.std.specs.Option.{option_map_or, option_or}
 use Rattle.std.specs.List.{list_any}
 use Rattle.std.proofs.Math.Numerals.{add-one}
 use Rattle.std.proofs.lemmas.Bool.{eqb-true, eq-eqb}
-use Rattle.std.proofs.lemmas.Bool.Decides.{nat_tests}
+use Rattle.std.proofs.lemmas.Bool.Decides.{nat_tests, Decides-and, Decides-eqb, Decides-like, same_from_decides}
+use Rattle.std.specs.Bool.{Decides}
+use Rattle.indexmap.specs.IndexMap.{get}
 use Rattle.std.proofs.lemmas.Option.{same_Some}
 use Rattle.dis_records.specs.Address.{Pair}
 use Rattle.dis_records.specs.Entity.{is_addressed}
@@ -14,7 +16,7 @@ use Rattle.siman_pdus.specs.Role.{is_request_body, request_id_of}
 use Rattle.siman_pdus.specs.Answers.{same_id, same_pair}
 use Rattle.exercise_model.specs.declared.acknowledge.AcknowledgeKey.{AcknowledgeKey}
 use Rattle.exercise_model.specs.Recording.{PlainRecording}
-use Rattle.exercise_model.specs.History.{Event, Send, Get, Tell, History, event_of, station_at}
+use Rattle.exercise_model.specs.History.{Event, Send, Get, Tell, event_of, station_at}
 use Rattle.exercise_model.specs.Meaning.{meaning}
 use Rattle.exercise_model.specs.Exchange.{is_asked, request_brought, request_taken_up}
 use Rattle.exercise_model.specs.Change.{able, unable, responds, response_of, key_of, responds_under, sends_under, was_acknowledged}
@@ -23,7 +25,7 @@ use Rattle.exercise_model.specs.Place.{event_at, own_event, log_before, first_be
 use Rattle.exercise_model.specs.Account.{sends_able, first_able}
 use Rattle.exercise_model.proofs.Offered.{log_before-more, log_before-none}
 use Rattle.exercise_check.specs.declared.key.Key.{Key}
-use Rattle.exercise_check.specs.Firsts.{same_key, acknowledged_key, request_key, sent_key, received_key, answered_key, event_key, key_at, has_key, first_under}
+use Rattle.exercise_check.specs.Firsts.{same_key, acknowledged_key, request_key, sent_key, received_key, answered_key, event_key, key_at, has_key, first_under, Firsts, AreFirsts}
 
 nat_eq-comm : (a b : ℕ) → nat_eq a b ≡ nat_eq b a
 nat_eq-comm a b = grind (arith, nat_tests)
@@ -428,6 +430,68 @@ pub first_able_by_key : (r : PlainRecording) (s : ℕ) (k : AcknowledgeKey)
     → first_able r k s ≡ first_under r (acknowledged_key s able k) (length r.entries)
 unfolding first_able first_under
 first_able_by_key r s k = same_first (sends_able r s k) (has_key r (acknowledged_key s able k)) (sent_at r s able k (sent_able s k)) (length r.entries)
+
+-- ---- one entry on
+
+number_and : (m n : ℕ) (rest : Bool) (P : Type 0) → Decides rest P → Decides (nat_eq m n && rest) ((m ≡ n) × P)
+number_and m n rest P d = Decides-and (nat_eq m n) rest (Decides-eqb m n) d
+
+key_fields : (k l : Key) → k.role ≡ l.role → k.response ≡ l.response → k.station ≡ l.station → k.flag ≡ l.flag → k.request ≡ l.request
+    → k.site ≡ l.site → k.application ≡ l.application → k.entity ≡ l.entity → k ≡ l
+key_fields k l a b c d e f g h = rw (a, b, c, d, e, f, g, h) refl
+
+key_decides : (k l : Key) → Decides (same_key k l) (k ≡ l)
+key_decides k l =
+    Decides-like (same_key k l)
+    (λ p. key_fields k l p.0 p.1.0 p.1.1.0 p.1.1.1.0 p.1.1.1.1.0 p.1.1.1.1.1.0 p.1.1.1.1.1.1.0 p.1.1.1.1.1.1.1)
+    (λ e. (
+      ap (λ (x : Key). x.role) e,
+      (
+        ap (λ (x : Key). x.response) e,
+        (
+          ap (λ (x : Key). x.station) e,
+          (
+            ap (λ (x : Key). x.flag) e,
+            (ap (λ (x : Key). x.request) e, (ap (λ (x : Key). x.site) e, (ap (λ (x : Key). x.application) e, ap (λ (x : Key). x.entity) e))),
+          ),
+        ),
+      ),
+    ))
+    (number_and k.role l.role _ _ (number_and k.response l.response _ _ (number_and k.station l.station _ _ (number_and k.flag l.flag _ _
+    (number_and k.request l.request _ _ (number_and k.site l.site _ _ (number_and k.application l.application _ _ (Decides-eqb k.entity l.entity))))))))
+
+key-comm : (k l : Key) → same_key k l ≡ same_key l k
+key-comm k l = same_from_decides _ _ (key_decides k l) (Decides-like (same_key l k) sym sym (key_decides l k))
+
+or_some : (o : Option ℕ) (n : ℕ) → Some (unwrap_or o n) ≡ option_or o (Some n)
+or_some None n = refl
+or_some (Some m) n = refl
+
+under_on : (r : PlainRecording) (k : Key) (n : ℕ) → first_under r k (n + 1) ≡ option_or (first_under r k n) (if has_key r k n then Some n else None)
+unfolding first_under first_below
+under_on r k n = ap (first_below (has_key r k)) (add-one n)
+
+-- an entry that has a key
+pub firsts_more : (r : PlainRecording) (n : ℕ) (l : Key) (old new : Firsts) → Some l ≡ key_at r n
+    → ((k : Key) → get same_key new k ≡ (if same_key l k then Some (unwrap_or (get same_key old l) n) else get same_key old k))
+    → AreFirsts r n old → AreFirsts r (n + 1) new
+firsts_more r n l old new has writes tied k =
+    let o : Option ℕ = first_under r k n in
+    writes k
+    ∙ elim (same_key l k) as (λ b. same_key l k ≡ b → cond b (Some (unwrap_or (get same_key old l) n)) (get same_key old k)
+    ≡ option_or o (cond b (Some n) None)) [
+      | false ↦ λ _. tied k ∙ sym (or_none o)
+      | true ↦ λ same. ap (λ m. Some (unwrap_or m n)) (tied l ∙ ap (λ m. first_under r m n) ((key_decides l k).0 same)) ∙ or_some o n
+    ] refl
+    ∙ ap (λ b. option_or o (if b then Some n else None)) (key-comm l k ∙ ap (λ m. option_map_or (same_key k) m false) has)
+    ∙ sym (under_on r k n)
+
+-- an entry that has none
+pub firsts_still : (r : PlainRecording) (n : ℕ) (firsts : Firsts) → None ≡ key_at r n → AreFirsts r n firsts → AreFirsts r (n + 1) firsts
+firsts_still r n firsts has tied k =
+    let o : Option ℕ = first_under r k n in
+    tied k ∙ sym (or_none o) ∙ ap (λ b. option_or o (if b then Some n else None)) (ap (λ m. option_map_or (same_key k) m false) has)
+    ∙ sym (under_on r k n)
 
 -- ---- what the code asks
 

@@ -1,9 +1,11 @@
-mod Sent
 mod Keyed
 mod Columns
 mod Changed
 mod Judged
 mod Orders
+mod FirstSenders
+mod Reused
+mod Looks
 mod Goodness
 mod Courses
 mod Counted

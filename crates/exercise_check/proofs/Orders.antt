@@ -1,11 +1,12 @@
 -- The order that steps name, one step after another.
-use Rattle.std.proofs.Common.{◌≡◌, ℕ, ◌+◌, ◌<◌, ◌≤◌, List, [], ◌∷◌, ◌++◌, length, take, drop, cond, Option, Some, None, true, false, refl, sym, ap, ◌∙◌, append_assoc, append-nil}
-use Rattle.std.specs.Prelude.{slice_get, slice_index_or, option_and_then, is_some, nat_eq, ◌==◌, ◌||◌, if◌then◌else◌}
-use Rattle.std.specs.Option.{option_map_or, option_to_list}
+use Rattle.std.proofs.Common.{◌≡◌, ℕ, ◌+◌, ◌<◌, List, [], ◌∷◌, ◌++◌, length, take, cond, Option, Some, None, true, false, refl, sym, ap, ◌∙◌, append_assoc, append-nil}
+use Rattle.std.specs.Prelude.{IfSome, slice_get, slice_index_or, option_and_then, is_some, nat_eq, ◌==◌, ◌||◌, if◌then◌else◌}
+use Rattle.std.specs.Option.{option_map_or, option_or, option_to_list}
 use Rattle.std.specs.List.{list_any}
 use Rattle.std.proofs.Math.Numerals.{add-one}
 use Rattle.std.proofs.Math.Nat.{add-zero}
-use Rattle.std.proofs.lemmas.List.{take_more, drop_more, drop_all}
+use Rattle.std.proofs.lemmas.List.{take_more}
+use Rattle.std.proofs.lemmas.Option.{slice_get_within}
 use Rattle.std.proofs.lemmas.List.Folds.{list_any-append}
 use Rattle.std.proofs.Math.Bool.{or-false, or-true}
 use Rattle.exercise_model.specs.Entry.{Entry}
@@ -101,20 +102,38 @@ length-entries-more r s i =
 pub length-entries-none : (r : PlainRecording) (s : ℕ) → length (log_before r s 0) ≡ 0
 length-entries-none r s = ap length (log_before-none r s)
 
--- the first sender among what is left
-pub first_sender-drop : (es : List Entry) (b : List ℕ) (steps : List Step) (k : ℕ) → k < length steps
-    → first_sender es b (drop k steps) ≡ (if option_map_or (λ e. sends b (event_of e)) (slice_get es (slice_index_or steps k no_step).place) false then Some
-    (slice_index_or steps k no_step).place else first_sender es b (drop (k + 1) steps))
-unfolding first_sender
-first_sender-drop es b steps k within = ap (first_sender es b) (drop_more steps k no_step within)
-
-pub first_sender-all : (es : List Entry) (b : List ℕ) (steps : List Step) (k : ℕ) → length steps ≤ k → first_sender es b (drop k steps) ≡ None
-unfolding first_sender
-first_sender-all es b steps k past = ap (first_sender es b) (drop_all k steps past)
-
+-- before the first step nobody sent anything
 pub first_sender-none : (es : List Entry) (b : List ℕ) → first_sender es b [] ≡ None
 unfolding first_sender
 first_sender-none es b = refl
+
+-- one step more sends a datagram first where none before does
+pub first_sender-snoc : (es : List Entry) (b : List ℕ) (steps : List Step) (step : Step)
+    → first_sender es b (steps ++ step ∷ []) ≡ option_or (first_sender es b steps)
+    (if option_map_or (λ e. sends b (event_of e)) (slice_get es step.place) false then Some step.place else None)
+unfolding first_sender
+first_sender-snoc es b [] step = refl
+first_sender-snoc es b (s ∷ steps) step =
+    elim (option_map_or (λ e. sends b (event_of e)) (slice_get es s.place) false) as (λ t. cond t (Some s.place) (first_sender es b (steps ++ step ∷ []))
+    ≡ option_or (cond t (Some s.place) (first_sender es b steps))
+    (if option_map_or (λ e. sends b (event_of e)) (slice_get es step.place) false then Some step.place else None)) [
+      | true ↦ refl
+      | false ↦ first_sender-snoc es b steps step
+    ]
+
+-- who sent first is an entry
+pub sender_within : (es : List Entry) (b : List ℕ) (steps : List Step) → IfSome (first_sender es b steps) (λ e. e < length es)
+unfolding first_sender
+sender_within es b [] = tt
+sender_within es b (s ∷ steps) =
+    elim (slice_get es s.place) as (λ o. slice_get es s.place ≡ o
+    → IfSome (if option_map_or (λ e. sends b (event_of e)) o false then Some s.place else first_sender es b steps) (λ e. e < length es)) [
+      | None ↦ λ _. sender_within es b steps
+      | Some e ↦ λ at. elim (sends b (event_of e)) as (λ t. IfSome (if t then Some s.place else first_sender es b steps) (λ e. e < length es)) [
+        | true ↦ slice_get_within es s.place e at
+        | false ↦ sender_within es b steps
+      ]
+    ] refl
 
 is_some-first : (es : List Entry) (b : List ℕ) (step : Step) (o : Option ℕ)
     → is_some (if option_map_or (λ e. sends b (event_of e)) (slice_get es step.place) false then Some step.place else o) ≡
@@ -146,6 +165,4 @@ pub is_some-first_sender : (r : PlainRecording) (b : List ℕ) (steps : List Ste
 unfolding was_sent order_of
 is_some-first_sender r b steps = sender_along r.entries b steps
 
-pub ruleset order_steps = (length-steps-more, length-steps-none, length-entries-more, length-entries-none, first_sender-drop, first_sender-all, first_sender-none)
-
-pub ruleset sender_steps = (is_some-first_sender)
+pub ruleset order_steps = (length-steps-more, length-steps-none, length-entries-more, length-entries-none)

@@ -1,5 +1,7 @@
 pub mod Firsts
 pub mod Order
+pub mod Requests
+pub mod Senders
 pub mod Tables
 pub mod Goodness
 pub mod Course

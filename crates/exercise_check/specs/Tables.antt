@@ -1,22 +1,27 @@
 -- What a pass over a log finds, entry by entry, and how it is kept (profile).
-use Rattle.std.specs.Prelude.{◌≡◌, ⊤, ℕ, List, length, slice_get, slice_index_or, Option, Some, None, IfSome, ◌<◌, option_and_then}
+use Rattle.std.specs.Prelude.{◌≡◌, ℕ, Bool, true, false, List, [], length, slice_get, slice_index_or, Option, None, IfSome, ◌<◌, option_and_then}
 use Rattle.exercise_model.specs.declared.state.Change.{Change}
-use Rattle.exercise_model.specs.Entry.{Entry}
+use Rattle.exercise_model.specs.declared.cause.Cause.{Cause}
+use Rattle.exercise_model.specs.declared.cause.Cause.TheVariants.{NeverSent}
 use Rattle.exercise_model.specs.Recording.{PlainRecording}
 use Rattle.exercise_model.specs.History.{Event, Send, Get, Tell, event_of, station_of, station_at, log_at}
 use Rattle.exercise_model.specs.Meaning.{meaning}
 use Rattle.exercise_model.specs.State.{change_made, state_after}
-use Rattle.exercise_model.specs.Cause.{send_cause, tell_rows, first_cause}
+use Rattle.exercise_model.specs.Cause.{send_cause, cause_of, tell_rows, first_cause}
 use Rattle.exercise_model.specs.Place.{log_before}
 use Rattle.exercise_model.specs.Account.{pair_of_sent, pair_of, values_below}
 use Rattle.exercise_check.specs.declared.cause.Judgement.{Judgement}
-use Rattle.exercise_check.specs.declared.cause.Judgement.TheVariants.{Allowed}
+use Rattle.exercise_check.specs.declared.cause.Judgement.TheVariants.{Allowed, Forbidden}
 use Rattle.exercise_check.specs.declared.tables.Tables.{Tables}
 use Rattle.exercise_check.specs.declared.findings.Findings.{Findings}
+use Rattle.exercise_check.specs.declared.found.Found.{Found}
 use Rattle.exercise_check.specs.declared.certificate.Step.{Step}
-use Rattle.exercise_check.specs.Order.{order_of}
+use Rattle.exercise_check.specs.Order.{order_of, link_of}
+use Rattle.exercise_check.specs.Goodness.{IsReady}
 use Rattle.exercise_check.specs.Course.{IsCourse, Judges}
-use Rattle.exercise_check.specs.Firsts.{AreFirsts}
+use Rattle.exercise_check.specs.Firsts.{key_at, AreFirsts}
+use Rattle.exercise_check.specs.Requests.{AreRequests}
+use Rattle.exercise_check.specs.Senders.{Senders, AreSenders}
 
 -- One value for each entry below n, and each is what P says of its entry.
 pub record IsColumn {X : Type 0} (d : X) (P : ℕ → X → Type 0) (n : ℕ) (xs : List X) : Type 0 where
@@ -58,27 +63,55 @@ pub record AreTied (r : PlainRecording) (n : ℕ) (t : Tables) : Type 0 where
   pub changes : IsColumn None (IsChangeAt r) n t.changes.items
   pub counts : AreCounts r n t.counts.items
 
--- What the log of its station says of the event of entry j: all but whether a datagram that was received came from somewhere.
+-- What the log of its station says of the event of entry j: all but whether a datagram that was received was sent before, which it judges as if nothing had been.
 abbrev pub JudgesOwn : PlainRecording → ℕ → Event → Judgement → Type 0
 JudgesOwn r j (Send s b) given =
     Judges (option_and_then (send_cause r.setting.exercise (station_at r s) (log_before r s j)) (meaning r.setting.exercise b))
     (option_and_then (pair_of_sent r s j) (meaning r.setting.exercise b)) (length r.entries) given
-JudgesOwn r j (Get s b) given = ⊤
+JudgesOwn r j (Get s b) given = Judges (cause_of r.setting [] (Get s b)) None (length r.entries) given
 JudgesOwn r j (Tell s e y) given =
     Judges (first_cause (tell_rows y (state_after r.setting.exercise (station_at r s) (log_before r s j) e))) None (length r.entries) given
 
 abbrev pub JudgesAt : PlainRecording → ℕ → Judgement → Type 0
 JudgesAt r j given = IfSome (slice_get r.entries j) (λ e. JudgesOwn r j (event_of e) given)
 
+-- What entry n is found to be
+pub record IsFound (r : PlainRecording) (n : ℕ) (f : Found) : Type 0 where
+  pub judgement : JudgesAt r n f.judgement
+  pub pair : f.pair ≡ pair_of r n
+  pub change : IsChangeAt r n f.change
+  pub key : f.key ≡ key_at r n
+
 -- WHAT A PASS FINDS in the entries below n
 pub record AreFindings (r : PlainRecording) (n : ℕ) (f : Findings) : Type 0 where
   pub tied : AreTied r n f.tables
+  pub requests : AreRequests r n f.requests
   pub judgements : IsColumn (Allowed None) (JudgesAt r) n f.judgements.items
   pub pairs : f.pairs.items ≡ values_below (pair_of r) n
   pub ranks : IsColumn 0 (IsRankAt r) n f.ranks.items
 
--- WHAT A COURSE KEEPS TO: its recording and steps are those of a course, all entries are found, and those that were taken are counted
-pub record Keeps (r : PlainRecording) (steps : List Step) (f : Findings) (taken : List ℕ) : Type 0 where
+-- it is judged to receive what was never sent
+abbrev pub is_never_sent : Cause → Bool
+is_never_sent NeverSent = true
+is_never_sent cause = false
+
+abbrev pub is_unsent : Judgement → Bool
+is_unsent (Allowed link) = false
+is_unsent (Forbidden cause) = is_never_sent cause
+
+-- What an entry is judged to be after these steps
+abbrev pub JudgesNext : PlainRecording → List Step → ℕ → Judgement → Type 0
+JudgesNext r steps place given = IfSome (slice_get r.entries place) (λ e. Judges (cause_of r.setting (order_of r steps) (event_of e))
+    (link_of r steps place (event_of e)) (length r.entries) given)
+
+-- The station's log stands before the entry as the steps say.
+abbrev pub IsReadyAt : PlainRecording → List Step → ℕ → Type 0
+IsReadyAt r steps place = IfSome (slice_get r.entries place) (λ e. IsReady r steps place (event_of e))
+
+-- WHAT A COURSE KEEPS TO: its recording and steps are those of a course, all entries are found, those that were taken are counted, and
+-- who sent each datagram first is known
+pub record Keeps (r : PlainRecording) (steps : List Step) (f : Findings) (taken : List ℕ) (senders : Senders) : Type 0 where
   pub course : IsCourse (record { recording = r; steps = steps })
   pub found : AreFindings r (length r.entries) f
   pub counted : AreTaken r steps taken
+  pub sent : AreSenders r steps senders

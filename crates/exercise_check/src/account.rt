@@ -9,8 +9,9 @@ ghost use Rattle.exercise_check.specs.Tables.{AreTied, AreFindings};
 ghost use Rattle.exercise_model.specs.Account.{sender_of, first_able, change_behind_pdu, change_behind, is_other, others_of, entities_of, values_below};
 
 use crate::checked::Checked;
-use crate::findings::{Findings, number};
+use crate::findings::Findings;
 use crate::firsts::{Firsts, first_under};
+use crate::found::number;
 use crate::key::acknowledged_key;
 use crate::state::entities;
 use crate::tables::Tables;

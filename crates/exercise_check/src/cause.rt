@@ -1,34 +1,34 @@
 //! Why the event of an entry may not happen next.
 
-ghost use Rattle.std.specs.Prelude.{◌≡◌, ◌<◌, ◌≤◌, length, slice_get, IfSome, IsTrue, None, false};
-ghost use Rattle.std.specs.Option.{option_map_or};
+ghost use Rattle.std.specs.Prelude.{◌≡◌, ◌<◌, ◌≤◌, ◌&&◌, ℕ, List, [], length, IsTrue, None};
 ghost use Rattle.siman_pdus.specs.Answers.{is_answer_to};
 ghost use Rattle.siman_pdus.specs.Reading.{pdu_of};
-ghost use Rattle.exercise_model.specs.History.{event_of, station_at};
+ghost use Rattle.siman_pdus.specs.Role.{is_request_body};
+ghost use Rattle.exercise_model.specs.Recording.{PlainRecording};
+ghost use Rattle.exercise_model.specs.History.{Get, station_at};
 ghost use Rattle.exercise_model.specs.Setting.{is_recorded};
 ghost use Rattle.exercise_model.specs.State.{state_after};
-ghost use Rattle.exercise_model.specs.Cause.{is_other_order, sends_other, is_reused, is_changed_answer, is_hopeless, is_hopeless_for, is_impossible, send_cause, get_cause, cause_of, tell_rows, first_cause};
-ghost use Rattle.exercise_model.specs.Place.{log_before, own_event};
+ghost use Rattle.exercise_model.specs.Cause.{is_reused, is_changed_answer, is_hopeless, is_hopeless_for, is_impossible, send_cause, get_cause, cause_of, tell_rows, first_cause};
+ghost use Rattle.exercise_model.specs.Place.{log_before};
 ghost use Rattle.exercise_model.specs.Account.{pair_of_sent};
-ghost use Rattle.exercise_check.specs.Order.{order_of, first_sender, link_of};
-ghost use Rattle.exercise_check.specs.Goodness.{ArePlaced, IsReady};
+ghost use Rattle.exercise_check.specs.declared.certificate.Step.{Step};
+ghost use Rattle.exercise_check.specs.Order.{order_of, link_of};
 ghost use Rattle.exercise_check.specs.Course.{Judges};
 ghost use Rattle.exercise_check.specs.Firsts.{AreFirsts};
-ghost use Rattle.exercise_check.specs.Tables.{AreTied, IsColumn, JudgesAt};
+ghost use Rattle.exercise_check.specs.Senders.{AreSenders};
+ghost use Rattle.exercise_check.specs.Tables.{AreTied, IsColumn, JudgesAt, JudgesNext, IsReadyAt, is_unsent};
 
-use crate::certificate::Step;
-use crate::change::{is_change, sent_by, was_able, was_unable};
+use crate::change::{is_change, was_able, was_unable};
 use crate::exchange::request_taken_up;
 use crate::firsts::Firsts;
-use crate::link::first_sender;
+use crate::senders::{Senders, first_sender};
 use crate::state::state_before;
 use crate::tables::Tables;
 use dis_records::{EntityState, Kind, Scope};
 use exercise_model::{
-    Cause, Change, EntryView, ExerciseLog, is_answer, is_entity, is_from, is_under_identifier,
-    key_of, meaning_view, responds,
+    Cause, Change, EntryView, ExerciseLog, is_answer, is_entity, is_from, key_of, responds,
 };
-use siman_pdus::{ABLE, PduView, UNABLE, answers, is_request, same_order};
+use siman_pdus::{ABLE, PduView, UNABLE, answers};
 
 /// What an event that comes next is judged to be.
 #[derive(Clone, Copy, Debug, PartialEq, Eq)]
@@ -37,39 +37,6 @@ pub(crate) enum Judgement {
     Allowed(Option<usize>),
     /// It may not happen: the first cause that holds.
     Forbidden(Cause),
-}
-
-/// Whether a PDU is a request under the request identifier of another one, and not the same order.
-fn is_other_order(request: &PduView<'_>, other: &PduView<'_>) -> bool
-    ensures { result ≡ is_other_order (pdu_of request.now) (pdu_of other.now) }
-{
-    is_request(other) && is_under_identifier(request, other) && !same_order(request, other)
-}
-
-/// Whether an entry of a station sends another order under the request identifier of a request.
-#[tactic(auto, using(crate::proofs::Sent::sent_steps))]
-fn sends_other<L: ExerciseLog>(log: &L, station: usize, request: &PduView<'_>, entry: usize) -> bool
-    requires { entry < length (L.recording log.now).entries }
-    ensures { let r = L.recording log.now in result ≡ option_map_or (sends_other r.setting.exercise (pdu_of request.now)) (own_event r station entry) false }
-{
-    match sent_by(log, station, entry) {
-        Some(other) => is_other_order(request, &other),
-        None => false,
-    }
-}
-
-/// Whether a station sent, before an entry, another order under the request identifier of a
-/// request.
-#[tactic(auto, using(exercise_model::proofs::Offered::log_steps))]
-fn is_reused<L: ExerciseLog>(log: &L, station: usize, before: usize, request: &PduView<'_>) -> bool
-    requires { before ≤ length (L.recording log.now).entries }
-    ensures { let r = L.recording log.now in result ≡ is_reused r.setting.exercise (pdu_of request.now) (log_before r station before) }
-{
-    let mut found = false;
-    for i in 0..before {
-        found = found || sends_other(log, station, request, i);
-    }
-    found
 }
 
 /// Whether a PDU that a station sends at an entry is an Able after an Unable under its key, or an
@@ -164,24 +131,26 @@ fn is_recorded<L: ExerciseLog>(log: &L, pdu: &PduView<'_>) -> bool
     found
 }
 
-/// Judges a PDU that a station sends at an entry.
+/// Judges a PDU that a station sends at an entry, a request that reuses its identifier or not.
 #[tactic(auto, unfolding(exercise_model::specs::Cause::send_cause))]
-fn judge_sent<L: ExerciseLog>(
+pub(crate) fn judge_sent<L: ExerciseLog>(
     log: &L,
     tables: &Tables,
     station: usize,
     before: usize,
     pdu: &PduView<'_>,
+    reused: bool,
 ) -> Judgement
     requires at { station < length (L.recording log.now).setting.stations }
     requires within { before < length (L.recording log.now).entries }
     requires tied { AreTied (L.recording log.now) before tables.now }
+    requires reused { let r = L.recording log.now in reused ≡ (is_request_body (pdu_of pdu.now).body && is_reused r.setting.exercise (pdu_of pdu.now) (log_before r station before)) }
     ensures { let r = L.recording log.now in Judges (send_cause r.setting.exercise (station_at r station) (log_before r station before) (pdu_of pdu.now)) (pair_of_sent r station before (pdu_of pdu.now)) (length r.entries) result }
 {
     if !is_from(log.station(station).address(), pdu) {
         return Judgement::Forbidden(Cause::WrongSender);
     }
-    if is_request(pdu) && is_reused(log, station, before, pdu) {
+    if reused {
         return Judgement::Forbidden(Cause::ReusedIdentifier);
     }
     if !is_answer(pdu) {
@@ -201,28 +170,20 @@ fn judge_sent<L: ExerciseLog>(
     }
 }
 
-/// Judges a datagram that a station receives after these steps.
-#[tactic(auto, unfolding(exercise_model::specs::Cause::get_cause), using(crate::proofs::Orders::sender_steps))]
-fn judge_received<L: ExerciseLog>(
-    log: &L,
-    before: &[Step],
-    datagram: &[u8],
-    pdu: &PduView<'_>,
-) -> Judgement
-    requires { ArePlaced (L.recording log.now) before.now }
-    ensures { let r = L.recording log.now in Judges (get_cause r.setting (order_of r before.now) datagram.now (pdu_of pdu.now)) (first_sender r.entries datagram.now before.now) (length r.entries) result }
+/// Judges a PDU that a station receives as if nothing had been sent before.
+#[tactic(auto, unfolding(exercise_model::specs::Cause::get_cause, exercise_model::specs::Cause::was_sent))]
+pub(crate) fn judge_unsent<L: ExerciseLog>(log: &L, pdu: &PduView<'_>) -> Judgement
+    ensures { let r = L.recording log.now in (b : List ℕ) → Judges (get_cause r.setting [] b (pdu_of pdu.now)) None (length r.entries) result }
 {
-    if !is_recorded(log, pdu) {
-        return Judgement::Forbidden(Cause::Stranger);
-    }
-    match first_sender(log, before, datagram) {
-        Some(entry) => Judgement::Allowed(Some(entry)),
-        None => Judgement::Forbidden(Cause::NeverSent),
+    if is_recorded(log, pdu) {
+        Judgement::Forbidden(Cause::NeverSent)
+    } else {
+        Judgement::Forbidden(Cause::Stranger)
     }
 }
 
 /// Judges a state that a station tells at an entry.
-fn judge_told<L: ExerciseLog>(
+pub(crate) fn judge_told<L: ExerciseLog>(
     log: &L,
     tables: &Tables,
     station: usize,
@@ -242,46 +203,43 @@ fn judge_told<L: ExerciseLog>(
     }
 }
 
-/// Judges an entry by the log of its station alone: all but whether a datagram that was received was
-/// sent before.
-pub(crate) fn judge_own<L: ExerciseLog>(log: &L, tables: &Tables, place: usize) -> Judgement
-    requires within { place < length (L.recording log.now).entries }
-    requires tied { AreTied (L.recording log.now) place tables.now }
-    ensures { JudgesAt (L.recording log.now) place result }
+/// Whether an entry is judged to receive what was never sent.
+fn is_unsent(judgement: Judgement) -> bool
+    ensures { result ≡ is_unsent judgement }
 {
-    match log.entry(place) {
-        EntryView::Sent { station, bytes, .. } => match meaning_view(log.exercise(), bytes) {
-            Some(pdu) => judge_sent(log, tables, usize::from(station), place, &pdu),
-            None => Judgement::Allowed(None),
-        },
-        EntryView::Received { .. } => Judgement::Allowed(None),
-        EntryView::Told {
-            station,
-            entity,
-            state,
-        } => judge_told(log, tables, usize::from(station), place, entity, state),
+    matches!(judgement, Judgement::Forbidden(Cause::NeverSent))
+}
+
+/// Judges a datagram that a station receives, by who sent it first. As if nothing had been sent
+/// before it is judged to be this.
+fn judge_received(senders: &Senders<'_>, datagram: &[u8], alone: Judgement) -> Judgement
+    ensures { (r : PlainRecording) (steps : List Step) (place s : ℕ) → AreSenders r steps senders.now
+        → Judges (cause_of r.setting [] (Get s datagram.now)) None (length r.entries) alone
+        → Judges (cause_of r.setting (order_of r steps) (Get s datagram.now)) (link_of r steps place (Get s datagram.now)) (length r.entries) result }
+{
+    if !is_unsent(alone) {
+        return alone;
+    }
+    match first_sender(senders, datagram) {
+        Some(entry) => Judgement::Allowed(Some(entry)),
+        None => Judgement::Forbidden(Cause::NeverSent),
     }
 }
 
-/// Judges the event of an entry, its station's next one, after these steps.
-#[tactic(auto, unfolding(exercise_model::specs::Cause::cause_of, crate::specs::Order::link_of), using(crate::proofs::Judged::judged_steps))]
+/// Judges the event of an entry, its station's next one, by what its station's log says of each
+/// entry, and by who sent each datagram first in the steps so far.
 pub(crate) fn judge<L: ExerciseLog>(
     log: &L,
     own: &[Judgement],
-    before: &[Step],
+    senders: &Senders<'_>,
     place: usize,
 ) -> Judgement
     requires within { place < length (L.recording log.now).entries }
     requires own { let r = L.recording log.now in IsColumn (Judgement.Allowed None) (JudgesAt r) (length r.entries) own.now }
-    requires placed { ArePlaced (L.recording log.now) before.now }
-    requires ready { let r = L.recording log.now in IfSome (slice_get r.entries place) (λ e. IsReady r before.now place (event_of e)) }
-    ensures { let r = L.recording log.now in IfSome (slice_get r.entries place) (λ e. Judges (cause_of r.setting (order_of r before.now) (event_of e)) (link_of r before.now place (event_of e)) (length r.entries) result) }
+    ensures { let r = L.recording log.now in (steps : List Step) → AreSenders r steps senders.now → IsReadyAt r steps place → JudgesNext r steps place result }
 {
     match log.entry(place) {
-        EntryView::Received { bytes, .. } => match meaning_view(log.exercise(), bytes) {
-            Some(pdu) => judge_received(log, before, bytes, &pdu),
-            None => Judgement::Allowed(None),
-        },
+        EntryView::Received { bytes, .. } => judge_received(senders, bytes, own[place]),
         EntryView::Sent { .. } | EntryView::Told { .. } => own[place],
     }
 }

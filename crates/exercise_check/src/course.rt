@@ -15,6 +15,7 @@ use crate::checked::Checked;
 use crate::counts::{count_taken, no_counts};
 use crate::findings::{Findings, find};
 use crate::order::{next_entry, station_of};
+use crate::senders::{Senders, no_senders, note_sender};
 use exercise_model::{Cause, ExerciseLog};
 use std::alloc::{AllocError, Global};
 use std::marker::Model;
@@ -30,6 +31,7 @@ pub struct Course<'a, L: ExerciseLog> {
     steps: Vec<Step>,
     found: Findings,
     taken: Vec<u32>,
+    senders: Senders<'a>,
 }
 
 impl<'a, L: ExerciseLog> Model for Course<'a, L> {
@@ -37,7 +39,7 @@ impl<'a, L: ExerciseLog> Model for Course<'a, L> {
 
     ghost view = { λ c. record { recording = L.recording c.log.now; steps = c.steps.items } };
 
-    ghost invariant = { λ c. Keeps (L.recording c.log.now) c.steps.items c.found c.taken.items };
+    ghost invariant = { λ c. Keeps (L.recording c.log.now) c.steps.items c.found c.taken.items c.senders };
 }
 
 /// What going on by an entry comes to.
@@ -84,6 +86,7 @@ impl<'a, L: ExerciseLog> Course<'a, L> {
             steps: Vec::new(alloc),
             found,
             taken,
+            senders: no_senders(alloc),
         })
     }
 
@@ -127,10 +130,12 @@ impl<'a, L: ExerciseLog> Course<'a, L> {
         // It lacks memory only where the event is allowed.
         ensures allowed { OnErr result (IfSome (slice_get self.old.recording.entries place) (λ e. IsAllowed self.old.recording.setting (so_far self.old) (event_of e))) }
     {
-        match judge(self.log, &self.found.judgements, &self.steps, place) {
+        match judge(self.log, &self.found.judgements, &self.senders, place) {
             Judgement::Forbidden(cause) => Ok(Progress::Barred(cause)),
             Judgement::Allowed(link) => {
                 let link = link_number(link);
+                self.steps.reserve(1)?;
+                note_sender(&mut self.senders, self.log, place)?;
                 self.steps.push(Step {
                     place: place as u32,
                     link,

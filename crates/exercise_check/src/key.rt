@@ -1,11 +1,11 @@
 //! What entries of a station are looked up by.
 
-ghost use Rattle.std.specs.Prelude.{◌≡◌, ◌<◌, length};
+ghost use Rattle.std.specs.Prelude.{◌≡◌};
 ghost use Rattle.siman_pdus.specs.Reading.{pdu_of};
-ghost use Rattle.exercise_check.specs.Firsts.{acknowledged_key, sent_key, received_key, answered_key, key_at};
+ghost use Rattle.exercise_check.specs.Firsts.{acknowledged_key, sent_key, received_key, answered_key};
 
 use dis_records::{Address, addressed};
-use exercise_model::{AcknowledgeKey, EntryView, ExerciseLog, key_of, meaning_view, responds};
+use exercise_model::{AcknowledgeKey, key_of, responds};
 use siman_pdus::{ABLE, Message, PduView, UNABLE, is_request, request_id};
 
 /// What entries of one station have in common that are looked up together: requests that it
@@ -47,7 +47,7 @@ pub(crate) fn acknowledged_key(station: u16, response: u16, key: &AcknowledgeKey
 }
 
 /// The key of a PDU that a station sends, where it is an Able or an Unable.
-fn sent_key(station: u16, pdu: &PduView<'_>) -> Option<Key>
+pub(crate) fn sent_key(station: u16, pdu: &PduView<'_>) -> Option<Key>
     ensures { result ≡ sent_key station (pdu_of pdu.now) }
 {
     let Some(key) = key_of(pdu) else {
@@ -79,7 +79,7 @@ fn request_key(station: u16, site: u16, application: u16, request: u32) -> Key
 }
 
 /// The key of a PDU that the station at an address receives, where it is a request to it.
-fn received_key(station: u16, address: Address, pdu: &PduView<'_>) -> Option<Key>
+pub(crate) fn received_key(station: u16, address: Address, pdu: &PduView<'_>) -> Option<Key>
     ensures { result ≡ received_key station address (pdu_of pdu.now) }
 {
     if !is_request(pdu) || !addressed(pdu.target(), address) {
@@ -100,27 +100,5 @@ pub(crate) fn answered_key(station: u16, pdu: &PduView<'_>) -> Option<Key>
     match request_id(pdu) {
         Some(request) => Some(request_key(station, target.site, target.application, request)),
         None => None,
-    }
-}
-
-/// The key of an entry, if it has one.
-#[tactic(auto, unfolding(crate::specs::Firsts::key_at))]
-pub(crate) fn key_at<L: ExerciseLog>(log: &L, entry: usize) -> Option<Key>
-    requires { entry < length (L.recording log.now).entries }
-    ensures { result ≡ key_at (L.recording log.now) entry }
-{
-    match log.entry(entry) {
-        EntryView::Sent { station, bytes, .. } => match meaning_view(log.exercise(), bytes) {
-            Some(pdu) => sent_key(station, &pdu),
-            None => None,
-        },
-        EntryView::Received { station, bytes, .. } => match meaning_view(log.exercise(), bytes) {
-            Some(pdu) => {
-                let address = log.station(usize::from(station)).address();
-                received_key(station, address, &pdu)
-            }
-            None => None,
-        },
-        EntryView::Told { .. } => None,
     }
 }

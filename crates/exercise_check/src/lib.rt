@@ -24,11 +24,15 @@ mod course;
 mod exchange;
 mod findings;
 mod firsts;
+mod found;
 mod key;
 mod laws;
 mod link;
 mod order;
+mod requests;
+mod senders;
 mod state;
+mod table;
 mod tables;
 
 pub use certificate::{Certificate, NO_LINK, Step};

@@ -9,7 +9,7 @@ ghost use Rattle.exercise_model.specs.State.{change_made, change_by, entity_stat
 ghost use Rattle.exercise_model.specs.Place.{log_before, own_event};
 ghost use Rattle.exercise_model.specs.Account.{entities_of};
 ghost use Rattle.exercise_check.specs.Firsts.{AreFirsts};
-ghost use Rattle.exercise_check.specs.Tables.{AreTied, change_at};
+ghost use Rattle.exercise_check.specs.Tables.{AreTied};
 
 use crate::change::is_change;
 use crate::exchange::request_taken_up;
@@ -17,15 +17,13 @@ use crate::firsts::Firsts;
 use crate::order::is_own;
 use crate::tables::Tables;
 use dis_records::EntityState;
-use exercise_model::{
-    Change, EntryView, ExerciseLog, LARGEST_ENTITY, Station, is_entity, meaning_view,
-};
+use exercise_model::{Change, ExerciseLog, LARGEST_ENTITY, Station, is_entity};
 use siman_pdus::PduView;
 use std::alloc::{AllocError, Global};
 
 /// What a PDU changes that a station sends at an entry.
 #[tactic(auto, unfolding(exercise_model::specs::State::change_by))]
-fn change_by<L: ExerciseLog>(
+pub(crate) fn change_by<L: ExerciseLog>(
     log: &L,
     firsts: &Firsts,
     station: usize,
@@ -43,22 +41,6 @@ fn change_by<L: ExerciseLog>(
     match request_taken_up(log, firsts, station, before, pdu) {
         Some((_, request)) => Change::carried_out(pdu, &request),
         None => None,
-    }
-}
-
-/// What an entry changes at its station.
-#[tactic(auto, unfolding(crate::specs::Tables::change_at))]
-pub(crate) fn change_at<L: ExerciseLog>(log: &L, firsts: &Firsts, entry: usize) -> Option<Change>
-    requires within { entry < length (L.recording log.now).entries }
-    requires tied { AreFirsts (L.recording log.now) entry firsts.now }
-    ensures { result ≡ change_at (L.recording log.now) entry }
-{
-    match log.entry(entry) {
-        EntryView::Sent { station, bytes, .. } => match meaning_view(log.exercise(), bytes) {
-            Some(pdu) => change_by(log, firsts, usize::from(station), entry, &pdu),
-            None => None,
-        },
-        EntryView::Received { .. } | EntryView::Told { .. } => None,
     }
 }
 

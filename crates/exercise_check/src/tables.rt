@@ -1,12 +1,13 @@
 //! What a pass over a log keeps of the entries behind it, to look it up for the entries ahead.
 
 ghost use Rattle.std.specs.Prelude.{◌≡◌, ◌<◌, ◌+◌, length, OnOk, IfOk};
-ghost use Rattle.exercise_check.specs.Tables.{AreTied, IsRankAt};
+ghost use Rattle.exercise_check.specs.Firsts.{key_at};
+ghost use Rattle.exercise_check.specs.Tables.{AreTied, IsChangeAt, IsRankAt};
 
 use crate::counts::{count_entry, no_counts};
 use crate::firsts::{Firsts, no_firsts, note_entry};
+use crate::key::Key;
 use crate::order::station_of;
-use crate::state::change_at;
 use exercise_model::{Change, ExerciseLog};
 use std::alloc::{AllocError, Global};
 
@@ -42,19 +43,22 @@ pub(crate) fn rank_at<L: ExerciseLog>(log: &L, tables: &Tables, entry: usize) ->
     tables.counts[station_of(&log.entry(entry))]
 }
 
-/// Keeps the next entry of a log.
+/// Keeps the next entry of a log, which makes this change and has this key.
 #[tactic(auto, using(crate::proofs::Columns::column_steps))]
 pub(crate) fn note_tables<L: ExerciseLog>(
     tables: &mut Tables,
     log: &L,
     entry: usize,
+    change: Option<Change>,
+    key: Option<Key>,
 ) -> Result<(), AllocError>
     requires within { entry < length (L.recording log.now).entries }
     requires tied { AreTied (L.recording log.now) entry tables.old }
+    requires change { IsChangeAt (L.recording log.now) entry change }
+    requires key { key ≡ key_at (L.recording log.now) entry }
     ensures { OnOk result (AreTied (L.recording log.now) (entry + 1) tables.new) }
 {
-    let change = change_at(log, &tables.firsts, entry);
     tables.changes.push(change)?;
     count_entry(&mut tables.counts, log, entry);
-    note_entry(&mut tables.firsts, log, entry)
+    note_entry(&mut tables.firsts, log, entry, key)
 }

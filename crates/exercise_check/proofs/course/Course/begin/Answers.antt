@@ -2,7 +2,9 @@ use Rattle.std.proofs.Common.{◌≡◌, ℕ, List, sym, subst, arith}
 use Rattle.exercise_check.specs.declared.certificate.Step.{Step}
 use Rattle.exercise_check.specs.Course.{IsCourse}
 use Rattle.exercise_check.specs.Tables.{IsColumn, AreTaken}
+use Rattle.exercise_check.specs.Senders.{AreSenders}
 use Rattle.exercise_check.proofs.Counted.{taken_none}
+use Rattle.exercise_check.proofs.FirstSenders.{no_senders}
 use Rattle.exercise_check.proofs.course.Course.begin.Goals as goal
 
 pub invariant_of-result : goal.invariant_of-result
@@ -14,5 +16,6 @@ invariant_of-result g c =
       course = subst (λ (xs : List Step). IsCourse (record { recording = r; steps = xs })) (sym c.new.ensures.items)
           (record { limits = c.entry_count-entries.ensures.limits; good = λ k l. absurd (omega arith) });
       found = c.in_ok-found.ensures;
+      sent = subst (λ (xs : List Step). AreSenders r xs c.no_senders.result) (sym c.new.ensures.items) (no_senders r c.no_senders.result c.no_senders.ensures);
       counted = subst (λ (xs : List Step). AreTaken r xs taken) (sym c.new.ensures.items) (taken_none r taken zeros);
     }

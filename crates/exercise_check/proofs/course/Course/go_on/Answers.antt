@@ -1,44 +1,79 @@
-use Rattle.std.proofs.Common.{sym, subst}
-use Rattle.exercise_check.specs.Course.{IsNext}
-use Rattle.exercise_check.proofs.Goodness.{are_placed, good_push}
-use Rattle.exercise_check.proofs.Courses.{next_ready, allows, small_link}
+use Rattle.std.proofs.Common.{List, [], ◌∷◌, ◌++◌, sym, ap, ◌∙◌, subst}
+use Rattle.exercise_check.specs.declared.certificate.Step.{Step}
+use Rattle.exercise_check.specs.Course.{CourseData, IsNext}
+use Rattle.exercise_check.proofs.Columns.{on_err}
+use Rattle.exercise_check.proofs.Goodness.{good_push}
+use Rattle.exercise_check.proofs.Courses.{next_ready, allows, small_link, barred_goes, taken_goes, allowed_goes}
 use Rattle.exercise_check.proofs.Counted.{few_taken}
 use Rattle.exercise_check.proofs.course.Course.go_on.Goals as goal
-
-pub judge-requires-clause-placed : goal.judge-requires-clause-placed
-judge-requires-clause-placed g c =
-    rw c.deref-2.ensures.value (are_placed (g.L.ExerciseLog.recording c.self.inside.log.now) c.self.inside.steps.items c.self.invariant.course.good)
-
-pub judge-requires-clause-ready : goal.judge-requires-clause-ready
-judge-requires-clause-ready g c =
-    let next = subst (λ v. IsNext v c.args.place) (sym c.self.view_is) c.requires.next in
-    rw c.deref-2.ensures.value (next_ready (g.L.ExerciseLog.recording c.self.inside.log.now) c.self.inside.steps.items c.args.place c.self.invariant.course.good next)
 
 pub link_number-link-requires : goal.link_number-link-requires
 link_number-link-requires g c =
     let r = g.L.ExerciseLog.recording c.self.inside.log.now in
+    let steps = c.self.inside.steps.items in
     let next = subst (λ v. IsNext v c.args.place) (sym c.self.view_is) c.requires.next in
-    let judged = rw (c.deref-2.ensures.value, c.in-Allowed.is) at c.judge.ensures in
+    let judged = c.judge.ensures steps c.self.invariant.sent (next_ready r steps c.args.place c.self.invariant.course.good next) in
     let within = rw (← c.self.view_is) at c.requires.within in
-    small_link r c.in-Allowed.link c.self.invariant.course.limits (allows r c.self.inside.steps.items c.args.place c.in-Allowed.link within next judged).within
+    small_link r c.in-Allowed.link c.self.invariant.course.limits
+    (allows r steps c.args.place c.in-Allowed.link within next (rw c.in-Allowed.is at judged)).within
 
 pub invariant_of-self-in-Allowed : goal.invariant_of-self-in-Allowed
 invariant_of-self-in-Allowed g c =
     let r = g.L.ExerciseLog.recording c.self.inside.log.now in
+    let steps = c.self.inside.steps.items in
     let next = subst (λ v. IsNext v c.args.place) (sym c.self.view_is) c.requires.next in
-    let judged = rw (c.deref-2.ensures.value, c.in-Allowed.is) at c.judge.ensures in
+    let judged = c.judge.ensures steps c.self.invariant.sent (next_ready r steps c.args.place c.self.invariant.course.good next) in
     let within = rw (← c.self.view_is) at c.requires.within in
-    let good = (allows r c.self.inside.steps.items c.args.place c.in-Allowed.link within next judged).good in
+    let good = (allows r steps c.args.place c.in-Allowed.link within next (rw c.in-Allowed.is at judged)).good in
+    let items = c.in_ok-push-in-Allowed.ensures.items ∙ ap (λ xs. xs ++ record { place = c.args.place; link = c.link_number-link.result } ∷ []) c.in_ok-reserve-in-Allowed.ensures.items in
     record {
       course = record {
         limits = c.self.invariant.course.limits;
-        good = rw (c.in_ok-push-in-Allowed.ensures.items, c.link_number-link.ensures) (good_push r c.self.inside.steps.items _ c.self.invariant.course.good good);
+        good = rw (items, c.link_number-link.ensures) (good_push r steps _ c.self.invariant.course.good good);
       };
       found = c.self.invariant.found;
-      counted = rw c.in_ok-push-in-Allowed.ensures.items (c.count_taken.ensures c.self.inside.steps.items _ c.self.invariant.counted);
+      counted = rw items (c.count_taken.ensures steps _ c.self.invariant.counted);
+      sent = rw items (c.in_ok-note_sender-in-Allowed.ensures.noted steps _ c.self.invariant.sent);
     }
 
 pub count_taken-requires-clause-few : goal.count_taken-requires-clause-few
 count_taken-requires-clause-few g c =
     few_taken (g.L.ExerciseLog.recording c.self.inside.log.now) c.self.inside.steps.items c.self.inside.taken.items c.self.invariant.course.limits
     c.self.invariant.course.good c.self.invariant.counted
+
+pub returns-in-Forbidden-clause-judged : goal.returns-in-Forbidden-clause-judged
+returns-in-Forbidden-clause-judged g c =
+    let r = g.L.ExerciseLog.recording c.self.inside.log.now in
+    let steps = c.self.inside.steps.items in
+    let next = subst (λ v. IsNext v c.args.place) (sym c.self.view_is) c.requires.next in
+    let judged = c.judge.ensures steps c.self.invariant.sent (next_ready r steps c.args.place c.self.invariant.course.good next) in
+    rw (← c.self.view_is) (barred_goes (record { recording = r; steps = steps }) c.args.place c.in-Forbidden.cause (rw c.in-Forbidden.is at judged))
+
+pub returns-in_err-reserve-in-Allowed-clause-allowed : goal.returns-in_err-reserve-in-Allowed-clause-allowed
+returns-in_err-reserve-in-Allowed-clause-allowed g c =
+    let r = g.L.ExerciseLog.recording c.self.inside.log.now in
+    let steps = c.self.inside.steps.items in
+    let next = subst (λ v. IsNext v c.args.place) (sym c.self.view_is) c.requires.next in
+    let judged = c.judge.ensures steps c.self.invariant.sent (next_ready r steps c.args.place c.self.invariant.course.good next) in
+    rw (← c.self.view_is) (on_err c.from_residual.result (allowed_goes (record { recording = r; steps = steps }) c.args.place c.in-Allowed.link
+    (rw c.in-Allowed.is at judged)))
+
+pub returns-in_err-note_sender-in-Allowed-clause-allowed : goal.returns-in_err-note_sender-in-Allowed-clause-allowed
+returns-in_err-note_sender-in-Allowed-clause-allowed g c =
+    let r = g.L.ExerciseLog.recording c.self.inside.log.now in
+    let steps = c.self.inside.steps.items in
+    let next = subst (λ v. IsNext v c.args.place) (sym c.self.view_is) c.requires.next in
+    let judged = c.judge.ensures steps c.self.invariant.sent (next_ready r steps c.args.place c.self.invariant.course.good next) in
+    rw (← c.self.view_is) (on_err c.from_residual-in_err-note_sender-in-Allowed.result (allowed_goes (record { recording = r; steps = steps }) c.args.place c.in-Allowed.link
+    (rw c.in-Allowed.is at judged)))
+
+pub returns-in_ok-push-in-Allowed-clause-judged : goal.returns-in_ok-push-in-Allowed-clause-judged
+returns-in_ok-push-in-Allowed-clause-judged g c =
+    let r = g.L.ExerciseLog.recording c.self.inside.log.now in
+    let steps = c.self.inside.steps.items in
+    let next = subst (λ v. IsNext v c.args.place) (sym c.self.view_is) c.requires.next in
+    let judged = c.judge.ensures steps c.self.invariant.sent (next_ready r steps c.args.place c.self.invariant.course.good next) in
+    let items = c.in_ok-push-in-Allowed.ensures.items ∙ ap (λ xs. xs ++ record { place = c.args.place; link = c.link_number-link.result } ∷ []) c.in_ok-reserve-in-Allowed.ensures.items in
+    rw (← c.self.view_is) (taken_goes (record { recording = r; steps = steps }) (record { recording = r; steps = c.push.new.self.items }) c.args.place
+    c.link_number-link.result c.in-Allowed.link c.link_number-link.ensures
+    (ap (λ (xs : List Step). let d : CourseData = record { recording = r; steps = xs } in d) items) (rw c.in-Allowed.is at judged))

@@ -2,6 +2,8 @@ mod Sent
 mod Keyed
 mod Columns
 mod Changed
+mod EntityStates
+mod Tied
 mod Judged
 mod Orders
 mod Goodness

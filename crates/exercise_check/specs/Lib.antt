@@ -1,5 +1,6 @@
 pub mod Firsts
 pub mod Order
+pub mod States
 pub mod Tables
 pub mod Goodness
 pub mod Course

@@ -29,6 +29,7 @@ mod laws;
 mod link;
 mod order;
 mod state;
+mod states;
 mod tables;
 
 pub use certificate::{Certificate, NO_LINK, Step};

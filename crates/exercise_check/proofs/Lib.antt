@@ -4,6 +4,7 @@ mod Columns
 mod Changed
 mod EntityStates
 mod Tied
+mod Reported
 mod Judged
 mod Orders
 mod Goodness

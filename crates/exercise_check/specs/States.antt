@@ -1,5 +1,5 @@
 -- The states of the entities of a station so far: those set one by one in pages of 256, the changes of all beside them (profile).
-use Rattle.std.specs.Prelude.{◌≡◌, ◌≢◌, ◌⊎◌, ℕ, ◌≤◌, ◌/◌, ◌%◌, List, length, false, nat_lt, Option, Some, None, IfSome, Vec, slice_get, option_and_then, if◌then◌else◌}
+use Rattle.std.specs.Prelude.{◌≡◌, ◌≢◌, ◌⊎◌, ℕ, ◌≤◌, ◌/◌, ◌%◌, List, length, Bool, false, nat_lt, Option, Some, None, IfSome, Vec, slice_get, option_and_then, if◌then◌else◌}
 use Rattle.std.specs.Option.{option_map_or}
 use Rattle.std.specs.declared.alloc.Global.{Global}
 use Rattle.dis_records.specs.declared.entity_state.EntityState.{EntityState}
@@ -28,7 +28,11 @@ state_by t o = option_map_or (state_of_held t) o t.rest
 unfoldable pub state_in : States → ℕ → EntityState
 state_in t e = state_by t (held_at t.pages.items e)
 
--- the same, Absent for what is no entity
+-- something is kept of a page's entities
+abbrev pub has_page : List (Vec Held Global) → ℕ → Bool
+has_page pages page = option_map_or (λ p. nat_lt 0 (length p.items)) (slice_get pages page) false
+
+-- the state of number e, Absent for what is no entity
 abbrev pub known_in : States → ℕ → EntityState
 known_in t e = if is_entity e then state_in t e else Absent
 

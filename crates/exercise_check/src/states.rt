@@ -13,8 +13,11 @@ use dis_records::{EntityState, Kind, Scope};
 use exercise_model::{Change, ExerciseLog, Station, is_entity, state_made};
 use std::alloc::{AllocError, Global};
 
-/// How many entities a page has.
-const PAGE: u16 = 256;
+/// How many numbers a page has.
+pub(crate) const PAGE: u16 = 256;
+
+/// How many pages there are for all numbers.
+pub(crate) const PAGES: u16 = 256;
 
 /// The state of an entity that was set by itself.
 #[derive(Clone, Copy, Debug, PartialEq, Eq)]

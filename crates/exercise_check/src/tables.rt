@@ -7,7 +7,8 @@ use crate::counts::{count_entry, no_counts};
 use crate::firsts::{Firsts, no_firsts, note_entry};
 use crate::order::station_of;
 use crate::state::change_at;
-use exercise_model::{Change, ExerciseLog};
+use crate::states::{States, no_changes, note_change};
+use exercise_model::ExerciseLog;
 use std::alloc::{AllocError, Global};
 
 /// What is kept of the entries so far.
@@ -15,8 +16,8 @@ use std::alloc::{AllocError, Global};
 pub(crate) struct Tables {
     /// The first entry under each key.
     pub firsts: Firsts,
-    /// What each entry changes.
-    pub changes: Vec<Option<Change>>,
+    /// The states of the entities of each station.
+    pub states: Vec<States>,
     /// How many entries of each station there were.
     pub counts: Vec<u32>,
 }
@@ -25,10 +26,11 @@ pub(crate) struct Tables {
 pub(crate) fn no_tables<L: ExerciseLog>(alloc: Global, log: &L) -> Result<Tables, AllocError>
     ensures { IfOk result (λ tables. AreTied (L.recording log.now) 0 tables) }
 {
+    let states = no_changes(alloc, log)?;
     let counts = no_counts(alloc, log.station_count())?;
     Ok(Tables {
         firsts: no_firsts(alloc),
-        changes: Vec::new(alloc),
+        states,
         counts,
     })
 }
@@ -43,7 +45,6 @@ pub(crate) fn rank_at<L: ExerciseLog>(log: &L, tables: &Tables, entry: usize) ->
 }
 
 /// Keeps the next entry of a log.
-#[tactic(auto, using(crate::proofs::Columns::column_steps))]
 pub(crate) fn note_tables<L: ExerciseLog>(
     tables: &mut Tables,
     log: &L,
@@ -54,7 +55,7 @@ pub(crate) fn note_tables<L: ExerciseLog>(
     ensures { OnOk result (AreTied (L.recording log.now) (entry + 1) tables.new) }
 {
     let change = change_at(log, &tables.firsts, entry);
-    tables.changes.push(change)?;
+    note_change(&mut tables.states, log, change, entry)?;
     count_entry(&mut tables.counts, log, entry);
     note_entry(&mut tables.firsts, log, entry)
 }

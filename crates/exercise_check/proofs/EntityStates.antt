@@ -1,7 +1,6 @@
 -- The states of the entities of a station: what setting one, making all alike and moving all makes of them.
-use Rattle.std.proofs.Common.{◌≡◌, ◌≢◌, ◌⊎◌, inl, inr, ⊎_elim, ℕ, zero, suc, ◌+◌, ◌*◌, ◌/◌, ◌%◌, ◌<◌, ◌≤◌, List, [], ◌∷◌, ◌++◌, length, set, cond, Option, Some, None, Bool, true, false, Vec, Bor, get_or, refl, sym, ap, ◌∙◌, subst, arith}
+use Rattle.std.proofs.Common.{◌≡◌, ◌≢◌, ◌⊎◌, inl, inr, ⊎_elim, ℕ, zero, suc, ◌+◌, ◌*◌, ◌/◌, ◌%◌, ◌<◌, ◌≤◌, List, [], ◌∷◌, ◌++◌, length, set, Option, Some, None, Bool, true, false, Vec, Bor, get_or, refl, sym, ap, ◌∙◌, subst, arith}
 use Rattle.std.specs.Prelude.{IfSome, is_some, option_copied, slice_get, nat_eq, nat_lt, option_and_then, if◌then◌else◌}
-use Rattle.std.specs.Option.{option_map_or}
 use Rattle.std.specs.declared.alloc.Global.{Global}
 use Rattle.std.proofs.lemmas.Bool.{cases_eq, cases_lt, eq-eqb, ne_eqb, lt-ltb, le-ltb}
 use Rattle.std.proofs.lemmas.Nat.{div-add-mod'}
@@ -11,7 +10,7 @@ use Rattle.dis_records.specs.declared.entity_state.EntityState.TheVariants.{Abse
 use Rattle.exercise_model.specs.Station.{is_absent}
 use Rattle.exercise_check.specs.declared.states.Held.{Held}
 use Rattle.exercise_check.specs.declared.states.States.{States}
-use Rattle.exercise_check.specs.States.{held_at, state_of_held, state_by, state_in, AreUpTo, IsKept, IsPut}
+use Rattle.exercise_check.specs.States.{held_at, state_by, state_in, AreUpTo, IsKept, IsPut}
 
 -- ---- lists at a place
 
@@ -33,27 +32,6 @@ pub get-set_here : {X : Type 0} (xs : List X) (i : ℕ) (y : X) → i < length x
 get-set_here [] i y l = absurd (omega (arith, l))
 get-set_here (x ∷ xs) zero y l = refl
 get-set_here (x ∷ xs) (suc i) y l = get-set_here xs i y (omega (arith, l))
-
--- the filler at the end of a page
-pub kept-pushed : (xs ys : List Held) (filler : Held) → ((i : ℕ) → IsKept filler (slice_get xs i) (slice_get ys i))
-    → (i : ℕ) → IsKept filler (slice_get xs i) (slice_get (ys ++ filler ∷ []) i)
-kept-pushed xs ys filler kept i =
-    ⊎_elim
-    (λ (same : slice_get (ys ++ filler ∷ []) i ≡ slice_get ys i). subst (IsKept filler (slice_get xs i)) (sym same) (kept i))
-    (λ (came : (slice_get ys i ≡ None) × (slice_get (ys ++ filler ∷ []) i ≡ Some filler)).
-    ⊎_elim
-    (λ (was : slice_get ys i ≡ slice_get xs i). inr (sym was ∙ came.0, came.1))
-    (λ (before : (slice_get xs i ≡ None) × (slice_get ys i ≡ Some filler)). inr (before.0, came.1))
-    (kept i))
-    (get-pushed ys filler i)
-
--- and what is set then
-pub put-set : (xs ys zs : List Held) (filler held : Held) (place : ℕ) → place < length ys → zs ≡ set ys place held
-    → ((i : ℕ) → IsKept filler (slice_get xs i) (slice_get ys i)) → IsPut filler place held xs zs
-put-set xs ys zs filler held place within is kept = record {
-  here = ap (λ ws. slice_get ws place) is ∙ get-set_here ys place held within;
-  others = λ i apart. subst (IsKept filler (slice_get xs i)) (sym (ap (λ ws. slice_get ws i) is ∙ get-set_other ys place held i apart)) (kept i);
-}
 
 -- what `get` gives, copied
 pub got : {X : Type 0} (xs : List X) (i : ℕ) (o : Option (Bor X)) → is_some o ≡ nat_lt i (length xs)
@@ -209,34 +187,45 @@ state_in-moved t u n alike now rest pages up e =
           ]
     ] (up.held e)
 
-pub held-kept : (t u : States) (n : ℕ) → u.pages.items ≡ t.pages.items → AreUpTo n t → (e : ℕ) → IfSome (held_at u.pages.items e) (λ h. h.since ≤ n + 1)
-held-kept t u n pages up e =
-    subst (λ ps. IfSome (held_at ps e) (λ h. h.since ≤ n + 1)) (sym pages) (below_next (held_at t.pages.items e) n (up.held e))
+-- ---- one is set: the pages are those that were reached, with a new one in place i, that of number n; j is its place in the page
 
--- ---- one is set: the pages are those that were reached, with a new one in place of the old one of entity n
+module _ (t : States) (pages : List (Vec Held Global)) (old new : Vec Held Global) (number n i j : ℕ) (filler held : Held) (up : AreUpTo number t)
+    (filled : filler.since ≡ number) (rest : filler.state ≡ t.rest) (now : held.since ≡ number) (page : i ≡ n / 256) (place : j ≡ n % 256)
+    (at : slice_get pages i ≡ Some old) (within : i < length pages) (same : (e : ℕ) → held_at pages e ≡ held_at t.pages.items e)
+    (put : IsPut filler j held old.items new.items) where
+  put_there : IsPut filler (n % 256) held old.items new.items
+  put_there = subst (λ k. IsPut filler k held old.items new.items) place put
 
-module _ (t : States) (pages : List (Vec Held Global)) (old new : Vec Held Global) (number n : ℕ) (filler held : Held) (up : AreUpTo number t)
-    (filled : filler.since ≡ number) (rest : filler.state ≡ t.rest) (now : held.since ≡ number) (at : slice_get pages (n / 256) ≡ Some old)
-    (within : n / 256 < length pages) (same : (e : ℕ) → held_at pages e ≡ held_at t.pages.items e)
-    (put : IsPut filler (n % 256) held old.items new.items) where
-  kept-others : (e : ℕ) → e ≢ n → IsKept filler (held_at t.pages.items e) (held_at (set pages (n / 256) new) e)
+  there : n / 256 < length pages
+  there = subst (λ k. k < length pages) page within
+
+  set_there : (e : ℕ) → held_at (set pages i new) e ≡ held_at (set pages (n / 256) new) e
+  set_there e = ap (λ k. held_at (set pages k new) e) page
+
+  is_here : held_at (set pages i new) n ≡ Some held
+  is_here = set_there n ∙ held_at-here pages old new n filler held there put_there
+
+  kept-others : (e : ℕ) → e ≢ n → IsKept filler (held_at t.pages.items e) (held_at (set pages i new) e)
   kept-others e apart =
-      subst (λ o. IsKept filler o (held_at (set pages (n / 256) new) e)) (same e) (held_at-others pages old new n filler held at within put e apart)
+      subst (λ o. IsKept filler o (held_at (set pages i new) e)) (same e)
+      (subst (IsKept filler (held_at pages e)) (sym (set_there e))
+      (held_at-others pages old new n filler held (subst (λ k. slice_get pages k ≡ Some old) page at) there put_there e apart))
 
-  pub state-set : (e : ℕ) → state_by t (held_at (set pages (n / 256) new) e) ≡ (if nat_eq n e then held.state else state_in t e)
+  pub state-set : (e : ℕ) → state_by t (held_at (set pages i new) e) ≡ (if nat_eq n e then held.state else state_in t e)
   unfolding state_in
   state-set e =
+      let was = state_by t (held_at t.pages.items e) in
       ⊎_elim
-      (λ (one : e ≡ n). ap (λ m. state_by t (held_at (set pages (n / 256) new) m)) one ∙ ap (state_by t) (held_at-here pages old new n filler held within put)
-      ∙ state_by-held t number held now up ∙ ap (λ b. if b then held.state else state_by t (held_at t.pages.items e)) (sym (eq-eqb n e (sym one))))
-      (λ apart. state_by-kept t number filler (held_at t.pages.items e) (held_at (set pages (n / 256) new) e) filled rest up (kept-others e apart)
-      ∙ ap (λ b. if b then held.state else state_by t (held_at t.pages.items e)) (sym (ne_eqb n e (λ one. apart (sym one)))))
+      (λ (one : e ≡ n). ap (λ m. state_by t (held_at (set pages i new) m)) one ∙ ap (state_by t) is_here ∙ state_by-held t number held now up
+      ∙ ap (λ b. if b then held.state else was) (sym (eq-eqb n e (sym one))))
+      (λ apart. state_by-kept t number filler (held_at t.pages.items e) (held_at (set pages i new) e) filled rest up (kept-others e apart)
+      ∙ ap (λ b. if b then held.state else was) (sym (ne_eqb n e (λ one. apart (sym one)))))
       (cases_eq e n)
 
-  pub since-set : (e : ℕ) → IfSome (held_at (set pages (n / 256) new) e) (λ h. h.since ≤ number)
+  pub since-set : (e : ℕ) → IfSome (held_at (set pages i new) e) (λ h. h.since ≤ number)
   since-set e =
       ⊎_elim
-      (λ (one : e ≡ n). subst (λ m. IfSome (held_at (set pages (n / 256) new) m) (λ h. h.since ≤ number)) (sym one)
-      (subst (λ o. IfSome o (λ h. h.since ≤ number)) (sym (held_at-here pages old new n filler held within put)) (omega (arith, now))))
-      (λ apart. since-kept number filler (held_at t.pages.items e) (held_at (set pages (n / 256) new) e) filled (kept-others e apart) (up.held e))
+      (λ (one : e ≡ n). subst (λ m. IfSome (held_at (set pages i new) m) (λ h. h.since ≤ number)) (sym one)
+      (subst (λ o. IfSome o (λ h. h.since ≤ number)) (sym is_here) (omega (arith, now))))
+      (λ apart. since-kept number filler (held_at t.pages.items e) (held_at (set pages i new) e) filled (kept-others e apart) (up.held e))
       (cases_eq e n)

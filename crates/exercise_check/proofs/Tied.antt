@@ -1,5 +1,5 @@
 -- The states of all stations, one entry after another.
-use Rattle.std.proofs.Common.{◌≡◌, ◌≢◌, ⊎_elim, ℕ, zero, suc, ◌+◌, ◌-◌, drop, get_or, ◌<◌, ◌≤◌, List, [], ◌∷◌, ◌++◌, length, set, cond, Option, Some, None, Bool, true, false, refl, sym, ap, ◌∙◌, subst, arith, length-append}
+use Rattle.std.proofs.Common.{◌≡◌, ◌≢◌, ⊎_elim, ℕ, zero, suc, ◌+◌, ◌-◌, drop, get_or, ◌<◌, List, [], ◌∷◌, ◌++◌, length, set, cond, Option, Some, None, true, false, refl, sym, ap, ◌∙◌, subst, arith, length-append}
 use Rattle.std.specs.Prelude.{IfSome, OnOk, Result, Ok, Err, is_some, slice_get, nat_eq, option_and_then, if◌then◌else◌}
 use Rattle.std.specs.Option.{option_map_or}
 use Rattle.std.proofs.lemmas.Bool.{cases_eq, eq-eqb, ne_eqb}
@@ -10,7 +10,7 @@ use Rattle.exercise_model.specs.declared.state.Change.{Change}
 use Rattle.exercise_model.specs.Entry.{Entry}
 use Rattle.exercise_model.specs.Station.{listed_state}
 use Rattle.exercise_model.specs.Recording.{PlainRecording}
-use Rattle.exercise_model.specs.History.{Event, event_of, station_of, station_at}
+use Rattle.exercise_model.specs.History.{event_of, station_of, station_at}
 use Rattle.exercise_model.specs.State.{changed, change_made, entity_state}
 use Rattle.exercise_model.specs.Place.{event_at, own_event, log_before}
 use Rattle.exercise_model.proofs.Offered.{log_steps}
@@ -18,7 +18,7 @@ use Rattle.exercise_check.specs.declared.states.States.{States}
 use Rattle.exercise_check.specs.States.{state_in, AreUpTo, AreStatesOf, AreStatesBelow, AreStates}
 use Rattle.exercise_check.specs.Tables.{change_at}
 use Rattle.exercise_check.proofs.Changed.{own_change}
-use Rattle.exercise_check.proofs.EntityStates.{up_to-next, get-pushed, get-set_other, get-set_here}
+use Rattle.exercise_check.proofs.EntityStates.{up_to-next, get-set_other, get-set_here}
 
 -- ---- one entry more of a station
 
@@ -77,7 +77,8 @@ one_change r n e c ts t u at change here within tied up made = record {
   count = length-set ts (station_of (event_of e)) u ∙ tied.count;
   each = λ s. ⊎_elim
       (λ (same : s ≡ station_of (event_of e)).
-      subst (λ o. IfSome o (AreStatesOf r (n + 1) s)) (sym (ap (slice_get (set ts (station_of (event_of e)) u)) same ∙ get-set_here ts (station_of (event_of e)) u within))
+      subst (λ o. IfSome o (AreStatesOf r (n + 1) s))
+      (sym (ap (slice_get (set ts (station_of (event_of e)) u)) same ∙ get-set_here ts (station_of (event_of e)) u within))
       (next_states r s n (Some c) t u
       (own_of r s n e at ∙ ap (λ b. if b then change_at r n else None) (eq-eqb (station_of (event_of e)) s (sym same)) ∙ sym change)
       (subst (λ o. IfSome o (AreStatesOf r n s)) (ap (slice_get ts) same ∙ here) (tied.each s)) up made))
@@ -126,10 +127,7 @@ one_station r n k ts us t is tied here = subst (AreStatesBelow r n (k + 1)) (sym
       (cases_eq s (length ts));
 }
 
--- a list of entities, from its end on
-pub listed-last : (xs : List (ℕ × EntityState)) (e : ℕ) → listed_state (drop (length xs - 0) xs) e ≡ Absent
-listed-last xs e = ap (λ ys. listed_state ys e) (drop_all (length xs - 0) xs (omega arith))
-
+-- a list of entities, from its end on: one more before the last that are done
 pub listed-more : (xs : List (ℕ × EntityState)) (i done : ℕ) (x : ℕ × EntityState) (e : ℕ) → x ≡ get_or xs i x → done < length xs → i ≡ length xs - 1 - done
     → listed_state (drop (length xs - (done + 1)) xs) e ≡ (if nat_eq x.0 e then x.1 else listed_state (drop (length xs - done) xs) e)
 listed-more xs i done x e at within here =

@@ -1,7 +1,6 @@
 -- What a pass over a log finds, entry by entry, and how it is kept (profile).
-use Rattle.std.specs.Prelude.{◌≡◌, ⊤, ℕ, List, length, slice_get, slice_index_or, Option, Some, None, IfSome, ◌<◌, option_and_then}
+use Rattle.std.specs.Prelude.{◌≡◌, ⊤, ℕ, List, length, slice_get, slice_index_or, Option, None, IfSome, ◌<◌, option_and_then}
 use Rattle.exercise_model.specs.declared.state.Change.{Change}
-use Rattle.exercise_model.specs.Entry.{Entry}
 use Rattle.exercise_model.specs.Recording.{PlainRecording}
 use Rattle.exercise_model.specs.History.{Event, Send, Get, Tell, event_of, station_of, station_at, log_at}
 use Rattle.exercise_model.specs.Meaning.{meaning}

@@ -127,12 +127,7 @@ fn put_at(page: &mut Vec<Held>, filler: Held, place: usize, held: Held) -> Resul
 }
 
 /// Sets the state of one number, by the change of this number or the opening.
-fn hold(
-    states: &mut States,
-    entity: u16,
-    state: EntityState,
-    number: u32,
-) -> Result<(), AllocError>
+fn hold(states: &mut States, entity: u16, state: EntityState, number: u32) -> Result<(), AllocError>
     requires up_to { AreUpTo number states.old }
     ensures up_to { OnOk result (AreUpTo number states.new) }
     ensures states { OnOk result ((e : ℕ) → state_in states.new e ≡ (if entity == e then state else state_in states.old e)) }
@@ -235,10 +230,7 @@ fn opening_states(alloc: Global, station: &Station) -> Result<States, AllocError
 }
 
 /// The states of the entities of each station before the first entry of a log.
-pub(crate) fn no_changes<L: ExerciseLog>(
-    alloc: Global,
-    log: &L,
-) -> Result<Vec<States>, AllocError>
+pub(crate) fn no_changes<L: ExerciseLog>(alloc: Global, log: &L) -> Result<Vec<States>, AllocError>
     ensures { IfOk result (λ states. AreStates (L.recording log.now) 0 states.items) }
 {
     let mut states = Vec::new(alloc);

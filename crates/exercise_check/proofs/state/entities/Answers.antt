@@ -1,5 +1,4 @@
 use Rattle.std.proofs.Common.{length, ◌∙◌}
-use Rattle.std.specs.Prelude.{IfOk, Result, Ok, Err}
 use Rattle.exercise_check.proofs.Reported.{states_at, present-all, if_ok}
 use Rattle.exercise_check.proofs.state.entities.Goals as goal
 

@@ -1,9 +1,9 @@
-use Rattle.std.proofs.Common.{◌≡◌, ◌<◌, ◌+◌, ℕ, length, Some, None, refl, sym, ap, ◌∙◌, subst, arith, set}
+use Rattle.std.proofs.Common.{◌≡◌, ◌<◌, ◌+◌, ℕ, length, Some, refl, sym, ◌∙◌, subst, arith, set}
 use Rattle.std.specs.Prelude.{slice_get, IfSome}
 use Rattle.std.proofs.lemmas.Option.{slice_get_read}
 use Rattle.exercise_model.specs.Held.{shown}
 use Rattle.exercise_model.specs.History.{event_of, station_of}
-use Rattle.exercise_check.specs.States.{AreUpTo, AreStatesOf, AreStates}
+use Rattle.exercise_check.specs.States.{AreStatesOf, AreStates}
 use Rattle.exercise_check.proofs.Tied.{no_change, one_change, on_both}
 use Rattle.exercise_check.proofs.states.note_change.Goals as goal
 

@@ -3,7 +3,7 @@ use Rattle.std.specs.Prelude.{nat_eq, if◌then◌else◌}
 use Rattle.std.proofs.lemmas.List.{get_or_default}
 use Rattle.dis_records.specs.declared.entity_state.EntityState.TheVariants.{Absent}
 use Rattle.exercise_model.specs.Station.{listed_state}
-use Rattle.exercise_check.proofs.Tied.{listed-more, listed-last}
+use Rattle.exercise_check.proofs.Tied.{listed-more}
 use Rattle.exercise_check.proofs.states.opening_states.Goals as goal
 
 pub loop-done-preserved : goal.loop-done-preserved

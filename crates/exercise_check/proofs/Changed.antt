@@ -24,5 +24,3 @@ own_change r s j =
             | true ↦ λ near. ap (λ t. change_made r.setting.exercise (station_at r t) (log_before r t j) (event_of e)) (sym (eqb-true _ s near))
           ] refl
     ]
-
-pub ruleset change_steps = (own_change)

@@ -1,6 +1,9 @@
 mod Keyed
 mod Columns
 mod Changed
+mod EntityStates
+mod Tied
+mod Reported
 mod Judged
 mod Orders
 mod FirstSenders

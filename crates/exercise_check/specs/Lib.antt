@@ -2,6 +2,7 @@ pub mod Firsts
 pub mod Order
 pub mod Requests
 pub mod Senders
+pub mod States
 pub mod Tables
 pub mod Goodness
 pub mod Course

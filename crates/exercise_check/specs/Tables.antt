@@ -22,6 +22,7 @@ use Rattle.exercise_check.specs.Course.{IsCourse, Judges}
 use Rattle.exercise_check.specs.Firsts.{key_at, AreFirsts}
 use Rattle.exercise_check.specs.Requests.{AreRequests}
 use Rattle.exercise_check.specs.Senders.{Senders, AreSenders}
+use Rattle.exercise_check.specs.States.{AreStates}
 
 -- One value for each entry below n, and each is what P says of its entry.
 pub record IsColumn {X : Type 0} (d : X) (P : ℕ → X → Type 0) (n : ℕ) (xs : List X) : Type 0 where
@@ -34,10 +35,6 @@ changed_by r j v = change_made r.setting.exercise (station_at r (station_of v)) 
 
 unfoldable pub change_at : PlainRecording → ℕ → Option Change
 change_at r j = option_and_then (λ e. changed_by r j (event_of e)) (slice_get r.entries j)
-
--- the change of entry j
-abbrev pub IsChangeAt : PlainRecording → ℕ → Option Change → Type 0
-IsChangeAt r j change = change ≡ change_at r j
 
 -- how many entries of each station stand before entry n
 abbrev pub IsCountBefore : PlainRecording → ℕ → ℕ → ℕ → Type 0
@@ -60,7 +57,7 @@ IsRankAt r j rank = IfSome (slice_get r.entries j) (λ e. rank ≡ length (log_b
 -- THE TIE of the tables, after the entries below n
 pub record AreTied (r : PlainRecording) (n : ℕ) (t : Tables) : Type 0 where
   pub firsts : AreFirsts r n t.firsts
-  pub changes : IsColumn None (IsChangeAt r) n t.changes.items
+  pub states : AreStates r n t.states.items
   pub counts : AreCounts r n t.counts.items
 
 -- What the log of its station says of the event of entry j: all but whether a datagram that was received was sent before, which it judges as if nothing had been.
@@ -79,7 +76,7 @@ JudgesAt r j given = IfSome (slice_get r.entries j) (λ e. JudgesOwn r j (event_
 pub record IsFound (r : PlainRecording) (n : ℕ) (f : Found) : Type 0 where
   pub judgement : JudgesAt r n f.judgement
   pub pair : f.pair ≡ pair_of r n
-  pub change : IsChangeAt r n f.change
+  pub change : f.change ≡ change_at r n
   pub key : f.key ≡ key_at r n
 
 -- WHAT A PASS FINDS in the entries below n

@@ -32,6 +32,7 @@ mod order;
 mod requests;
 mod senders;
 mod state;
+mod states;
 mod table;
 mod tables;
 

@@ -2,12 +2,13 @@
 
 ghost use Rattle.std.specs.Prelude.{◌≡◌, ◌<◌, ◌+◌, length, OnOk, IfOk};
 ghost use Rattle.exercise_check.specs.Firsts.{key_at};
-ghost use Rattle.exercise_check.specs.Tables.{AreTied, IsChangeAt, IsRankAt};
+ghost use Rattle.exercise_check.specs.Tables.{AreTied, change_at, IsRankAt};
 
 use crate::counts::{count_entry, no_counts};
 use crate::firsts::{Firsts, no_firsts, note_entry};
 use crate::key::Key;
 use crate::order::station_of;
+use crate::states::{States, no_changes, note_change};
 use exercise_model::{Change, ExerciseLog};
 use std::alloc::{AllocError, Global};
 
@@ -16,8 +17,8 @@ use std::alloc::{AllocError, Global};
 pub(crate) struct Tables {
     /// The first entry under each key.
     pub firsts: Firsts,
-    /// What each entry changes.
-    pub changes: Vec<Option<Change>>,
+    /// The states of the entities of each station.
+    pub states: Vec<States>,
     /// How many entries of each station there were.
     pub counts: Vec<u32>,
 }
@@ -26,10 +27,11 @@ pub(crate) struct Tables {
 pub(crate) fn no_tables<L: ExerciseLog>(alloc: Global, log: &L) -> Result<Tables, AllocError>
     ensures { IfOk result (λ tables. AreTied (L.recording log.now) 0 tables) }
 {
+    let states = no_changes(alloc, log)?;
     let counts = no_counts(alloc, log.station_count())?;
     Ok(Tables {
         firsts: no_firsts(alloc),
-        changes: Vec::new(alloc),
+        states,
         counts,
     })
 }
@@ -44,7 +46,6 @@ pub(crate) fn rank_at<L: ExerciseLog>(log: &L, tables: &Tables, entry: usize) ->
 }
 
 /// Keeps the next entry of a log, which makes this change and has this key.
-#[tactic(auto, using(crate::proofs::Columns::column_steps))]
 pub(crate) fn note_tables<L: ExerciseLog>(
     tables: &mut Tables,
     log: &L,
@@ -54,11 +55,11 @@ pub(crate) fn note_tables<L: ExerciseLog>(
 ) -> Result<(), AllocError>
     requires within { entry < length (L.recording log.now).entries }
     requires tied { AreTied (L.recording log.now) entry tables.old }
-    requires change { IsChangeAt (L.recording log.now) entry change }
+    requires change { change ≡ change_at (L.recording log.now) entry }
     requires key { key ≡ key_at (L.recording log.now) entry }
     ensures { OnOk result (AreTied (L.recording log.now) (entry + 1) tables.new) }
 {
-    tables.changes.push(change)?;
+    note_change(&mut tables.states, log, change, entry)?;
     count_entry(&mut tables.counts, log, entry);
     note_entry(&mut tables.firsts, log, entry, key)
 }

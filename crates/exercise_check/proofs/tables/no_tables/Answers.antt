@@ -1,9 +1,7 @@
-use Rattle.std.proofs.Common.{◌≡◌, ℕ, List, Option, None, sym, ◌∙◌, subst}
-use Rattle.exercise_model.specs.declared.state.Change.{Change}
-use Rattle.exercise_check.specs.Tables.{IsColumn, IsChangeAt}
+use Rattle.std.proofs.Common.{◌≡◌, ℕ, sym, ◌∙◌, subst}
+use Rattle.exercise_check.specs.Tables.{IsColumn}
 use Rattle.exercise_check.proofs.Keyed.{first_under-none}
 use Rattle.exercise_check.proofs.Counted.{counts_none}
-use Rattle.exercise_check.proofs.Columns.{column_none}
 use Rattle.exercise_check.proofs.tables.no_tables.Goals as goal
 
 pub returns : goal.returns
@@ -11,6 +9,6 @@ returns g c =
     let r = g.L.ExerciseLog.recording c.args.log.now in
     record {
       firsts = λ k. c.no_firsts.ensures k ∙ sym (first_under-none r k);
-      changes = subst (λ (xs : List (Option Change)). IsColumn None (IsChangeAt r) 0 xs) (sym c.new.ensures.items) (column_none None (IsChangeAt r));
+      states = c.in_ok-states.ensures;
       counts = counts_none r c.in_ok-counts.counts.items (subst (λ (n : ℕ). IsColumn 0 (λ s x. x ≡ 0) n c.in_ok-counts.counts.items) c.station_count.ensures.count c.in_ok-counts.ensures);
     }

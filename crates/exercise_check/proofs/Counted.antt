@@ -1,10 +1,10 @@
 -- How many entries of each station stand before an entry, and how many were taken.
-use Rattle.std.proofs.Common.{◌≡◌, ◌≢◌, ℕ, zero, suc, ◌+◌, ◌<◌, ◌≤◌, List, [], ◌∷◌, ◌++◌, length, cond, Option, Some, None, Bool, true, false, refl, sym, ap, ◌∙◌, ⊎_elim, subst, arith}
+use Rattle.std.proofs.Common.{◌≡◌, ℕ, zero, suc, ◌+◌, ◌<◌, ◌≤◌, List, [], ◌∷◌, ◌++◌, length, cond, Some, None, true, false, refl, sym, ap, ◌∙◌, ⊎_elim, subst, arith}
 use Rattle.std.specs.Prelude.{is_some, slice_get, slice_index_or, nat_eq, ◌==◌, if◌then◌else◌, option_and_then, IfSome}
 use Rattle.std.proofs.Math.Numerals.{add-one}
 use Rattle.exercise_model.specs.Entry.{Entry}
 use Rattle.exercise_model.specs.Recording.{PlainRecording, IsRecording}
-use Rattle.exercise_model.specs.History.{Event, event_of, station_of, log_at, log_of}
+use Rattle.exercise_model.specs.History.{event_of, station_of, log_at}
 use Rattle.exercise_model.specs.Place.{event_at, own_event, log_before}
 use Rattle.exercise_model.proofs.Offered.{beginning_length, log_before-all}
 use Rattle.std.proofs.lemmas.Bool.Decides.{nat_tests}
@@ -17,7 +17,7 @@ use Rattle.exercise_check.proofs.Goodness.{good_logs}
 use Rattle.exercise_check.proofs.Orders.{length-entries-more, length-entries-none, length-order-more, length-order-none}
 
 -- an entry is a station's own where it is the station's
-own_here : (r : PlainRecording) (s i : ℕ) (e : Entry) → slice_get r.entries i ≡ Some e
+pub own_here : (r : PlainRecording) (s i : ℕ) (e : Entry) → slice_get r.entries i ≡ Some e
     → is_some (own_event r s i) ≡ nat_eq s (station_of (event_of e))
 unfolding own_event
 own_here r s i e at =

@@ -7,6 +7,7 @@ mod Orders
 mod Goodness
 mod Courses
 mod Counted
+mod Moved
 mod Links
 mod Explained
 mod Known

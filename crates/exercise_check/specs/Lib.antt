@@ -1,8 +1,10 @@
 pub mod Firsts
 pub mod Order
+pub mod Column
 pub mod Tables
 pub mod Goodness
 pub mod Course
+pub mod Cursors
 pub mod Sent
 pub mod Checked
 pub mod Certificate

@@ -1,7 +1,6 @@
 -- What a pass over a log finds, entry by entry, and how it is kept (profile).
-use Rattle.std.specs.Prelude.{◌≡◌, ⊤, ℕ, List, length, slice_get, slice_index_or, Option, Some, None, IfSome, ◌<◌, option_and_then}
+use Rattle.std.specs.Prelude.{◌≡◌, ⊤, ℕ, List, length, slice_get, Option, None, IfSome, option_and_then}
 use Rattle.exercise_model.specs.declared.state.Change.{Change}
-use Rattle.exercise_model.specs.Entry.{Entry}
 use Rattle.exercise_model.specs.Recording.{PlainRecording}
 use Rattle.exercise_model.specs.History.{Event, Send, Get, Tell, event_of, station_of, station_at, log_at}
 use Rattle.exercise_model.specs.Meaning.{meaning}
@@ -17,11 +16,9 @@ use Rattle.exercise_check.specs.declared.certificate.Step.{Step}
 use Rattle.exercise_check.specs.Order.{order_of}
 use Rattle.exercise_check.specs.Course.{IsCourse, Judges}
 use Rattle.exercise_check.specs.Firsts.{AreFirsts}
-
--- One value for each entry below n, and each is what P says of its entry.
-pub record IsColumn {X : Type 0} (d : X) (P : ℕ → X → Type 0) (n : ℕ) (xs : List X) : Type 0 where
-  pub count : length xs ≡ n
-  pub each : (j : ℕ) → j < n → P j (slice_index_or xs j d)
+use Rattle.exercise_check.specs.declared.cursors.Cursors.{Cursors}
+use Rattle.exercise_check.specs.Cursors.{AreCursors}
+pub use Rattle.exercise_check.specs.Column.{IsColumn}
 
 -- what the event of entry j changes at its station, after the log of the station before it
 abbrev pub changed_by : PlainRecording → ℕ → Event → Option Change
@@ -77,8 +74,10 @@ pub record AreFindings (r : PlainRecording) (n : ℕ) (f : Findings) : Type 0 wh
   pub pairs : f.pairs.items ≡ values_below (pair_of r) n
   pub ranks : IsColumn 0 (IsRankAt r) n f.ranks.items
 
--- WHAT A COURSE KEEPS TO: its recording and steps are those of a course, all entries are found, and those that were taken are counted
-pub record Keeps (r : PlainRecording) (steps : List Step) (f : Findings) (taken : List ℕ) : Type 0 where
+-- WHAT A COURSE KEEPS TO: its recording and steps are those of a course, all entries are found, those that were taken are counted, and
+-- the next entry of each station is known
+pub record Keeps (r : PlainRecording) (steps : List Step) (f : Findings) (taken : List ℕ) (c : Cursors) : Type 0 where
   pub course : IsCourse (record { recording = r; steps = steps })
   pub found : AreFindings r (length r.entries) f
   pub counted : AreTaken r steps taken
+  pub next : AreCursors r steps c

@@ -2,6 +2,7 @@ use Rattle.std.proofs.Common.{◌≡◌, ℕ, List, sym, subst, arith}
 use Rattle.exercise_check.specs.declared.certificate.Step.{Step}
 use Rattle.exercise_check.specs.Course.{IsCourse}
 use Rattle.exercise_check.specs.Tables.{IsColumn, AreTaken}
+use Rattle.exercise_check.specs.Cursors.{AreCursors}
 use Rattle.exercise_check.proofs.Counted.{taken_none}
 use Rattle.exercise_check.proofs.course.Course.begin.Goals as goal
 
@@ -15,4 +16,5 @@ invariant_of-result g c =
           (record { limits = c.entry_count-entries.ensures.limits; good = λ k l. absurd (omega arith) });
       found = c.in_ok-found.ensures;
       counted = subst (λ (xs : List Step). AreTaken r xs taken) (sym c.new.ensures.items) (taken_none r taken zeros);
+      next = subst (λ (xs : List Step). AreCursors r xs c.in_ok-cursors.cursors) (sym c.new.ensures.items) c.in_ok-cursors.ensures;
     }

@@ -1,7 +1,7 @@
 use Rattle.std.proofs.Common.{sym, subst}
 use Rattle.exercise_check.specs.Course.{IsNext}
 use Rattle.exercise_check.proofs.Goodness.{are_placed, good_push}
-use Rattle.exercise_check.proofs.Courses.{next_ready, allows, small_link}
+use Rattle.exercise_check.proofs.Courses.{next_ready, next_counts, allows, small_link}
 use Rattle.exercise_check.proofs.Counted.{few_taken}
 use Rattle.exercise_check.proofs.course.Course.go_on.Goals as goal
 
@@ -36,6 +36,8 @@ invariant_of-self-in-Allowed g c =
       };
       found = c.self.invariant.found;
       counted = rw c.in_ok-push-in-Allowed.ensures.items (c.count_taken.ensures c.self.inside.steps.items _ c.self.invariant.counted);
+      next = rw c.in_ok-push-in-Allowed.ensures.items (c.pass.ensures c.self.inside.steps.items _ (next_counts r c.self.inside.steps.items c.args.place next)
+          c.self.invariant.next);
     }
 
 pub count_taken-requires-clause-few : goal.count_taken-requires-clause-few

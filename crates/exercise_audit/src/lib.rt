@@ -6,7 +6,9 @@
 #![tactic(auto)]
 
 mod blocks;
+mod search;
 mod sweeps;
+mod waiting;
 
 pub use blocks::{Audit, Block};
 pub use sweeps::audit;

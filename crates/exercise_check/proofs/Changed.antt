@@ -1,9 +1,10 @@
 -- What an entry changes, by what was found of it.
-use Rattle.std.proofs.Common.{◌≡◌, ℕ, cond, Some, None, true, false, refl, sym, ap}
+use Rattle.std.proofs.Common.{◌≡◌, ℕ, cond, Option, Some, None, true, false, refl, sym, ap, ◌∙◌}
 use Rattle.std.specs.Prelude.{is_some, slice_get, nat_eq, option_and_then, if◌then◌else◌}
 use Rattle.std.proofs.lemmas.Bool.{eqb-true}
+use Rattle.exercise_model.specs.declared.state.Change.{Change}
 use Rattle.exercise_model.specs.Recording.{PlainRecording}
-use Rattle.exercise_model.specs.History.{event_of, station_of, station_at}
+use Rattle.exercise_model.specs.History.{Event, event_of, station_of, station_at}
 use Rattle.exercise_model.specs.State.{change_made}
 use Rattle.exercise_model.specs.Place.{event_at, own_event, log_before}
 use Rattle.exercise_check.specs.Tables.{changed_by, change_at}

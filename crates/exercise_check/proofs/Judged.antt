@@ -1,12 +1,15 @@
 -- What a station's log says of its next entry is what the order so far says.
-use Rattle.std.proofs.Common.{ℕ, List, length, None, sym, subst}
+use Rattle.std.proofs.Common.{◌≡◌, ℕ, List, length, Option, Some, None, refl, sym, ap, ◌∙◌, subst}
 use Rattle.std.specs.Prelude.{option_and_then}
 use Rattle.exercise_model.specs.Recording.{PlainRecording}
-use Rattle.exercise_model.specs.History.{Send, Tell, station_at}
+use Rattle.exercise_model.specs.Setting.{station_in}
+use Rattle.exercise_model.specs.History.{Event, Send, Get, Tell, History, log_at, station_at}
 use Rattle.exercise_model.specs.Meaning.{meaning}
 use Rattle.exercise_model.specs.State.{state_after}
 use Rattle.exercise_model.specs.Cause.{send_cause, tell_rows, first_cause, cause_of}
+use Rattle.exercise_model.specs.Place.{log_before}
 use Rattle.exercise_model.specs.Account.{pair_of_sent}
+use Rattle.exercise_model.specs.declared.cause.Cause.{Cause}
 use Rattle.dis_records.specs.declared.entity_state.EntityState.{EntityState}
 use Rattle.exercise_check.specs.declared.certificate.Step.{Step}
 use Rattle.exercise_check.specs.declared.cause.Judgement.{Judgement}

@@ -1,8 +1,9 @@
 -- What is looked up under a key is what a look through the log finds.
-use Rattle.std.proofs.Common.{◌≡◌, ℕ, zero, suc, ◌<◌, ◌∷◌, length, cond, Option, Some, None, Bool, true, false, refl, sym, ap, ◌∙◌, subst, arith}
+use Rattle.std.proofs.Common.{◌≡◌, ℕ, zero, suc, ◌+◌, ◌<◌, ◌≤◌, List, [], ◌∷◌, length, cond, Option, Some, None, Bool, true, false, refl, sym, ap, ◌∙◌, subst, arith}
 use Rattle.std.specs.Prelude.{IfSome, ◌≢◌, is_some, slice_get, nat_eq, ◌&&◌, ◌||◌, option_map, option_and_then, if◌then◌else◌}
 use Rattle.std.specs.Option.{option_map_or, option_or}
 use Rattle.std.specs.List.{list_any}
+use Rattle.std.proofs.Math.Numerals.{add-one}
 use Rattle.std.proofs.lemmas.Bool.{eqb-true, eq-eqb}
 use Rattle.std.proofs.lemmas.Bool.Decides.{nat_tests}
 use Rattle.std.proofs.lemmas.Option.{same_Some}
@@ -13,7 +14,7 @@ use Rattle.siman_pdus.specs.Role.{is_request_body, request_id_of}
 use Rattle.siman_pdus.specs.Answers.{same_id, same_pair}
 use Rattle.exercise_model.specs.declared.acknowledge.AcknowledgeKey.{AcknowledgeKey}
 use Rattle.exercise_model.specs.Recording.{PlainRecording}
-use Rattle.exercise_model.specs.History.{Event, Send, Get, Tell, event_of, station_at}
+use Rattle.exercise_model.specs.History.{Event, Send, Get, Tell, History, event_of, station_at}
 use Rattle.exercise_model.specs.Meaning.{meaning}
 use Rattle.exercise_model.specs.Exchange.{is_asked, request_brought, request_taken_up}
 use Rattle.exercise_model.specs.Change.{able, unable, responds, response_of, key_of, responds_under, sends_under, was_acknowledged}

@@ -1,6 +1,8 @@
-use Rattle.std.proofs.Common.{◌+◌, ◌<◌, ℕ, length, arith, ap, ◌∙◌}
+use Rattle.std.proofs.Common.{◌≡◌, ◌+◌, ◌<◌, ℕ, length, arith, ap, ◌∙◌}
 use Rattle.std.specs.Prelude.{nat_eq, if◌then◌else◌, slice_index_or}
 use Rattle.exercise_model.specs.Held.{shown}
+use Rattle.exercise_model.specs.History.{event_of, station_of}
+use Rattle.exercise_model.specs.Place.{log_before}
 use Rattle.exercise_check.proofs.Counted.{counted_entry, few_before}
 use Rattle.exercise_check.proofs.counts.count_entry.Goals as goal
 

@@ -1,4 +1,5 @@
 use Rattle.std.proofs.Common.{◌≡◌, ◌<◌, ℕ, length, arith}
+use Rattle.std.specs.Prelude.{nat_eq, slice_index_or}
 use Rattle.exercise_model.specs.History.{event_of}
 use Rattle.exercise_model.specs.Held.{shown}
 use Rattle.exercise_check.specs.Order.{is_next}

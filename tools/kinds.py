@@ -31,7 +31,7 @@ ALL = 0xFFFF
 
 
 class Run:
-    """Events in the order in which they happen: each with its station, its text, and the event that its step links with."""
+    """Events in the order in which they happen: each one's station, its text, and the event that its step links with."""
 
     def __init__(self, stations, openings=None):
         self.stations, self.openings = stations, openings or {}

@@ -1,9 +1,8 @@
 //! The search by waiting lists: each station goes on as far as it may, and then waits for the
 //! datagram that it is to receive next, if that was not sent so far.
 
-ghost use Rattle.std.specs.Prelude.{◌≡◌, ◌<◌, ◌≤◌, ◌++◌, length, OnOk, IfOk, true};
-ghost use Rattle.exercise_audit.specs.Waiting.{waiting_for};
-ghost use Rattle.exercise_audit.specs.Search.{IsWoken, IsWaiting};
+ghost use Rattle.std.specs.Prelude.{◌≡◌, ◌<◌, length, OnOk, IfOk, true, false};
+ghost use Rattle.exercise_audit.specs.Search.{AreFromLast, IsWoken, IsWaiting, WaitsFor, GoesOnBy, Stays};
 
 use crate::waiting::{Waiting, no_waiting, wait, wake};
 use exercise_check::{Course, Progress};
@@ -45,6 +44,24 @@ fn wait_at<'a, L: ExerciseLog>(
     Ok(())
 }
 
+/// Lets a station wait for what an entry receives, if it can't go on because that was not sent.
+fn wait_for<'a, L: ExerciseLog>(
+    alloc: Global,
+    log: &'a L,
+    waiting: &mut Waiting<'a>,
+    station: usize,
+    entry: usize,
+    cause: Cause,
+) -> Result<(), AllocError>
+    requires { entry < length (L.recording log.now).entries }
+    ensures { OnOk result (WaitsFor (L.recording log.now) entry station cause waiting.old waiting.new) }
+{
+    if cause == Cause::NeverSent {
+        wait_at(alloc, log, waiting, station, entry)?;
+    }
+    Ok(())
+}
+
 /// Lets a station go on by its next entry, if it has one and may, and answers whether it did. Those
 /// that wait for what it sends may go on then; where it is to receive what was not sent so far, it
 /// waits for that.
@@ -58,7 +75,9 @@ fn go_on<'a, L: ExerciseLog>(
 ) -> Result<bool, AllocError>
     requires { course.old.recording ≡ L.recording log.now }
     ensures recording { course.new.recording ≡ course.old.recording }
-    ensures longer { IfOk result (λ more. more ≡ true → length course.old.steps < length course.new.steps) }
+    ensures goes { IfOk result (λ more. more ≡ true → GoesOnBy course.old course.new station waiting.old waiting.new ready.old.items ready.new.items) }
+    ensures stays { IfOk result (λ more. more ≡ false → Stays course.old station waiting.old waiting.new) }
+    ensures same { IfOk result (λ more. more ≡ false → (course.new ≡ course.old) × (ready.new ≡ ready.old)) }
 {
     let Some(entry) = course.next_entry(station) else {
         return Ok(false);
@@ -68,11 +87,10 @@ fn go_on<'a, L: ExerciseLog>(
             wake_at(alloc, log, waiting, ready, entry)?;
             Ok(true)
         }
-        Progress::Barred(Cause::NeverSent) => {
-            wait_at(alloc, log, waiting, station, entry)?;
+        Progress::Barred(cause) => {
+            wait_for(alloc, log, waiting, station, entry, cause)?;
             Ok(false)
         }
-        Progress::Barred(_) => Ok(false),
     }
 }
 
@@ -97,8 +115,11 @@ fn go_far<'a, L: ExerciseLog>(
     Ok(())
 }
 
-/// Each station, the first one last.
-fn all_stations(alloc: Global, stations: usize) -> Result<Vec<usize>, AllocError> {
+/// All stations, the last one first.
+#[tactic(auto, using(crate::proofs::Turns::from_before))]
+fn all_stations(alloc: Global, stations: usize) -> Result<Vec<usize>, AllocError>
+    ensures { IfOk result (λ all. AreFromLast stations 0 all.items) }
+{
     let mut all = Vec::new(alloc);
     for station in (0..stations).rev() {
         all.push(station)?;

@@ -1,4 +1,5 @@
-//! The search: it sweeps over the stations until a whole sweep adds no step.
+//! The search: the stations go on by waiting lists, and then it sweeps over them until a whole sweep
+//! adds no step.
 
 ghost use Rattle.std.specs.Prelude.{◌≡◌, ◌<◌, length, IfSome, IfNone, IfOk, true, false, ℕ};
 ghost use Rattle.exercise_check.specs.Course.{so_far};

@@ -1,1 +1,3 @@
 pub mod Audit
+pub mod Search
+pub mod Waiting

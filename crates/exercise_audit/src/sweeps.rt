@@ -1,10 +1,12 @@
-//! The search: it sweeps over the stations until a whole sweep adds no step.
+//! The search: the stations go on by waiting lists, and then it sweeps over them until a whole sweep
+//! adds no step.
 
 ghost use Rattle.std.specs.Prelude.{◌≡◌, ◌<◌, length, IfSome, IfNone, IfOk, true, false, ℕ};
 ghost use Rattle.exercise_check.specs.Course.{so_far};
 ghost use Rattle.exercise_audit.specs.Audit.{IsAuditOf, IsHeld, IsBlock, IsDone, AreBlocks};
 
 use crate::blocks::{Audit, Block};
+use crate::search::go_on_by_lists;
 use exercise_check::{Course, Progress};
 use exercise_model::ExerciseLog;
 use std::alloc::{AllocError, Global};
@@ -105,6 +107,8 @@ pub fn audit<L: ExerciseLog>(alloc: Global, log: &L) -> Result<Audit, AllocError
 {
     let (count, stations) = (log.entry_count(), log.station_count());
     let mut course = Course::begin(alloc, log)?;
+    go_on_by_lists(alloc, log, &mut course)?;
+    // A sweep over the stations shows that nothing can go on.
     loop {
         if !sweep(alloc, &mut course, stations)? {
             break;

@@ -17,7 +17,7 @@ use Rattle.exercise_check.proofs.Goodness.{good_logs}
 use Rattle.exercise_check.proofs.Orders.{length-entries-more, length-entries-none, length-order-more, length-order-none}
 
 -- an entry is a station's own where it is the station's
-own_here : (r : PlainRecording) (s i : ℕ) (e : Entry) → slice_get r.entries i ≡ Some e
+pub own_here : (r : PlainRecording) (s i : ℕ) (e : Entry) → slice_get r.entries i ≡ Some e
     → is_some (own_event r s i) ≡ nat_eq s (station_of (event_of e))
 unfolding own_event
 own_here r s i e at =

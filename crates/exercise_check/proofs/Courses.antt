@@ -99,6 +99,16 @@ next_ready r steps i good next =
       | Some e ↦ λ here. is_ready r steps i (event_of e) good (next_lengths r steps i (event_of e) here)
     ] next
 
+pub next_counts : (r : PlainRecording) (steps : List Step) (i : ℕ)
+    → IfSome (slice_get r.entries i) (λ e. is_next r steps i (event_of e) ≡ true)
+    → IfSome (slice_get r.entries i) (λ e. length (log_at (station_of (event_of e)) (order_of r steps)) ≡ length (log_before r (station_of (event_of e)) i))
+next_counts r steps i next =
+    elim (slice_get r.entries i) as (λ o. IfSome o (λ e. is_next r steps i (event_of e) ≡ true)
+    → IfSome o (λ e. length (log_at (station_of (event_of e)) (order_of r steps)) ≡ length (log_before r (station_of (event_of e)) i))) [
+      | None ↦ λ _. tt
+      | Some e ↦ λ here. next_lengths r steps i (event_of e) here
+    ] next
+
 -- and where it is allowed, it makes a good step
 pub next_good : (r : PlainRecording) (steps : List Step) (i number : ℕ) (e : Entry) → slice_get r.entries i ≡ Some e
     → is_next r steps i (event_of e) ≡ true → cause_of r.setting (order_of r steps) (event_of e) ≡ None

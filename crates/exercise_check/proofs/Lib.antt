@@ -12,6 +12,7 @@ mod Looks
 mod Goodness
 mod Courses
 mod Counted
+mod Moved
 mod Links
 mod Explained
 mod Known

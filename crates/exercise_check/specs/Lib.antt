@@ -1,11 +1,13 @@
 pub mod Firsts
 pub mod Order
+pub mod Column
 pub mod Requests
 pub mod Senders
 pub mod States
 pub mod Tables
 pub mod Goodness
 pub mod Course
+pub mod Cursors
 pub mod Sent
 pub mod Checked
 pub mod Certificate

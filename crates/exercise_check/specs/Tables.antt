@@ -23,11 +23,9 @@ use Rattle.exercise_check.specs.Firsts.{key_at, AreFirsts}
 use Rattle.exercise_check.specs.Requests.{AreRequests}
 use Rattle.exercise_check.specs.Senders.{Senders, AreSenders}
 use Rattle.exercise_check.specs.States.{AreStates}
-
--- One value for each entry below n, and each is what P says of its entry.
-pub record IsColumn {X : Type 0} (d : X) (P : ℕ → X → Type 0) (n : ℕ) (xs : List X) : Type 0 where
-  pub count : length xs ≡ n
-  pub each : (j : ℕ) → j < n → P j (slice_index_or xs j d)
+use Rattle.exercise_check.specs.declared.cursors.Cursors.{Cursors}
+use Rattle.exercise_check.specs.Cursors.{AreCursors}
+pub use Rattle.exercise_check.specs.Column.{IsColumn}
 
 -- what the event of entry j changes at its station, after the log of the station before it
 abbrev pub changed_by : PlainRecording → ℕ → Event → Option Change
@@ -106,9 +104,10 @@ abbrev pub IsReadyAt : PlainRecording → List Step → ℕ → Type 0
 IsReadyAt r steps place = IfSome (slice_get r.entries place) (λ e. IsReady r steps place (event_of e))
 
 -- WHAT A COURSE KEEPS TO: its recording and steps are those of a course, all entries are found, those that were taken are counted, and
--- who sent each datagram first is known
-pub record Keeps (r : PlainRecording) (steps : List Step) (f : Findings) (taken : List ℕ) (senders : Senders) : Type 0 where
+-- who sent each datagram first and the next entry of each station are known
+pub record Keeps (r : PlainRecording) (steps : List Step) (f : Findings) (taken : List ℕ) (senders : Senders) (cursors : Cursors) : Type 0 where
   pub course : IsCourse (record { recording = r; steps = steps })
   pub found : AreFindings r (length r.entries) f
   pub counted : AreTaken r steps taken
   pub sent : AreSenders r steps senders
+  pub next : AreCursors r steps cursors

@@ -13,8 +13,9 @@ use crate::cause::{Judgement, judge};
 use crate::certificate::{Certificate, NO_LINK, Step};
 use crate::checked::Checked;
 use crate::counts::{count_taken, no_counts};
+use crate::cursors::{Cursors, first_cursors, next_entry, pass};
 use crate::findings::{Findings, find};
-use crate::order::{next_entry, station_of};
+use crate::order::station_of;
 use crate::senders::{Senders, no_senders, note_sender};
 use exercise_model::{Cause, ExerciseLog};
 use std::alloc::{AllocError, Global};
@@ -32,6 +33,7 @@ pub struct Course<'a, L: ExerciseLog> {
     found: Findings,
     taken: Vec<u32>,
     senders: Senders<'a>,
+    cursors: Cursors,
 }
 
 impl<'a, L: ExerciseLog> Model for Course<'a, L> {
@@ -39,7 +41,7 @@ impl<'a, L: ExerciseLog> Model for Course<'a, L> {
 
     ghost view = { λ c. record { recording = L.recording c.log.now; steps = c.steps.items } };
 
-    ghost invariant = { λ c. Keeps (L.recording c.log.now) c.steps.items c.found c.taken.items c.senders };
+    ghost invariant = { λ c. Keeps (L.recording c.log.now) c.steps.items c.found c.taken.items c.senders c.cursors };
 }
 
 /// What going on by an entry comes to.
@@ -81,12 +83,14 @@ impl<'a, L: ExerciseLog> Course<'a, L> {
         let _entries = log.entry_count();
         let found = find(alloc, log)?;
         let taken = no_counts(alloc, log.station_count())?;
+        let cursors = first_cursors(alloc, log)?;
         Ok(Course {
             log,
             steps: Vec::new(alloc),
             found,
             taken,
             senders: no_senders(alloc),
+            cursors,
         })
     }
 
@@ -115,7 +119,7 @@ impl<'a, L: ExerciseLog> Course<'a, L> {
         ensures next { IfSome result (λ place. IsNext self.now place) }
         ensures done { IfNone result (log_at station (so_far self.now) ≡ log_of self.now.recording station) }
     {
-        next_entry(self.log, &self.steps, station)
+        next_entry(self.log, &self.cursors, station)
     }
 
     /// Goes on by an entry that is its station's next one: where its event is allowed after what
@@ -141,6 +145,7 @@ impl<'a, L: ExerciseLog> Course<'a, L> {
                     link,
                 })?;
                 count_taken(&mut self.taken, self.log, place);
+                pass(&mut self.cursors, self.log, place);
                 Ok(Progress::Taken(link))
             }
         }

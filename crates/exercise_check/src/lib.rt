@@ -21,6 +21,7 @@ mod checked;
 mod checker;
 mod counts;
 mod course;
+mod cursors;
 mod exchange;
 mod findings;
 mod firsts;

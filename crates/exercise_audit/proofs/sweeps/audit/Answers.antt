@@ -8,12 +8,12 @@ use Rattle.exercise_audit.proofs.Held.{blocked_from_held}
 use Rattle.exercise_audit.proofs.sweeps.audit.Goals as goal
 
 pub loop-course-init : goal.loop-course-init
-loop-course-init g c = ap (λ (v : CourseData). v.recording) c.in_ok-course.ensures
+loop-course-init g c = c.go_on_by_lists.ensures ∙ ap (λ (v : CourseData). v.recording) c.in_ok-course.ensures
 
 pub loop-course-smaller : goal.loop-course-smaller
 loop-course-smaller g c =
     let v = c.sweep.new.course in
-    let course : IsCourse v = subst IsCourse c.course.view_is c.course.invariant.course in
+    let course : IsCourse v = subst IsCourse c.course-in-loop-course.view_is c.course-in-loop-course.invariant.course in
     let few = good_few v.recording course.limits v.steps course.good in
     let longer : length c.loop-course.course.steps < length v.steps = c.in_ok-sweep.ensures.longer c.if-not-branch.false in
     let same : length v.recording.entries ≡ c.entry_count-count.result = ap (λ (r : PlainRecording). length r.entries)

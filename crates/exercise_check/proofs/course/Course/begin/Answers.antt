@@ -3,6 +3,7 @@ use Rattle.exercise_check.specs.declared.certificate.Step.{Step}
 use Rattle.exercise_check.specs.Course.{IsCourse}
 use Rattle.exercise_check.specs.Tables.{IsColumn, AreTaken}
 use Rattle.exercise_check.specs.Senders.{AreSenders}
+use Rattle.exercise_check.specs.Cursors.{AreCursors}
 use Rattle.exercise_check.proofs.Counted.{taken_none}
 use Rattle.exercise_check.proofs.FirstSenders.{no_senders}
 use Rattle.exercise_check.proofs.course.Course.begin.Goals as goal
@@ -18,4 +19,5 @@ invariant_of-result g c =
       found = c.in_ok-found.ensures;
       sent = subst (λ (xs : List Step). AreSenders r xs c.no_senders.result) (sym c.new.ensures.items) (no_senders r c.no_senders.result c.no_senders.ensures);
       counted = subst (λ (xs : List Step). AreTaken r xs taken) (sym c.new.ensures.items) (taken_none r taken zeros);
+      next = subst (λ (xs : List Step). AreCursors r xs c.in_ok-cursors.cursors) (sym c.new.ensures.items) c.in_ok-cursors.ensures;
     }

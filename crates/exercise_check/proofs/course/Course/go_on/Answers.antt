@@ -3,7 +3,7 @@ use Rattle.exercise_check.specs.declared.certificate.Step.{Step}
 use Rattle.exercise_check.specs.Course.{CourseData, IsNext}
 use Rattle.exercise_check.proofs.Columns.{on_err}
 use Rattle.exercise_check.proofs.Goodness.{good_push}
-use Rattle.exercise_check.proofs.Courses.{next_ready, allows, small_link, barred_goes, taken_goes, allowed_goes}
+use Rattle.exercise_check.proofs.Courses.{next_ready, next_counts, allows, small_link, barred_goes, taken_goes, allowed_goes}
 use Rattle.exercise_check.proofs.Counted.{few_taken}
 use Rattle.exercise_check.proofs.course.Course.go_on.Goals as goal
 
@@ -34,6 +34,7 @@ invariant_of-self-in-Allowed g c =
       found = c.self.invariant.found;
       counted = rw items (c.count_taken.ensures steps _ c.self.invariant.counted);
       sent = rw items (c.in_ok-note_sender-in-Allowed.ensures.noted steps _ c.self.invariant.sent);
+      next = rw items (c.pass.ensures steps _ (next_counts r steps c.args.place next) c.self.invariant.next);
     }
 
 pub count_taken-requires-clause-few : goal.count_taken-requires-clause-few

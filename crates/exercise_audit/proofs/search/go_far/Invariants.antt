@@ -1,0 +1,8 @@
+use Rattle.std.proofs.Common.{◌≡◌}
+use Rattle.exercise_audit.proofs.search.go_far.Given as goal
+
+abbrev pub invariant-loop-entry : goal.invariant-loop-entry
+invariant-loop-entry g l = record {
+  log : l.course.recording ≡ g.L.ExerciseLog.recording l.log;
+  course : l.course.recording ≡ l.fn.course.recording;
+}

@@ -1,0 +1,58 @@
+-- What the search by waiting lists does with its lists at an entry (profile).
+use Rattle.std.specs.Prelude.{◌≡◌, ◌≢◌, ◌⊎◌, ◌+◌, ◌<◌, ℕ, List, ◌++◌, length, slice_get, slice_index_or, IfSome}
+use Rattle.exercise_model.specs.declared.cause.Cause.{Cause}
+use Rattle.exercise_model.specs.declared.cause.Cause.TheVariants.{NeverSent}
+use Rattle.exercise_model.specs.Recording.{PlainRecording}
+use Rattle.exercise_model.specs.History.{Event, Send, Get, Tell, event_of, station_of}
+use Rattle.exercise_check.specs.Course.{CourseData, with_step, so_far}
+use Rattle.exercise_audit.specs.declared.blocks.Block.{Block}
+use Rattle.exercise_audit.specs.Audit.{IsBlock, IsDone}
+use Rattle.exercise_audit.specs.Waiting.{Waiting, waiting_for, Joins, Leaves}
+
+-- the stations from s on, of n, the last one first
+pub record AreFromLast (n s : ℕ) (stations : List ℕ) : Type 0 where
+  pub count : length stations + s ≡ n
+  pub each : (j : ℕ) → j < length stations → slice_index_or stations j 0 + j + 1 ≡ n
+
+-- after this event those may go on that waited for what it sends, and nobody waits for that any more; all others wait as they did
+abbrev pub Wakes : Waiting → Waiting → List ℕ → List ℕ → Event → Type 0
+Wakes old new was ready (Send s b) = (ready ≡ was ++ waiting_for old b) × Leaves old new b
+Wakes old new was ready (Get s b) = (new ≡ old) × (ready ≡ was)
+Wakes old new was ready (Tell s e y) = (new ≡ old) × (ready ≡ was)
+
+-- the same of entry i
+abbrev pub IsWoken : PlainRecording → ℕ → Waiting → Waiting → List ℕ → List ℕ → Type 0
+IsWoken r i old new was ready = IfSome (slice_get r.entries i) (λ e. Wakes old new was ready (event_of e))
+
+-- a station that can't go on by this event waits for what it receives; all others wait as they did
+abbrev pub Waits : ℕ → Waiting → Waiting → Event → Type 0
+Waits station old new (Send s b) = new ≡ old
+Waits station old new (Get s b) = Joins old new b station
+Waits station old new (Tell s e y) = new ≡ old
+
+-- the same of entry i
+abbrev pub IsWaiting : PlainRecording → ℕ → ℕ → Waiting → Waiting → Type 0
+IsWaiting r i station old new = IfSome (slice_get r.entries i) (λ e. Waits station old new (event_of e))
+
+-- a station that can't go on by entry i for this cause waits for what it receives there, where that was not sent
+pub record WaitsFor (r : PlainRecording) (i station : ℕ) (cause : Cause) (old new : Waiting) : Type 0 where
+  pub unsent : cause ≡ NeverSent → IsWaiting r i station old new
+  pub other : cause ≢ NeverSent → new ≡ old
+
+-- A STATION GOES ON: it takes one of its entries, and those may go on that waited for what it sends
+pub record GoesOnBy (old new : CourseData) (station : ℕ) (waited waits : Waiting) (was ready : List ℕ) : Type 0 where
+  pub place : ℕ
+  pub link : ℕ
+  pub own : IfSome (slice_get old.recording.entries place) (λ e. station_of (event_of e) ≡ station)
+  pub step : new ≡ with_step old (record { place = place; link = link })
+  pub woken : IsWoken old.recording place waited waits was ready
+
+-- A STATION IS HELD UP: this stands in its way, and it waits for what it is to receive, where that was not sent
+pub record IsHeldUp (c : CourseData) (station : ℕ) (waited waits : Waiting) : Type 0 where
+  pub block : Block
+  pub stands : IsBlock c.recording (so_far c) station block
+  pub waiting : WaitsFor c.recording block.entry station block.cause waited waits
+
+-- a station stays where it is: it is done, or held up
+abbrev pub Stays : CourseData → ℕ → Waiting → Waiting → Type 0
+Stays c station waited waits = (IsDone c.recording (so_far c) station × (waits ≡ waited)) ⊎ IsHeldUp c station waited waits

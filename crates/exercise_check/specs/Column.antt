@@ -1,0 +1,7 @@
+-- Columns: one value for each place (profile).
+use Rattle.std.specs.Prelude.{◌≡◌, ◌<◌, ℕ, List, length, slice_index_or}
+
+-- One value for each place below n, and each is what P says of its place.
+pub record IsColumn {X : Type 0} (d : X) (P : ℕ → X → Type 0) (n : ℕ) (xs : List X) : Type 0 where
+  pub count : length xs ≡ n
+  pub each : (j : ℕ) → j < n → P j (slice_index_or xs j d)

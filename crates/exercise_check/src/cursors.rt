@@ -1,0 +1,98 @@
+//! Which entry of each station is its next one: found in one pass, and moved on with each step.
+
+ghost use Rattle.std.specs.Prelude.{◌≡◌, ◌<◌, ◌≤◌, ◌+◌, ◌==◌, ℕ, List, [], ◌∷◌, ◌++◌, length, slice_get, slice_index_or, IfOk, IfSome, IfNone, if◌then◌else◌};
+ghost use Rattle.exercise_model.specs.History.{event_of, station_of, log_at};
+ghost use Rattle.exercise_model.specs.Place.{log_before};
+ghost use Rattle.exercise_check.specs.declared.certificate.Step.{Step};
+ghost use Rattle.exercise_check.specs.Order.{order_of, is_next};
+ghost use Rattle.exercise_check.specs.Cursors.{AreCursorsFrom, AreCursors};
+
+use crate::order::station_of;
+use exercise_model::ExerciseLog;
+use std::alloc::{AllocError, Global};
+
+/// Stands where there is no further entry: a number that none has.
+const NO_ENTRY: u32 = u32::MAX;
+
+/// The next entry of each station, and what follows each entry.
+#[derive(Drop)]
+pub(crate) struct Cursors {
+    /// For each entry, the one that follows it at its station.
+    pub followers: Vec<u32>,
+    /// For each station, its next entry.
+    pub next: Vec<u32>,
+}
+
+/// Puts a number into a column in place of the one that stands there.
+fn replace(column: &mut Vec<u32>, place: usize, number: u32)
+    requires { place < length column.old.items }
+    ensures count { length column.new.items ≡ length column.old.items }
+    ensures each { (j : ℕ) → slice_index_or column.new.items j 0 ≡ (if j == place then number else slice_index_or column.old.items j 0) }
+{
+    column[place] = number;
+}
+
+/// Goes over the entry before those that were gone over.
+fn go_back<L: ExerciseLog>(cursors: &mut Cursors, log: &L, entry: usize)
+    requires within { entry < length (L.recording log.now).entries }
+    requires tied { AreCursorsFrom (L.recording log.now) (entry + 1) cursors.old }
+    ensures { AreCursorsFrom (L.recording log.now) entry cursors.new }
+{
+    // To count the entries shows that the recording keeps its limits.
+    let _entries = log.entry_count();
+    let station = station_of(&log.entry(entry));
+    let follower = cursors.next[station];
+    replace(&mut cursors.followers, entry, follower);
+    replace(&mut cursors.next, station, entry as u32);
+}
+
+/// The cursors where no entry is gone over.
+fn no_cursors<L: ExerciseLog>(alloc: Global, log: &L) -> Result<Cursors, AllocError>
+    ensures { let r = L.recording log.now in IfOk result (AreCursorsFrom r (length r.entries)) }
+{
+    let followers = vec![in alloc; NO_ENTRY; log.entry_count()]?;
+    let next = vec![in alloc; NO_ENTRY; log.station_count()]?;
+    Ok(Cursors { followers, next })
+}
+
+/// The cursors before the first step: each station's next entry is its first.
+pub(crate) fn first_cursors<L: ExerciseLog>(alloc: Global, log: &L) -> Result<Cursors, AllocError>
+    ensures { IfOk result (AreCursors (L.recording log.now) []) }
+{
+    let mut cursors = no_cursors(alloc, log)?;
+    for entry in (0..log.entry_count()).rev() {
+        go_back(&mut cursors, log, entry);
+    }
+    Ok(cursors)
+}
+
+/// The next entry of a station, where it has one.
+pub(crate) fn next_entry<L: ExerciseLog>(
+    log: &L,
+    cursors: &Cursors,
+    station: usize,
+) -> Option<usize>
+    ensures within { IfSome result (λ place. place < length (L.recording log.now).entries) }
+    ensures at { IfSome result (λ place. station < length cursors.now.next.items) }
+    ensures some { IfSome result (λ place. place ≡ slice_index_or cursors.now.next.items station 0) }
+    ensures none { IfNone result (station < length cursors.now.next.items → length (L.recording log.now).entries ≤ slice_index_or cursors.now.next.items station 0) }
+{
+    let place = *cursors.next.get(station)? as usize;
+    if place < log.entry_count() {
+        Some(place)
+    } else {
+        None
+    }
+}
+
+/// Moves the cursor of a station on, past the entry of a step that is taken.
+pub(crate) fn pass<L: ExerciseLog>(cursors: &mut Cursors, log: &L, place: usize)
+    requires within { place < length (L.recording log.now).entries }
+    requires followers { length cursors.old.followers.items ≡ length (L.recording log.now).entries }
+    requires next { length cursors.old.next.items ≡ length (L.recording log.now).setting.stations }
+    ensures { let r = L.recording log.now in (steps : List Step) (link : ℕ) → IfSome (slice_get r.entries place) (λ e. length (log_at (station_of (event_of e)) (order_of r steps)) ≡ length (log_before r (station_of (event_of e)) place)) → AreCursors r steps cursors.old → AreCursors r (steps ++ record { place = place; link = link } ∷ []) cursors.new }
+{
+    let station = station_of(&log.entry(place));
+    let follower = cursors.followers[place];
+    replace(&mut cursors.next, station, follower);
+}

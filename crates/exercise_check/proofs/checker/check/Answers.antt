@@ -1,8 +1,12 @@
-use Rattle.std.proofs.Common.{rules, arith}
+use Rattle.std.proofs.Common.{rules, arith, ◌≡◌, List, Result, Ok, Err, IfErr, sym, subst}
+use Rattle.std.specs.Result.{IsErrAnd}
 use Rattle.std.proofs.lemmas.Grind.{common_steps}
 use Rattle.exercise_model.proofs.Offered.{explained_holds}
+use Rattle.exercise_check.specs.declared.certificate.Step.{Step}
+use Rattle.exercise_check.specs.declared.checker.CheckFault.{CheckFault}
+use Rattle.exercise_check.specs.Course.{CourseData}
 use Rattle.exercise_check.specs.Order.{order_of}
-use Rattle.exercise_check.specs.Goodness.{IsGood}
+use Rattle.exercise_check.specs.Goodness.{IsGood, Refuses}
 use Rattle.exercise_check.specs.Checked.{TellsAccount}
 use Rattle.exercise_check.proofs.Explained.{good_explains}
 use Rattle.exercise_check.proofs.Known.{account_known}
@@ -29,3 +33,17 @@ returns-clause-knowledge g c =
     let account : TellsAccount r c.in_ok-account.field-0 = first_of (search rules, grind (arith, common_steps)) in
     let limits = c.entry_count-entries.ensures.limits in
     account_known r (order_of r steps) _ limits (good_explains r limits steps good) account
+
+-- what is passed on is refused
+passed_on : {X : Type 0} (P : CheckFault → Type 0) (result : Result X CheckFault) (fault : CheckFault) → IsErrAnd result (λ e. e ≡ fault) → P fault
+    → IfErr result P
+passed_on P (Ok x) fault passed holds = tt
+passed_on P (Err e) fault passed holds = subst P (sym passed) holds
+
+pub returns-in_err-take_steps-clause-bad : goal.returns-in_err-take_steps-clause-bad
+returns-in_err-take_steps-clause-bad g c =
+    let r = g.L.ExerciseLog.recording c.args.log.now in
+    let fault = c.in_err-take_steps.field-0.0 in
+    let begun = subst (λ (d : CourseData). Refuses d.recording c.as_slice-steps.result.now fault) c.in_ok-course.ensures c.in_err-take_steps.ensures.bad in
+    let bad = subst (λ (xs : List Step). Refuses r xs fault) c.as_slice-steps.ensures.value begun in
+    passed_on (Refuses r c.args.certificate.now.steps.items) c.from_residual-in_err-take_steps.result fault c.from_residual-in_err-take_steps.ensures.1 bad

@@ -3,9 +3,8 @@ use Rattle.std.proofs.Common.{◌≡◌, ◌≢◌, ⊎_elim, ℕ, zero, suc, �
 use Rattle.std.specs.Prelude.{IfSome, OnOk, Result, Ok, Err, is_some, slice_get, nat_eq, option_and_then, if◌then◌else◌}
 use Rattle.std.specs.Option.{option_map_or}
 use Rattle.std.proofs.lemmas.Bool.{cases_eq, eq-eqb, ne_eqb}
-use Rattle.std.proofs.lemmas.List.{length-set, drop_all, drop_more}
+use Rattle.std.proofs.lemmas.List.{length-set, drop_more}
 use Rattle.dis_records.specs.declared.entity_state.EntityState.{EntityState}
-use Rattle.dis_records.specs.declared.entity_state.EntityState.TheVariants.{Absent}
 use Rattle.exercise_model.specs.declared.state.Change.{Change}
 use Rattle.exercise_model.specs.Entry.{Entry}
 use Rattle.exercise_model.specs.Station.{listed_state}

@@ -1,0 +1,4 @@
+pub mod Handing
+pub mod Growth
+pub mod Taking
+pub mod Turns

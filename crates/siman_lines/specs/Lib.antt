@@ -1,0 +1,3 @@
+pub mod Told
+pub mod Memory
+pub mod Serving

@@ -1,0 +1,18 @@
+//! Lines, and stations that serve them: the datagrams that a station receives are recorded, taken
+//! and answered, and what it sends was recorded before.
+#![tactic(auto)]
+
+mod fault;
+mod line;
+mod memory;
+mod served;
+mod serving;
+mod udp;
+
+pub use fault::{IssueFault, ServeFault};
+pub use line::{Line, LineFault};
+pub use memory::MemoryLine;
+pub use served::Served;
+pub use serving::serve;
+pub use siman_worlds::Node;
+pub use udp::UdpLine;

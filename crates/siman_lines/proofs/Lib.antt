@@ -2,3 +2,4 @@ pub mod Handing
 pub mod Growth
 pub mod Taking
 pub mod Turns
+pub mod Ordered

@@ -1,3 +1,4 @@
 pub mod Told
 pub mod Memory
 pub mod Serving
+pub mod Ordering

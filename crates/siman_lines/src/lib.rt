@@ -5,6 +5,7 @@
 mod fault;
 mod line;
 mod memory;
+mod ordering;
 mod served;
 mod serving;
 mod udp;
@@ -12,6 +13,7 @@ mod udp;
 pub use fault::{IssueFault, ServeFault};
 pub use line::{Line, LineFault};
 pub use memory::MemoryLine;
+pub use ordering::{issue, nudge};
 pub use served::Served;
 pub use serving::serve;
 pub use siman_worlds::Node;

@@ -60,7 +60,7 @@ no_rows true true answer c d e f p q r = absurd cc
 no_rows false reused answer c d e f p q r = absurd cc
 
 -- an order from the station's own address, whose identifier was not used for another
-order_causes : (x : ℕ) (o : StationData) (log : History) (p : Pdu) → is_from o.address p ≡ true → is_request_body p.body ≡ true
+pub order_causes : (x : ℕ) (o : StationData) (log : History) (p : Pdu) → is_from o.address p ≡ true → is_request_body p.body ≡ true
     → is_reused x p log ≡ false → send_cause x o log p ≡ None
 unfolding send_cause
 order_causes x o log p from request reused =
@@ -137,7 +137,7 @@ two_rows true true p q = refl
 two_rows true false p q = absurd cc
 two_rows false sent p q = absurd cc
 
-get_by : (w : WorldData) (h : History) (b : List ℕ) (p : Pdu) → is_recorded (setting_of w) p ≡ true → was_sent b h ≡ true
+pub get_by : (w : WorldData) (h : History) (b : List ℕ) (p : Pdu) → is_recorded (setting_of w) p ≡ true → was_sent b h ≡ true
     → get_cause (setting_of w) h b p ≡ None
 unfolding get_cause
 get_by w h b p recorded sent = two_rows (is_recorded (setting_of w) p) (was_sent b h) recorded sent

@@ -2,3 +2,4 @@ pub mod Told
 pub mod Memory
 pub mod Serving
 pub mod Ordering
+pub mod Kept

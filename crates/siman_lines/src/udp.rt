@@ -37,7 +37,7 @@ impl UdpLine {
 }
 
 impl Line for UdpLine {
-    ghost use Rattle.std.specs.Prelude.{length};
+    ghost use Rattle.std.specs.Prelude.{◌≡◌, length};
 
     ghost failures = { λ l. length l.failures.items };
 

@@ -10,30 +10,39 @@ grows_none None = tt
 grows_none (Some xs) = sym (append-nil xs)
 
 pub grows_on : (old mid new : Option Datagrams) (xs ys : Datagrams) → GrowsAll old mid xs → GrowsAll mid new ys → GrowsAll old new (xs ++ ys)
-grows_on None mid new xs ys g h = tt
+grows_on None None None xs ys g h = tt
+grows_on None None (Some ns) xs ys g h = absurd h
+grows_on None (Some ms) new xs ys g h = absurd g
 grows_on (Some os) None new xs ys g h = absurd g
 grows_on (Some os) (Some ms) None xs ys g h = absurd h
 grows_on (Some os) (Some ms) (Some ns) xs ys g h = h ∙ (ap (λ (l : Datagrams). l ++ ys) g ∙ append_assoc os xs ys)
 
 pub grows_same : (old mid new : Option Datagrams) (xs : Datagrams) → GrowsAll old mid xs → Same mid new → GrowsAll old new xs
-grows_same None mid new xs g h = tt
+grows_same None None None xs g h = tt
+grows_same None None (Some ns) xs g h = absurd h
+grows_same None (Some ms) new xs g h = absurd g
 grows_same (Some os) None new xs g h = absurd g
 grows_same (Some os) (Some ms) None xs g h = absurd h
 grows_same (Some os) (Some ms) (Some ns) xs g h = h ∙ g
 
 pub same_grows : (old mid new : Option Datagrams) (xs : Datagrams) → Same old mid → GrowsAll mid new xs → GrowsAll old new xs
-same_grows None mid new xs g h = tt
+same_grows None None None xs g h = tt
+same_grows None None (Some ns) xs g h = absurd h
+same_grows None (Some ms) new xs g h = absurd g
 same_grows (Some os) None new xs g h = absurd g
 same_grows (Some os) (Some ms) None xs g h = absurd h
 same_grows (Some os) (Some ms) (Some ns) xs g h = h ∙ ap (λ (l : Datagrams). l ++ xs) g
 
 pub same_none : (old new : Option Datagrams) → Same old new → GrowsAll old new []
-same_none None new h = tt
+same_none None None h = tt
+same_none None (Some ns) h = absurd h
 same_none (Some os) None h = absurd h
 same_none (Some os) (Some ns) h = h ∙ sym (append-nil os)
 
 pub same_on : (old mid new : Option Datagrams) → Same old mid → Same mid new → Same old new
-same_on None mid new g h = tt
+same_on None None None g h = tt
+same_on None None (Some ns) g h = absurd h
+same_on None (Some ms) new g h = absurd g
 same_on (Some os) None new g h = absurd g
 same_on (Some os) (Some ms) None g h = absurd h
 same_on (Some os) (Some ms) (Some ns) g h = h ∙ g

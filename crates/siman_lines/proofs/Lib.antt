@@ -6,3 +6,4 @@ pub mod Ordered
 pub mod Standing
 pub mod Writings
 pub mod Hearing
+pub mod Keeping

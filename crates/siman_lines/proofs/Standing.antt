@@ -114,9 +114,9 @@ stand_passes s a ds k log closed b is = record {
 }
 
 -- A DATAGRAM is taken by the application half, and the reply that is due is not written
-pub stand_loses : (s : ℕ) (a : Outfit) (ds : List Pdu) (k : Book) (log : History) (closed : Type 0) (b : List ℕ) (q : Pdu) (stamp : ℕ) → (is : Stand s a ds k log closed)
-    → MissNone is.turns → IsRead b q → stamp < 2 ^ 32 → is_some (reply_after a ds q stamp) ≡ true → closed → Stand s a (with_request a ds q) k (Get s b ∷ log) closed
-stand_loses s a ds k log closed b q stamp is none read h due shut = record {
+pub stand_loses : (s : ℕ) (a : Outfit) (ds : List Pdu) (k : Book) (log : History) (closed shut : Type 0) (b : List ℕ) (q : Pdu) (stamp : ℕ) → (is : Stand s a ds k log closed)
+    → MissNone is.turns → IsRead b q → stamp < 2 ^ 32 → is_some (reply_after a ds q stamp) ≡ true → shut → Stand s a (with_request a ds q) k (Get s b ∷ log) shut
+stand_loses s a ds k log closed shut b q stamp is none read h due ends = record {
   turns = Loses b q stamp ∷ is.turns;
   calls = is.calls;
   own_log = record {
@@ -127,7 +127,7 @@ stand_loses s a ds k log closed b q stamp is none read h due shut = record {
     taken_is = refl;
   };
   application = ap (λ (d : List Pdu). with_request a d q) is.application;
-  missing = inr shut;
+  missing = inr ends;
   manager = is.manager;
   fit = is.fit;
   heard = is.heard;

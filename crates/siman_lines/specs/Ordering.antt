@@ -1,5 +1,5 @@
 -- What a station makes of an order, and of a repeat that is due (profile).
-use Rattle.std.specs.Prelude.{◌≡◌, ℕ, ◌<◌, ◌≤◌, List, length, Bool, true, false, Option, Some, None, is_some}
+use Rattle.std.specs.Prelude.{◌≡◌, ℕ, ◌<◌, ◌≤◌, List, length, Bool, true, false, Option, Some, None, Result, Ok, Err, is_some}
 use Rattle.dis_records.specs.declared.header.TheConstants.{LARGEST_DATAGRAM}
 use Rattle.siman_pdus.specs.declared.pdu.Pdu.{Pdu}
 use Rattle.siman_pdus.specs.Spelling.{pdu_text}
@@ -84,6 +84,11 @@ FailsIssue s now order old new faults.Send = Withholds now order old new (λ tex
 FailsIssue s now order old new (faults.Record fault) = Withholds now order old new (λ text. KeepsText s now text fault old new)
 FailsIssue s now order old new faults.Memory = Makes now order old.node new.node × Rests old new
 
+-- WHAT AN ORDER COMES TO.
+abbrev pub IssueEnds : (s now : ℕ) → Order → State → State → Result ℕ IssueFault → Type 0
+IssueEnds s now order old new (Ok id) = Issues s now order old new id
+IssueEnds s now order old new (Err fault) = FailsIssue s now order old new fault
+
 -- Of a repeat. The tick of the manager half is made in any case.
 
 -- A DUE REPEAT went out,
@@ -110,3 +115,8 @@ FailsNudge s now old new (faults.Order fault) = ⊥
 FailsNudge s now old new faults.Send = (new.node ≡ after_tick old.node now) × Delays now old (λ text. LosesText s now text old new)
 FailsNudge s now old new (faults.Record fault) = (new.node ≡ after_tick old.node now) × Delays now old (λ text. KeepsText s now text fault old new)
 FailsNudge s now old new faults.Memory = (new.node ≡ after_tick old.node now) × (is_some (next_repeat old.node.manager now) ≡ true) × Rests old new
+
+-- WHAT A NUDGE COMES TO.
+abbrev pub NudgeEnds : (s now : ℕ) → State → State → Result Bool IssueFault → Type 0
+NudgeEnds s now old new (Ok due) = Nudges s now old new due
+NudgeEnds s now old new (Err fault) = FailsNudge s now old new fault

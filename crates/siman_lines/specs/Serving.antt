@@ -1,5 +1,5 @@
 -- What a station makes of the datagrams that it receives at its line (profile). Each list of datagrams has THE LAST ONE FIRST.
-use Rattle.std.specs.Prelude.{◌≡◌, ℕ, ◌+◌, ◌<◌, ◌≤◌, Bool, true, false, not, nat_le, List, [], ◌∷◌, ◌++◌, filter, length, reverse, Option, Some, None, is_some, slice_index, ◌⊎◌, if◌then◌else◌}
+use Rattle.std.specs.Prelude.{◌≡◌, ℕ, ◌+◌, ◌<◌, ◌≤◌, Bool, true, false, not, nat_le, List, [], ◌∷◌, ◌++◌, filter, length, reverse, Option, Some, None, Result, Ok, Err, is_some, slice_index, ◌⊎◌, if◌then◌else◌}
 use Rattle.dis_records.specs.declared.header.TheConstants.{LARGEST_DATAGRAM}
 use Rattle.siman_pdus.specs.declared.pdu.Pdu.{Pdu}
 use Rattle.siman_pdus.specs.Reading.{reading}
@@ -167,6 +167,11 @@ FailsServe s now old new faults.Receive = LosesReceive s now old new
 FailsServe s now old new faults.Send = LosesSend s now old new
 FailsServe s now old new (faults.Record fault) = BreaksTurn s now (turn_faults.Record fault) old new
 FailsServe s now old new faults.Memory = BreaksTurn s now turn_faults.Memory old new
+
+-- WHAT A STATION DID in at most so many turns.
+abbrev pub ServeEnds : (s now turns : ℕ) → State → State → Result Served ServeFault → Type 0
+ServeEnds s now turns old new (Ok served) = Serves s now turns old new served
+ServeEnds s now turns old new (Err fault) = FailsServe s now old new fault
 
 -- Of one datagram.
 

@@ -1,4 +1,5 @@
--- What a call does to the datagrams that a line tells: those that it handed out, or those that it was handed; the oldest first.
+-- What a call does to the datagrams that a line tells: those that it handed out, or those that it was handed; the oldest first. A line that does not tell them
+-- never does.
 use Rattle.std.specs.Prelude.{◌≡◌, ℕ, ◌≤◌, min, length, take, List, [], ◌∷◌, ◌++◌, Option, Some, None, ⊤, ◌⊎◌}
 
 abbrev pub Datagrams : Type 0
@@ -6,13 +7,15 @@ Datagrams = List (List ℕ)
 
 -- they are as before
 abbrev pub Same : Option Datagrams → Option Datagrams → Type 0
-Same None new = ⊤
+Same None None = ⊤
+Same None (Some ys) = ⊥
 Same (Some xs) None = ⊥
 Same (Some xs) (Some ys) = ys ≡ xs
 
 -- some more are there, in this order
 abbrev pub GrowsAll : Option Datagrams → Option Datagrams → Datagrams → Type 0
-GrowsAll None new ds = ⊤
+GrowsAll None None ds = ⊤
+GrowsAll None (Some ys) ds = ⊥
 GrowsAll (Some xs) None ds = ⊥
 GrowsAll (Some xs) (Some ys) ds = ys ≡ xs ++ ds
 

@@ -7,3 +7,5 @@ pub mod Standing
 pub mod Writings
 pub mod Hearing
 pub mod Keeping
+pub mod Stations
+pub mod Events

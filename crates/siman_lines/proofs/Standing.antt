@@ -47,7 +47,7 @@ any_later a one other (Takes b q stamp ∷ ts) none are = (are.0, are.1, any_lat
 any_later a one other (Loses b q stamp ∷ ts) none are = absurd none
 
 -- a reply is an answer,
-reply_answering : (a : Outfit) (qs : List Pdu) (q p : Pdu) (stamp : ℕ) → reply a qs q stamp ≡ Some p → is_answer_body p.body ≡ true
+pub reply_answering : (a : Outfit) (qs : List Pdu) (q p : Pdu) (stamp : ℕ) → reply a qs q stamp ≡ Some p → is_answer_body p.body ≡ true
 reply_answering a qs q p stamp e =
     some_of (λ r. is_answer_body r.body ≡ true) (reply a qs q stamp) p e
     (reply_answers (λ r. is_answer_body r.body ≡ true) a qs q stamp

@@ -3,3 +3,4 @@ pub mod Memory
 pub mod Serving
 pub mod Ordering
 pub mod Kept
+pub mod Calls

@@ -3,6 +3,7 @@
 #![tactic(auto)]
 
 mod fault;
+mod laws;
 mod line;
 mod memory;
 mod ordering;
@@ -11,6 +12,7 @@ mod serving;
 mod udp;
 
 pub use fault::{IssueFault, ServeFault};
+pub use laws::{calls_are_kept, what_is_kept_stands};
 pub use line::{Line, LineFault};
 pub use memory::MemoryLine;
 pub use ordering::{issue, nudge};

@@ -89,7 +89,7 @@ reply_allowed w c h s now b q p own e stand =
 
 -- What is received.
 
-any_at : {X : Type 0} (test : X → Bool) (xs : List X) (k : ℕ) (d : X) → k < length xs → test (slice_index_or xs k d) ≡ true
+pub any_at : {X : Type 0} (test : X → Bool) (xs : List X) (k : ℕ) (d : X) → k < length xs → test (slice_index_or xs k d) ≡ true
     → list_any test xs ≡ true
 any_at test [] k d within e = absurd (omega arith)
 any_at test (x ∷ xs) zero d within e = or_left (test x) (list_any test xs) e
@@ -137,7 +137,7 @@ two_rows true true p q = refl
 two_rows true false p q = absurd cc
 two_rows false sent p q = absurd cc
 
-pub get_by : (w : WorldData) (h : History) (b : List ℕ) (p : Pdu) → is_recorded (setting_of w) p ≡ true → was_sent b h ≡ true
+get_by : (w : WorldData) (h : History) (b : List ℕ) (p : Pdu) → is_recorded (setting_of w) p ≡ true → was_sent b h ≡ true
     → get_cause (setting_of w) h b p ≡ None
 unfolding get_cause
 get_by w h b p recorded sent = two_rows (is_recorded (setting_of w) p) (was_sent b h) recorded sent

@@ -138,7 +138,7 @@ stand_as s a c ds es k l log closed e f g is =
     subst (λ (x : Outfit). Stand s x es l log closed) (sym e)
     (subst (λ (x : List Pdu). Stand s a x l log closed) (sym f) (subst (λ (x : Book). Stand s a ds x log closed) (sym g) is))
 
-of_station : (s : ℕ) (n m : Node) (w v : SettingData) → m.application.outfit ≡ n.application.outfit → m.manager.settings ≡ n.manager.settings → v ≡ w
+pub of_station : (s : ℕ) (n m : Node) (w v : SettingData) → m.application.outfit ≡ n.application.outfit → m.manager.settings ≡ n.manager.settings → v ≡ w
     → IsOfStation s n w → IsOfStation s m v
 of_station s n m w v outfit settings setting is = subst (IsOfStation s m) (sym setting) (record {
   within = is.within;
@@ -258,10 +258,10 @@ keeps_received s now b n w new before es old handed h all written is same =
 good_entry : (s n : ℕ) (b : List ℕ) → s < n → length b ≤ LARGEST_DATAGRAM → (nat_lt s n && nat_le (length b) LARGEST_DATAGRAM) ≡ true
 good_entry s n b h k = grind (arith, nat_tests)
 
-good_sent : (s now : ℕ) (b : List ℕ) (w : SettingData) (n : Node) → IsOfStation s n w → length b ≤ LARGEST_DATAGRAM → is_entry (length w.stations) (Sent s now b) ≡ true
+pub good_sent : (s now : ℕ) (b : List ℕ) (w : SettingData) (n : Node) → IsOfStation s n w → length b ≤ LARGEST_DATAGRAM → is_entry (length w.stations) (Sent s now b) ≡ true
 good_sent s now b w n is short = good_entry s (length w.stations) b is.within short
 
-good_got : (s now : ℕ) (b : List ℕ) (w : SettingData) (n : Node) → IsOfStation s n w → is_short b ≡ true → is_entry (length w.stations) (Received s now b) ≡ true
+pub good_got : (s now : ℕ) (b : List ℕ) (w : SettingData) (n : Node) → IsOfStation s n w → is_short b ≡ true → is_entry (length w.stations) (Received s now b) ≡ true
 good_got s now b w n is short = by (length w.stations) is.within where
   by : (k : ℕ) → s < k → (nat_lt s k && nat_le (length b) LARGEST_DATAGRAM) ≡ true
   by k h = grind (arith, nat_tests, short)

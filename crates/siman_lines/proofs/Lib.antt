@@ -9,3 +9,4 @@ pub mod Hearing
 pub mod Keeping
 pub mod Stations
 pub mod Events
+pub mod Refusing

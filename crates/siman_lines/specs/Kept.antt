@@ -1,5 +1,5 @@
 -- WHAT IS KEPT of a station over its line, its recorder and its halves (profile). Histories, turns and calls have THE LAST ONE FIRST.
-use Rattle.std.specs.Prelude.{◌≡◌, ◌≤◌, ◌<◌, ℕ, List, [], ◌∷◌, ◌++◌, take, length, Bool, true, false, Option, Some, None, ◌⊎◌}
+use Rattle.std.specs.Prelude.{◌≡◌, ◌≤◌, ◌<◌, ℕ, List, [], ◌∷◌, ◌++◌, take, length, Bool, true, false, Option, Some, None, Result, Ok, Err, ◌⊎◌}
 use Rattle.std.specs.Io.KnownBytes.{Appends}
 use Rattle.std.specs.List.{AllByRecursion, flat_map}
 use Rattle.exercise_model.specs.declared.recording.TheConstants.{MOST_ENTRIES}
@@ -8,6 +8,8 @@ use Rattle.exercise_model.specs.Entry.{Entry, Sent, Received, Told}
 use Rattle.exercise_model.specs.History.{History, past, log_at, event_of, station_of}
 use Rattle.exercise_model.specs.Recording.{IsRecording}
 use Rattle.exercise_model.specs.Setting.{SettingData, station_in}
+use Rattle.exercise_recording.specs.declared.fault.WriterFault.{WriterFault}
+use Rattle.exercise_recording.specs.declared.fault.WriterFault.TheVariants as writer_faults
 use Rattle.exercise_recording.specs.Text.{head_text, entry_text}
 use Rattle.exercise_recording.specs.Writer.{WriterState}
 use Rattle.siman_application.specs.Distinct.{distinct}
@@ -18,6 +20,11 @@ use Rattle.siman_manager.specs.Book.{Book}
 use Rattle.siman_manager.specs.Calls.{Call, Requested, Came, Ticked, kept}
 use Rattle.siman_worlds.specs.declared.turn.Node.{Node}
 use Rattle.siman_worlds.specs.Orders.{AreFit, AreKept}
+use Rattle.siman_lines.specs.declared.fault.ServeFault.{ServeFault}
+use Rattle.siman_lines.specs.declared.fault.ServeFault.TheVariants as serve_faults
+use Rattle.siman_lines.specs.declared.fault.IssueFault.{IssueFault}
+use Rattle.siman_lines.specs.declared.fault.IssueFault.TheVariants as issue_faults
+use Rattle.siman_lines.specs.declared.served.Served.{Served}
 use Rattle.siman_lines.specs.Told.{Datagrams}
 
 -- Of the recorder.
@@ -114,3 +121,20 @@ pub record KeepsOn (s : ℕ) (before : Option (List ℕ)) (es : List Entry) (new
 abbrev pub Keeps : ℕ → Node → WriterState → Option Datagrams → Node → WriterState → Option Datagrams → Type 0
 Keeps s n w handed m new handed_after =
     (before : Option (List ℕ)) (es : List Entry) → IsWritten before w es → IsKept s n w es handed → KeepsOn s before es m w new handed_after
+
+-- Refusals of the recorder.
+
+-- A fault of the recorder is told where it was spent before, where it is full, or where a write failed now; an entry is never of a wrong kind.
+abbrev pub IsRightRefusal : WriterFault → WriterState → WriterState → Type 0
+IsRightRefusal writer_faults.Write old new = new.spent ≡ true
+IsRightRefusal writer_faults.Spent old new = old.spent ≡ true
+IsRightRefusal writer_faults.Count old new = MOST_ENTRIES ≤ new.entries
+IsRightRefusal writer_faults.Argument old new = ⊥
+
+abbrev pub RefusesServe : WriterState → WriterState → Result Served ServeFault → Type 0
+RefusesServe old new (Err (serve_faults.Record fault)) = IsRightRefusal fault old new
+RefusesServe old new result = Unit {0}
+
+abbrev pub RefusesIssue : {X : Type 0} → WriterState → WriterState → Result X IssueFault → Type 0
+RefusesIssue old new (Err (issue_faults.Record fault)) = IsRightRefusal fault old new
+RefusesIssue old new result = Unit {0}

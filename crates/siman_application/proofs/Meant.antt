@@ -48,7 +48,7 @@ ordered a p is = record {
   request = is.request;
 }
 
-taken_in_range : (a : Outfit) (later : Bool) (ts : List Turn) → AreTurns a later ts → Each IsInRange (taken_in ts)
+pub taken_in_range : (a : Outfit) (later : Bool) (ts : List Turn) → AreTurns a later ts → Each IsInRange (taken_in ts)
 taken_in_range a later [] are = tt
 taken_in_range a later (Tells e y ∷ ts) are = taken_in_range a later ts are
 taken_in_range a later (Orders p ∷ ts) are = taken_in_range a later ts are.1

@@ -60,7 +60,7 @@ no_rows true true answer c d e f p q r = absurd cc
 no_rows false reused answer c d e f p q r = absurd cc
 
 -- an order from the station's own address, whose identifier was not used for another
-order_causes : (x : ℕ) (o : StationData) (log : History) (p : Pdu) → is_from o.address p ≡ true → is_request_body p.body ≡ true
+pub order_causes : (x : ℕ) (o : StationData) (log : History) (p : Pdu) → is_from o.address p ≡ true → is_request_body p.body ≡ true
     → is_reused x p log ≡ false → send_cause x o log p ≡ None
 unfolding send_cause
 order_causes x o log p from request reused =
@@ -89,7 +89,7 @@ reply_allowed w c h s now b q p own e stand =
 
 -- What is received.
 
-any_at : {X : Type 0} (test : X → Bool) (xs : List X) (k : ℕ) (d : X) → k < length xs → test (slice_index_or xs k d) ≡ true
+pub any_at : {X : Type 0} (test : X → Bool) (xs : List X) (k : ℕ) (d : X) → k < length xs → test (slice_index_or xs k d) ≡ true
     → list_any test xs ≡ true
 any_at test [] k d within e = absurd (omega arith)
 any_at test (x ∷ xs) zero d within e = or_left (test x) (list_any test xs) e

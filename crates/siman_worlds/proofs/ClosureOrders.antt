@@ -41,6 +41,7 @@ use Rattle.siman_worlds.specs.WorldLaw.{IsWorldInRange, IsActInRange}
 use Rattle.siman_worlds.proofs.Logs.{order_turn, came_turn, arrival_turn, act_turn, turns_of, taken_of, put_own, put_other}
 use Rattle.siman_worlds.proofs.LogsOrders.{life_goes_on}
 use Rattle.siman_worlds.proofs.LogsSends.{IsMade, AreMade, IsOwn, Stands, sent_at, sent_range, can_command, order_own, made_own, IsRepeat, repeat_is, repeat_own, some_of, reply_own, all_stand}
+pub use Rattle.siman_worlds.specs.Orders.{IsOfLife, IsKept, AreKept}
 
 -- Answers are no requests.
 
@@ -55,7 +56,7 @@ flag_answers flag kinds.StopFreeze e = flag_by flag 4 e refl
 flag_answers flag kind e = absurd cc
 
 -- a body that answers a request is that of an answer
-matched_answers : (body : Body) (kind : Kind) → matches_kind body kind ≡ true → is_answer_body body ≡ true
+pub matched_answers : (body : Body) (kind : Kind) → matches_kind body kind ≡ true → is_answer_body body ≡ true
 matched_answers (Acknowledge flag response request) kind e =
     ap (λ (b : Bool). is_answer_role (if b then roles.Answer else roles.Outside)) (flag_answers flag kind e)
 matched_answers (ActionResponse request status datums) kind e = refl
@@ -79,22 +80,6 @@ reply_answering w c s now q p e =
 
 -- Orders.
 
--- the request is the same order as one that the manager half made
-pub record IsOfLife (settings : Settings) (past : List Call) (q : Pdu) : Type 0 where
-  pub number : ℕ
-  pub life_is : Life
-  pub there : life settings past number ≡ Some life_is
-  pub same : IsSameOrder q life_is.order
-
--- each request that an event sends is so
-abbrev pub IsKept : Settings → List Call → ℕ → Event → Type 0
-IsKept settings past x (Send s b) = (q : Pdu) → meaning x b ≡ Some q → is_request_body q.body ≡ true → IsOfLife settings past q
-IsKept settings past x (Get s b) = Unit {0}
-IsKept settings past x (Tell s e y) = Unit {0}
-
-abbrev pub AreKept : Settings → List Call → ℕ → History → Type 0
-AreKept settings past x log = AllByRecursion (IsKept settings past x) log
-
 -- orders stay after one more call
 pub of_life_on : (settings : Settings) (past : List Call) (call : Call) (q : Pdu) → IsOfLife settings past q → IsOfLife settings (call ∷ past) q
 of_life_on settings past call q is =
@@ -116,7 +101,7 @@ kept_on settings past call x [] kept = tt
 kept_on settings past call x (v ∷ log) kept = (kept_one settings past call x v kept.0, kept_on settings past call x log kept.1)
 
 -- the order that is made next is that of a life
-made_life : (settings : Settings) (past : List Call) (order : Order) (now stamp : ℕ)
+pub made_life : (settings : Settings) (past : List Call) (order : Order) (now stamp : ℕ)
     → refusal settings (count_made settings past) order stamp ≡ None
     → IsOfLife settings (Requested order now stamp ∷ past) (order_pdu settings (next_id settings (count_made settings past)) order stamp)
 made_life settings past order now stamp none =
@@ -134,7 +119,7 @@ pub made_of_life : (w : WorldData) (c : Course) (s now : ℕ) (order : Order) �
 made_of_life w c s now order can =
     made_life (settings_of w s) (c.calls s) order now (stamp_of now) (can_command w c s now order can).1
 
-repeated_life : (settings : Settings) (past : List Call) (stamp : ℕ) (p : Pdu) → IsRepeat settings past stamp p → IsOfLife settings past p
+pub repeated_life : (settings : Settings) (past : List Call) (stamp : ℕ) (p : Pdu) → IsRepeat settings past stamp p → IsOfLife settings past p
 repeated_life settings past stamp p is =
     subst (IsOfLife settings past) is.sent_is (record { number = is.number; life_is = is.life_is; there = is.there; same = refl })
 
@@ -158,7 +143,7 @@ one_life settings past p q is of e =
     same_both p q of.life_is.order (subst (λ (l : Life). IsSameOrder p l.order) lives is.same) of.same
 
 -- the identifier of an order
-life_id : (settings : Settings) (past : List Call) → AreRequests past → (p : Pdu) (is : IsOfLife settings past p)
+pub life_id : (settings : Settings) (past : List Call) → AreRequests past → (p : Pdu) (is : IsOfLife settings past p)
     → request_id_of p.body ≡ Some (settings.first_id + is.number)
 life_id settings past are p is =
     ap (λ (r : Pdu). request_id_of r.body) is.same ∙ (made_as settings past are is.number is.life_is is.there).id
@@ -208,12 +193,12 @@ not_reused settings past are x p (v ∷ log) is kept =
 -- The log of a station.
 
 -- a text that is sent as an order of the station
-sent_kept : (settings : Settings) (past : List Call) (x : ℕ) (p : Pdu) → reading (pdu_text p) ≡ Some p → IsOfLife settings past p
+pub sent_kept : (settings : Settings) (past : List Call) (x : ℕ) (p : Pdu) → reading (pdu_text p) ≡ Some p → IsOfLife settings past p
     → (q : Pdu) → meaning x (pdu_text p) ≡ Some q → is_request_body q.body ≡ true → IsOfLife settings past q
 sent_kept settings past x p read is q e request = subst (IsOfLife settings past) (read_meant x (pdu_text p) p q read e) is
 
 -- a text that is sent as an answer
-answer_kept : (settings : Settings) (past : List Call) (x : ℕ) (p : Pdu) → reading (pdu_text p) ≡ Some p → is_answer_body p.body ≡ true
+pub answer_kept : (settings : Settings) (past : List Call) (x : ℕ) (p : Pdu) → reading (pdu_text p) ≡ Some p → is_answer_body p.body ≡ true
     → (q : Pdu) → meaning x (pdu_text p) ≡ Some q → is_request_body q.body ≡ true → IsOfLife settings past q
 answer_kept settings past x p read answer q e request =
     let same : p ≡ q = read_meant x (pdu_text p) p q read e in

@@ -16,3 +16,4 @@ pub mod CoursesActs
 pub mod Courses
 pub mod Begins
 pub mod Runs
+pub mod Offered

@@ -149,7 +149,7 @@ act_log w c s now (TellState e) ts h = ap (λ (k : History). k ++ log_in (outfit
 
 -- All entries of an act are of its station.
 
-abbrev AreAt : ℕ → List Entry → Type 0
+abbrev pub AreAt : ℕ → List Entry → Type 0
 AreAt t es = AllByRecursion (λ e. station_of (event_of e) ≡ t) es
 
 sent_at : (t now : ℕ) (o : Option Pdu) → AreAt t (sent_as t now o)
@@ -175,7 +175,7 @@ log-one : (t s : ℕ) (v : Event) (b : Bool) → station_of v ≡ t → (t == s)
 unfolding log_at
 log-one t s v b at e = ap (λ (n : ℕ). cond (n == s) (v ∷ []) []) at ∙ ap (λ (x : Bool). cond x (v ∷ []) []) e
 
-log-all : (t s : ℕ) (b : Bool) (es : List Entry) → (t == s) ≡ b → AreAt t es → log_at s (past es) ≡ (if b then past es else [])
+pub log-all : (t s : ℕ) (b : Bool) (es : List Entry) → (t == s) ≡ b → AreAt t es → log_at s (past es) ≡ (if b then past es else [])
 unfolding past log_at
 log-all t s true [] e at = refl
 log-all t s false [] e at = refl

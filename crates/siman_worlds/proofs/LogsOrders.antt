@@ -22,6 +22,7 @@ use Rattle.siman_manager.proofs.Offered.{both_true, came_same, ticked_same, unma
 use Rattle.siman_worlds.specs.Turn.{stamp_of}
 use Rattle.siman_worlds.specs.World.{WorldData, outfit_of, settings_of}
 use Rattle.siman_worlds.specs.WorldLaw.{IsOrderInRange}
+pub use Rattle.siman_worlds.specs.Orders.{IsFit, AreFit}
 
 -- a timestamp has 32 bits
 pub stamp_within : (now : ℕ) → stamp_of now < 2 ^ 32
@@ -55,12 +56,6 @@ numbered_in_range m n body h r = r
 pub order_range : (settings : Settings) (id : ℕ) (order : Order) (stamp : ℕ) → IsInRange (order_pdu settings id order stamp) → IsOrderInRange order
 order_range settings id order stamp is = record { target = is.target; body = numbered_in_range id 0 order.body (omega arith) is.body }
 
--- what is asked of an order that is made with this timestamp
-pub record IsFit (order : Order) (stamp : ℕ) : Type 0 where
-  pub request : is_request_body order.body ≡ true
-  pub range : IsOrderInRange order
-  pub stamp_is : stamp < 2 ^ 32
-
 -- the order that is made after n others is one of the station
 pub made_stands : (w : WorldData) (s : ℕ) → IsOutfitInRange (outfit_of w s) → (n : ℕ) (order : Order) (stamp : ℕ) → IsFit order stamp
     → refusal (settings_of w s) n order stamp ≡ None → IsOrder (outfit_of w s)
@@ -85,13 +80,6 @@ made_stands w s own n order stamp fit none =
     }
 
 -- Orders over calls.
-
--- each order asked for is fit
-abbrev pub AreFit : List Call → Type 0
-AreFit [] = Unit {0}
-AreFit (Requested order now stamp ∷ past) = IsFit order stamp × AreFit past
-AreFit (Came p ∷ past) = AreFit past
-AreFit (Ticked now stamp ∷ past) = AreFit past
 
 pub fit_requests : (past : List Call) → AreFit past → AreRequests past
 fit_requests [] fit = tt

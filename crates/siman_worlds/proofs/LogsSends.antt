@@ -125,7 +125,7 @@ pub record IsOwn (w : WorldData) (s : ℕ) (p : Pdu) : Type 0 where
 own_sent : (w : WorldData) (s : ℕ) (p : Pdu) → s < length w.stations → IsOwn w s p → IsSent w (pdu_text p)
 own_sent w s p within is = record { pdu = p; text_is = refl; ranges = is.ranges; status = is.status; size = is.size; station = s; within = within; own = is.from }
 
-from_same : (w : WorldData) (s : ℕ) (p : Pdu) → p.origin.site ≡ (station_of w s).station.address.site
+pub from_same : (w : WorldData) (s : ℕ) (p : Pdu) → p.origin.site ≡ (station_of w s).station.address.site
     → p.origin.application ≡ (station_of w s).station.address.application → is_from (station_of w s).station.address p ≡ true
 from_same w s p site application =
     and_from (p.origin.site == (station_of w s).station.address.site) (p.origin.application == (station_of w s).station.address.application)
@@ -176,7 +176,7 @@ of_life : (settings : Settings) (past : List Call) (stamp : ℕ) (p : Pdu) (k : 
 of_life settings past stamp p k None there e = absurd cc
 of_life settings past stamp p k (Some l) there e = record { number = k; life_is = l; there = there; sent_is = cc }
 
-of_place : (settings : Settings) (past : List Call) (stamp : ℕ) (p : Pdu) (o : Option ℕ)
+pub of_place : (settings : Settings) (past : List Call) (stamp : ℕ) (p : Pdu) (o : Option ℕ)
     → option_map (λ (l : Life). with_stamp stamp l.order) (option_and_then (life settings past) o) ≡ Some p → IsRepeat settings past stamp p
 of_place settings past stamp p None e = absurd cc
 of_place settings past stamp p (Some k) e = of_life settings past stamp p k (life settings past k) refl e

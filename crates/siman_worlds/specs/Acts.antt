@@ -13,11 +13,13 @@ use Rattle.exercise_model.specs.Station.{is_entity}
 use Rattle.siman_application.specs.Play.{state_over}
 use Rattle.siman_application.specs.Standing.{Standing, came}
 use Rattle.siman_manager.specs.declared.order.Order.{Order}
-use Rattle.siman_manager.specs.Answers.{refusal_of, with_orders, ticked}
+use Rattle.siman_manager.specs.Answers.{refusal_of, told_by, with_orders, ticked}
 use Rattle.siman_manager.specs.Book.{Book, order_pdu, next_id, repeated, with_order}
 use Rattle.siman_worlds.specs.declared.act.Act.{Act}
 use Rattle.siman_worlds.specs.declared.act.Act.TheVariants.{Command, Deliver, Tick, Tell}
 use Rattle.siman_worlds.specs.declared.journal.Journal.{Journal}
+use Rattle.siman_worlds.specs.declared.sending.OrderTextFault.{OrderTextFault}
+use Rattle.siman_worlds.specs.declared.sending.OrderTextFault.TheVariants as text_faults
 use Rattle.siman_worlds.specs.declared.turn.Node.{Node}
 use Rattle.siman_worlds.specs.declared.turn.TurnFault.{TurnFault}
 use Rattle.siman_worlds.specs.declared.turn.TurnFault.TheVariants as turn_faults
@@ -29,6 +31,7 @@ use Rattle.siman_worlds.specs.declared.moving.StepFault.{StepFault}
 use Rattle.siman_worlds.specs.declared.moving.StepFault.TheVariants as step_faults
 use Rattle.siman_worlds.specs.Turn.{stamp_of, sent_as, turn_entries, TakesBoth}
 use Rattle.siman_worlds.specs.World.{sent_in}
+use Rattle.siman_worlds.specs.WorldLaw.{IsOrderInRange}
 
 -- Of the journal.
 
@@ -71,6 +74,12 @@ after_tick n now = record n { manager = ticked n.manager now (stamp_of now) }
 -- why an order is not made
 abbrev pub order_fault : Book → ℕ → Order → Option MoveFault
 order_fault b now order = if is_request_body order.body then option_map faults.Order (refusal_of b order (stamp_of now)) else Some faults.NotARequest
+
+-- What is left where the text of an order is not there: the halves as they were, where it was refused; else they have the order.
+abbrev pub FailsOrder : ℕ → Order → Node → Node → OrderTextFault → Type 0
+FailsOrder now order old new (text_faults.Order fault) = (new ≡ old) × (refusal_of old.manager order (stamp_of now) ≡ told_by fault)
+FailsOrder now order old new text_faults.Memory =
+    (new ≡ after_order old now order) × (refusal_of old.manager order (stamp_of now) ≡ None) × IsOrderInRange order
 
 -- why a datagram is not delivered
 abbrev pub send_fault : List (List ℕ) → ℕ → Option MoveFault

@@ -9,4 +9,5 @@ pub mod World
 pub mod Acts
 pub mod Moves
 pub mod WorldLaw
+pub mod Orders
 pub mod Holds

@@ -14,11 +14,12 @@ ghost use Rattle.siman_worlds.specs.WorldLaw.{IsOrderInRange, IsActInRange};
 
 use crate::act::Act;
 use crate::journal::Journal;
-use crate::turn::{Node, TurnFault, stamp_of, take_turn};
+use crate::sending::{OrderTextFault, order_text, repeat_text};
+use crate::turn::{Node, TurnFault, take_turn};
 use crate::world_fault::{MoveFault, WorldFault};
 use exercise_model::{LogFault, is_entity};
 use siman_manager::{Order, OrderFault};
-use siman_pdus::{EncodeFault, encode, numbers_are_in_range};
+use siman_pdus::EncodeFault;
 use std::alloc::{AllocError, Global};
 
 /// Why a move was not made.
@@ -63,18 +64,12 @@ fn make_order(node: &mut Node, now: u64, order: Order, text: &mut Vec<u8>) -> Re
     if !order.body.is_request() {
         return Err(StepFault::Move(MoveFault::NotARequest));
     }
-    text.clear();
-    match node.manager.request(order, now, stamp_of(now)) {
-        Ok((_, pdu)) => {
-            numbers_are_in_range(pdu);
-            match encode(pdu, text) {
-                Ok(()) => Ok(()),
-                Err(EncodeFault::Memory) => Err(StepFault::Memory),
-                Err(EncodeFault::TooLong) => unreachable!(),
-            }
+    match order_text(node, now, order, text) {
+        Ok(_) => Ok(()),
+        Err(OrderTextFault::Order(OrderFault::Memory) | OrderTextFault::Memory) => {
+            Err(StepFault::Memory)
         }
-        Err(OrderFault::Memory) => Err(StepFault::Memory),
-        Err(fault) => Err(StepFault::Move(MoveFault::Order(fault))),
+        Err(OrderTextFault::Order(fault)) => Err(StepFault::Move(MoveFault::Order(fault))),
     }
 }
 
@@ -86,14 +81,10 @@ fn make_repeat(node: &mut Node, now: u64, text: &mut Vec<u8>) -> Result<bool, Al
     ensures text { OnOk result (IfSome (next_repeat node.old.manager now) (λ p. text.new.items ≡ pdu_text p)) }
     ensures size { IfOk result (λ due. due ≡ true → length text.new.items ≤ LARGEST_DATAGRAM) }
 {
-    text.clear();
-    match node.manager.tick(now, stamp_of(now)) {
-        Some(pdu) => match encode(pdu, text) {
-            Ok(()) => Ok(true),
-            Err(EncodeFault::Memory) => Err(AllocError),
-            Err(EncodeFault::TooLong) => unreachable!(),
-        },
-        None => Ok(false),
+    match repeat_text(node, now, text) {
+        Ok(due) => Ok(due),
+        Err(EncodeFault::Memory) => Err(AllocError),
+        Err(EncodeFault::TooLong) => unreachable!(),
     }
 }
 

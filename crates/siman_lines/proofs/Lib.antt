@@ -1,0 +1,12 @@
+pub mod Handing
+pub mod Growth
+pub mod Taking
+pub mod Turns
+pub mod Ordered
+pub mod Standing
+pub mod Writings
+pub mod Hearing
+pub mod Keeping
+pub mod Stations
+pub mod Events
+pub mod Refusing

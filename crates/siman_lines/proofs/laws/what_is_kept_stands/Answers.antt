@@ -1,0 +1,16 @@
+use Rattle.exercise_model.specs.History.{past}
+use Rattle.siman_lines.proofs.Events.{requests_ordered, sends_stand, all_run}
+use Rattle.siman_lines.proofs.Stations.{beginning}
+use Rattle.siman_lines.proofs.laws.what_is_kept_stands.Goals as goal
+
+pub returns-clause-text : goal.returns-clause-text
+returns-clause-text c = beginning
+
+pub returns-clause-requests : goal.returns-clause-requests
+returns-clause-requests c = requests_ordered
+
+pub returns-clause-sends : goal.returns-clause-sends
+returns-clause-sends c = sends_stand
+
+pub returns-clause-run : goal.returns-clause-run
+returns-clause-run c = λ w es. all_run w (past es)

@@ -1,0 +1,109 @@
+-- What lists of calls over one recorder come to: stations that each serve a line of their own, and issue and repeat orders (profile). Histories have THE LAST EVENT FIRST.
+use Rattle.std.specs.Prelude.{◌≡◌, ◌≤◌, ◌<◌, ℕ, List, [], ◌∷◌, ◌++◌, length, true, slice_get, Option, Some, None, ◌⊎◌}
+use Rattle.std.specs.List.{AllByRecursion}
+use Rattle.siman_pdus.specs.declared.pdu.Pdu.{Pdu}
+use Rattle.siman_pdus.specs.Role.{is_request_body}
+use Rattle.siman_pdus.specs.Same.{IsSameOrder}
+use Rattle.exercise_model.specs.Cause.{send_cause, was_sent, IsAllowed}
+use Rattle.exercise_model.specs.Entry.{Entry}
+use Rattle.exercise_model.specs.History.{History, Event, Send, Get, Tell, station_of}
+use Rattle.exercise_model.specs.Meaning.{meaning}
+use Rattle.exercise_model.specs.Recording.{PlainRecording, IsRecording}
+use Rattle.exercise_model.specs.Setting.{SettingData, is_from}
+use Rattle.exercise_model.specs.Station.{StationData}
+use Rattle.exercise_recording.specs.Text.{recording_text}
+use Rattle.exercise_recording.specs.Writer.{WriterState}
+use Rattle.siman_application.specs.Ranges.{IsOutfitInRange}
+use Rattle.siman_application.specs.Standing.{came}
+use Rattle.siman_manager.specs.declared.kept.KeptOrder.{KeptOrder}
+use Rattle.siman_manager.specs.Book.{Book}
+use Rattle.siman_worlds.specs.declared.turn.Node.{Node}
+use Rattle.siman_lines.specs.Told.{Datagrams}
+use Rattle.siman_lines.specs.Kept.{IsWritten, IsOfStation, IsKept, Keeps}
+
+-- Beginnings.
+
+-- a line that was handed nothing, as far as it tells
+abbrev pub IsUnused : Option Datagrams → Type 0
+IsUnused None = Unit {0}
+IsUnused (Some ds) = ds ≡ []
+
+-- A STATION AS IT IS BEGUN: nothing came to its halves, no order was made, and its line was handed nothing.
+pub record IsFresh (s : ℕ) (n : Node) (w : SettingData) (handed : Option Datagrams) : Type 0 where
+  pub station : IsOfStation s n w
+  pub ranges : IsOutfitInRange n.application.outfit
+  pub nothing_came : n.application.kept ≡ []
+  pub no_order : n.manager.orders ≡ []
+  pub unused : IsUnused handed
+
+-- Lists of calls.
+
+-- stations over one recorder, by their indices: the halves of each, and what its line tells that it was handed
+pub record Stations : Type 0 where
+  pub node : ℕ → Node
+  pub handed : ℕ → Option Datagrams
+  pub recorder : WriterState
+
+-- A CALL at station s: it keeps what was kept of that station, as each of the three does, and the other stations are as they were.
+pub record IsCall (s : ℕ) (old new : Stations) : Type 0 where
+  pub keeps : Keeps s (old.node s) old.recorder (old.handed s) (new.node s) new.recorder (new.handed s)
+  pub nodes : (t : ℕ) → (s ≡ t → ⊥) → new.node t ≡ old.node t
+  pub lines : (t : ℕ) → (s ≡ t → ⊥) → new.handed t ≡ old.handed t
+
+-- calls at these stations, one after the other
+abbrev pub AreCalls : List ℕ → Stations → Stations → Type 0
+AreCalls [] old new = new ≡ old
+AreCalls (s ∷ ss) old new = (mid : Stations) × IsCall s old mid × AreCalls ss mid new
+
+-- the station is one of these
+abbrev pub HasStation : ℕ → List ℕ → Type 0
+HasStation s [] = ⊥
+HasStation s (t ∷ ts) = (s ≡ t) ⊎ HasStation s ts
+
+-- ALL IS KEPT of these stations, where these entries are written whole.
+pub record AreKept (before : Option (List ℕ)) (stations : List ℕ) (x : Stations) (es : List Entry) : Type 0 where
+  pub written : IsWritten before x.recorder es
+  pub kept : AllByRecursion (λ s. IsKept s (x.node s) x.recorder es (x.handed s)) stations
+
+-- What is written.
+
+-- WHAT STANDS BEHIND THE BYTES THAT WERE THERE BEFORE is the beginning of the text of a recording: its setting, the entries that are written whole, and at most one more.
+pub record IsBeginningOf (before : List ℕ) (w : WriterState) (es : List Entry) : Type 0 where
+  pub recording : PlainRecording
+  pub is : IsRecording recording
+  pub setting : recording.setting ≡ w.setting
+  pub torn : List Entry
+  pub entries : recording.entries ≡ es ++ torn
+  pub one : length torn ≤ 1
+  pub front : List ℕ
+  pub rest : List ℕ
+  pub contents : w.contents ≡ Some (before ++ front)
+  pub text : front ++ rest ≡ recording_text recording
+
+-- No datagram that the log of a station sends has a cause against it, after the events before it.
+abbrev pub SendsStand : ℕ → StationData → History → Type 0
+SendsStand x o [] = Unit {0}
+SendsStand x o (Send s b ∷ log) = ((p : Pdu) → meaning x b ≡ Some p → send_cause x o log p ≡ None) × SendsStand x o log
+SendsStand x o (Get s b ∷ log) = SendsStand x o log
+SendsStand x o (Tell s e y ∷ log) = SendsStand x o log
+
+-- Each datagram that is received and is not other was sent before, and each state that is told may be told.
+abbrev pub ReceivesSent : SettingData → History → Type 0
+ReceivesSent w [] = Unit {0}
+ReceivesSent w (Send s b ∷ h) = ReceivesSent w h
+ReceivesSent w (Get s b ∷ h) = ((p : Pdu) → meaning w.exercise b ≡ Some p → was_sent b h ≡ true) × ReceivesSent w h
+ReceivesSent w (Tell s e y ∷ h) = IsAllowed w h (Tell s e y) × ReceivesSent w h
+
+-- A REQUEST THAT IS SENT comes from the manager's address, and is the same order as one that the manager keeps.
+pub record IsOrdered (k : Book) (p : Pdu) : Type 0 where
+  pub from : is_from k.settings.address p ≡ true
+  pub order : KeptOrder
+  pub number : ℕ
+  pub there : slice_get k.orders number ≡ Some order
+  pub same : IsSameOrder p order.pdu
+
+abbrev pub RequestsAreOrdered : ℕ → Book → History → Type 0
+RequestsAreOrdered x k [] = Unit {0}
+RequestsAreOrdered x k (Send s b ∷ log) = ((p : Pdu) → meaning x b ≡ Some p → is_request_body p.body ≡ true → IsOrdered k p) × RequestsAreOrdered x k log
+RequestsAreOrdered x k (Get s b ∷ log) = RequestsAreOrdered x k log
+RequestsAreOrdered x k (Tell s e y ∷ log) = RequestsAreOrdered x k log

@@ -1,0 +1,271 @@
+-- What a station makes of the datagrams that it receives at its line (profile). Each list of datagrams has THE LAST ONE FIRST.
+use Rattle.std.specs.Prelude.{◌≡◌, ℕ, ◌+◌, ◌<◌, ◌≤◌, Bool, true, false, not, nat_le, List, [], ◌∷◌, ◌++◌, filter, length, reverse, Option, Some, None, Result, Ok, Err, is_some, slice_index, ◌⊎◌, if◌then◌else◌}
+use Rattle.dis_records.specs.declared.header.TheConstants.{LARGEST_DATAGRAM}
+use Rattle.siman_pdus.specs.declared.pdu.Pdu.{Pdu}
+use Rattle.siman_pdus.specs.Reading.{reading}
+use Rattle.siman_pdus.specs.Spelling.{pdu_text}
+use Rattle.exercise_model.specs.Entry.{Entry, Received}
+use Rattle.exercise_recording.specs.Writer.{WriterState}
+use Rattle.siman_application.specs.Distinct.{with_request}
+use Rattle.siman_application.specs.Outfit.{Outfit}
+use Rattle.siman_application.specs.Play.{reply_after}
+use Rattle.siman_application.specs.Standing.{came}
+use Rattle.siman_manager.specs.Answers.{taken}
+use Rattle.siman_manager.specs.Book.{Book}
+use Rattle.siman_worlds.specs.declared.turn.Node.{Node}
+use Rattle.siman_worlds.specs.declared.turn.TurnFault.{TurnFault}
+use Rattle.siman_worlds.specs.declared.turn.TurnFault.TheVariants as turn_faults
+use Rattle.siman_worlds.specs.Recording.{WritesOne, WritesNone}
+use Rattle.siman_worlds.specs.Turn.{stamp_of, sent_as, reply_due, turn_entries, RecordsAll, TakesBoth, FailsTurn as FailsHalves}
+use Rattle.exercise_recording.specs.declared.fault.WriterFault.{WriterFault}
+use Rattle.siman_lines.specs.declared.fault.ServeFault.{ServeFault}
+use Rattle.siman_lines.specs.declared.fault.ServeFault.TheVariants as faults
+use Rattle.siman_lines.specs.declared.served.Served.{Served}
+use Rattle.siman_lines.specs.Told.{Datagrams, Same, GrowsAll, Grows, MayGrow}
+
+-- Of datagrams that a station takes, each in its turn.
+
+-- the distinct requests after one more datagram was taken, if it is read as a PDU
+abbrev pub came_with : Outfit → List Pdu → Option Pdu → List Pdu
+came_with a ds None = ds
+came_with a ds (Some q) = with_request a ds q
+
+abbrev pub came_after : Outfit → List Pdu → Datagrams → List Pdu
+came_after a ds [] = ds
+came_after a ds (b ∷ bs) = came_with a (came_after a ds bs) (reading b)
+
+-- the orders after it
+abbrev pub taken_with : Book → Option Pdu → Book
+taken_with k None = k
+taken_with k (Some q) = taken k q
+
+abbrev pub book_after : Book → Datagrams → Book
+book_after k [] = k
+book_after k (b ∷ bs) = taken_with (book_after k bs) (reading b)
+
+-- the reply to it, after these distinct requests
+abbrev pub reply_with : Outfit → List Pdu → Option Pdu → ℕ → Option Pdu
+reply_with a ds None stamp = None
+reply_with a ds (Some q) stamp = reply_after a ds q stamp
+
+-- the reply to a datagram that comes after others
+abbrev pub reply_at : Outfit → List Pdu → ℕ → Datagrams → List ℕ → Option Pdu
+reply_at a ds now bs b = reply_with a (came_after a ds bs) (reading b) (stamp_of now)
+
+-- THE ENTRIES: each datagram is received, and then the reply is sent, if one is due
+abbrev pub entries_after : Outfit → List Pdu → (s now : ℕ) → Datagrams → List Entry
+entries_after a ds s now [] = []
+entries_after a ds s now (b ∷ bs) = entries_after a ds s now bs ++ (Received s now b ∷ sent_as s now (reply_at a ds now bs b))
+
+-- the text of a reply, if there is one
+abbrev pub text_of : Option Pdu → Datagrams
+text_of None = []
+text_of (Some p) = pdu_text p ∷ []
+
+-- THE TEXTS that are sent, in their order
+abbrev pub texts_after : Outfit → List Pdu → ℕ → Datagrams → Datagrams
+texts_after a ds now [] = []
+texts_after a ds now (b ∷ bs) = texts_after a ds now bs ++ text_of (reply_at a ds now bs b)
+
+-- The halves took these datagrams, each in its turn, and the entries of them are recorded, and no other.
+pub record HasTaken (s now : ℕ) (bs : Datagrams) (before after : Node) (old new : WriterState) : Type 0 where
+  pub outfit : after.application.outfit ≡ before.application.outfit
+  pub came_is : came after.application ≡ came_after before.application.outfit (came before.application) bs
+  pub manager : after.manager ≡ book_after before.manager bs
+  pub entries : RecordsAll WritesOne (entries_after before.application.outfit (came before.application) s now bs) old new
+
+-- the texts that a station with these halves sends
+abbrev pub texts_by : Node → ℕ → Datagrams → Datagrams
+texts_by n now bs = texts_after n.application.outfit (came n.application) now bs
+
+-- Of what was received.
+
+-- the numbers of a datagram are bytes
+abbrev pub IsBytes : List ℕ → Type 0
+IsBytes b = (i : ℕ) → slice_index b i < 256
+
+-- a datagram of at most 8192 bytes, which is taken; a longer one is dropped
+abbrev pub is_short : List ℕ → Bool
+is_short b = nat_le (length b) LARGEST_DATAGRAM
+
+abbrev pub is_long : List ℕ → Bool
+is_long b = not (is_short b)
+
+abbrev pub short_of : Datagrams → Datagrams
+short_of us = filter is_short us
+
+-- each datagram that is taken consists of bytes
+abbrev pub AreBytes : Datagrams → Type 0
+AreBytes [] = Unit {0}
+AreBytes (b ∷ bs) = IsBytes b × AreBytes bs
+
+-- A station at its line: its halves, its recorder, what its line tells of datagrams, and how many calls of the line failed.
+pub record State : Type 0 where
+  pub node : Node
+  pub recorder : WriterState
+  pub received : Option Datagrams
+  pub sent : Option Datagrams
+  pub failures : ℕ
+
+-- WHAT STANDS AFTER a station received these datagrams at its line: the long ones are dropped, the others taken, each in its turn, and each reply that was due was sent.
+pub record HasServed (s now : ℕ) (us : Datagrams) (old new : State) : Type 0 where
+  pub taken : HasTaken s now (short_of us) old.node new.node old.recorder new.recorder
+  pub received_are : GrowsAll old.received new.received (reverse us)
+  pub sent_are : GrowsAll old.sent new.sent (texts_by old.node now (short_of us))
+  pub bytes : AreBytes (short_of us)
+
+-- WHAT A STATION DID that ended its turns without a fault: the line worked, and all that it received is counted. It received as often as it was to, or less often; then it was idle.
+pub record Serves (s now turns : ℕ) (old new : State) (served : Served) : Type 0 where
+  pub datagrams : Datagrams
+  pub done : HasServed s now datagrams old new
+  pub worked : new.failures ≡ old.failures
+  pub taken : served.taken ≡ length (short_of datagrams)
+  pub dropped : served.dropped ≡ length (filter is_long datagrams)
+  pub sent : served.sent ≡ length (texts_by old.node now (short_of datagrams))
+  pub whole : served.idle ≡ false → served.taken + served.dropped ≡ turns
+  pub idle : served.idle ≡ true → served.taken + served.dropped < turns
+
+-- WHAT A FAULT LEAVES, where these datagrams were served before.
+
+-- A receive failed, and nothing else was done.
+pub record LosesReceive (s now : ℕ) (old new : State) : Type 0 where
+  pub datagrams : Datagrams
+  pub done : HasServed s now datagrams old new
+  pub lost : old.failures < new.failures
+
+-- The turn of one more datagram was done, and the send of its reply failed.
+pub record LosesSend (s now : ℕ) (old new : State) : Type 0 where
+  pub earlier : Datagrams
+  pub datagram : List ℕ
+  pub answer : Pdu
+  pub short : is_short datagram ≡ true
+  pub due : reply_at old.node.application.outfit (came old.node.application) now (short_of earlier) datagram ≡ Some answer
+  pub taken : HasTaken s now (datagram ∷ short_of earlier) old.node new.node old.recorder new.recorder
+  pub received_are : GrowsAll old.received new.received (reverse (datagram ∷ earlier))
+  pub before : Option Datagrams
+  pub sent_are : GrowsAll old.sent before (texts_by old.node now (short_of earlier))
+  pub may_be_sent : MayGrow before new.sent (pdu_text answer)
+  pub bytes : AreBytes (datagram ∷ short_of earlier)
+  pub lost : old.failures < new.failures
+
+-- The turn of one more datagram was not done whole; nothing was sent for it.
+pub record BreaksTurn (s now : ℕ) (fault : TurnFault WriterFault) (old new : State) : Type 0 where
+  pub earlier : Datagrams
+  pub datagram : List ℕ
+  pub short : is_short datagram ≡ true
+  pub node : Node
+  pub recorder : WriterState
+  pub taken : HasTaken s now (short_of earlier) old.node node old.recorder recorder
+  pub broken : FailsHalves WritesOne WritesNone s now datagram fault recorder new.recorder node new.node
+  pub received_are : GrowsAll old.received new.received (reverse (datagram ∷ earlier))
+  pub sent_are : GrowsAll old.sent new.sent (texts_by old.node now (short_of earlier))
+  pub bytes : AreBytes (datagram ∷ short_of earlier)
+  pub worked : new.failures ≡ old.failures
+
+abbrev pub FailsServe : (s now : ℕ) → State → State → ServeFault → Type 0
+FailsServe s now old new faults.Receive = LosesReceive s now old new
+FailsServe s now old new faults.Send = LosesSend s now old new
+FailsServe s now old new (faults.Record fault) = BreaksTurn s now (turn_faults.Record fault) old new
+FailsServe s now old new faults.Memory = BreaksTurn s now turn_faults.Memory old new
+
+-- WHAT A STATION DID in at most so many turns.
+abbrev pub ServeEnds : (s now turns : ℕ) → State → State → Result Served ServeFault → Type 0
+ServeEnds s now turns old new (Ok served) = Serves s now turns old new served
+ServeEnds s now turns old new (Err fault) = FailsServe s now old new fault
+
+-- Of one datagram.
+
+-- The turn of a datagram was done, and the reply that was due was sent.
+pub record ServesOne (s now : ℕ) (b : List ℕ) (old new : State) : Type 0 where
+  pub entries : RecordsAll WritesOne (turn_entries old.node.application s now b) old.recorder new.recorder
+  pub halves : TakesBoth (reading b) old.node new.node
+  pub sent_are : GrowsAll old.sent new.sent (text_of (reply_due old.node.application (reading b) (stamp_of now)))
+  pub received_are : Same old.received new.received
+  pub worked : new.failures ≡ old.failures
+
+-- The turn was done, and the send failed.
+pub record SendsNone (s now : ℕ) (b : List ℕ) (old new : State) : Type 0 where
+  pub entries : RecordsAll WritesOne (turn_entries old.node.application s now b) old.recorder new.recorder
+  pub halves : TakesBoth (reading b) old.node new.node
+  pub answer : Pdu
+  pub due : reply_due old.node.application (reading b) (stamp_of now) ≡ Some answer
+  pub may_be_sent : MayGrow old.sent new.sent (pdu_text answer)
+  pub received_are : Same old.received new.received
+  pub lost : old.failures < new.failures
+
+-- The turn was not done whole.
+pub record BreaksOne (s now : ℕ) (b : List ℕ) (fault : TurnFault WriterFault) (old new : State) : Type 0 where
+  pub broken : FailsHalves WritesOne WritesNone s now b fault old.recorder new.recorder old.node new.node
+  pub sent_are : Same old.sent new.sent
+  pub received_are : Same old.received new.received
+  pub worked : new.failures ≡ old.failures
+
+abbrev pub FailsOne : (s now : ℕ) → List ℕ → State → State → ServeFault → Type 0
+FailsOne s now b old new faults.Receive = ⊥
+FailsOne s now b old new faults.Send = SendsNone s now b old new
+FailsOne s now b old new (faults.Record fault) = BreaksOne s now b (turn_faults.Record fault) old new
+FailsOne s now b old new faults.Memory = BreaksOne s now b turn_faults.Memory old new
+
+-- Of one receive.
+
+-- Nothing changed but the line.
+pub record Stays (old new : State) : Type 0 where
+  pub node : new.node ≡ old.node
+  pub recorder : new.recorder ≡ old.recorder
+  pub received_are : Same old.received new.received
+  pub sent_are : Same old.sent new.sent
+  pub worked : new.failures ≡ old.failures
+
+-- The line handed a datagram out, and nothing else changed.
+pub record Hears (b : List ℕ) (old new : State) : Type 0 where
+  pub node : new.node ≡ old.node
+  pub recorder : new.recorder ≡ old.recorder
+  pub received_are : Grows old.received new.received b
+  pub sent_are : Same old.sent new.sent
+  pub worked : new.failures ≡ old.failures
+
+-- A long datagram came, and was dropped,
+pub record DropsIt (old new : State) (turn : Served) : Type 0 where
+  pub datagram : List ℕ
+  pub hears : Hears datagram old new
+  pub long : is_short datagram ≡ false
+  pub told : turn ≡ record { taken = 0; sent = 0; dropped = 1; idle = false }
+
+-- or another one, which was served.
+pub record TakesIt (s now : ℕ) (old new : State) (turn : Served) : Type 0 where
+  pub datagram : List ℕ
+  pub heard : State
+  pub hears : Hears datagram old heard
+  pub short : is_short datagram ≡ true
+  pub bytes : IsBytes datagram
+  pub serves : ServesOne s now datagram heard new
+  pub answered : Bool
+  pub due : answered ≡ is_some (reply_due heard.node.application (reading datagram) (stamp_of now))
+  pub told : turn ≡ record { taken = 1; sent = if answered then 1 else 0; dropped = 0; idle = false }
+
+abbrev pub ServesTurn : (s now : ℕ) → State → State → Option Served → Type 0
+ServesTurn s now old new None = Stays old new
+ServesTurn s now old new (Some turn) = DropsIt old new turn ⊎ TakesIt s now old new turn
+
+-- The receive failed,
+pub record HearsNone (old new : State) : Type 0 where
+  pub node : new.node ≡ old.node
+  pub recorder : new.recorder ≡ old.recorder
+  pub received_are : Same old.received new.received
+  pub sent_are : Same old.sent new.sent
+  pub lost : old.failures < new.failures
+
+-- or the turn of the datagram that came was not done whole.
+pub record FailsIt (s now : ℕ) (old new : State) (fault : ServeFault) : Type 0 where
+  pub datagram : List ℕ
+  pub heard : State
+  pub hears : Hears datagram old heard
+  pub short : is_short datagram ≡ true
+  pub bytes : IsBytes datagram
+  pub fails : FailsOne s now datagram heard new fault
+
+abbrev pub FailsTurn : (s now : ℕ) → State → State → ServeFault → Type 0
+FailsTurn s now old new faults.Receive = HearsNone old new
+FailsTurn s now old new faults.Send = FailsIt s now old new faults.Send
+FailsTurn s now old new (faults.Record fault) = FailsIt s now old new (faults.Record fault)
+FailsTurn s now old new faults.Memory = FailsIt s now old new faults.Memory

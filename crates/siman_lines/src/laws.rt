@@ -1,0 +1,44 @@
+//! What the calls of stations over one recorder come to. Each function is a theorem: it has no body,
+//! and its contract is the law.
+
+ghost use Rattle.std.specs.Prelude.{◌≡◌, ◌<◌, ◌++◌, [], ℕ, List, length, true, Option, Some};
+ghost use Rattle.std.specs.List.{AllByRecursion};
+ghost use Rattle.exercise_model.specs.Entry.{Entry};
+ghost use Rattle.exercise_model.specs.History.{past, log_at, station_of};
+ghost use Rattle.exercise_model.specs.Run.{IsRun};
+ghost use Rattle.exercise_model.specs.Setting.{SettingData, IsSetting, station_in};
+ghost use Rattle.exercise_recording.specs.Writer.{WriterState, Starts};
+ghost use Rattle.siman_application.specs.OwnLog.{AreOneOrder};
+ghost use Rattle.siman_worlds.specs.declared.turn.Node.{Node};
+ghost use Rattle.siman_lines.specs.Told.{Datagrams};
+ghost use Rattle.siman_lines.specs.Kept.{IsWritten, IsKept};
+ghost use Rattle.siman_lines.specs.Calls.{IsFresh, Stations, HasStation, AreCalls, AreKept, IsBeginningOf, SendsStand, ReceivesSent, RequestsAreOrdered};
+
+/// What is kept of stations over one recorder: it holds of them as they are begun, and after every
+/// list of calls of [`serve`](crate::serve), [`issue`](crate::issue) and [`nudge`](crate::nudge),
+/// with faults too. The clause `keeps` of these three is what the law asks of a call.
+pub fn calls_are_kept()
+    // A recorder that was started has written the head of a recording,
+    ensures started { (before : Option (List ℕ)) (w : SettingData) (recorder : WriterState) → IsSetting w → Starts before w recorder → IsWritten before recorder [] }
+    // and all is kept of a station as it is begun.
+    ensures fresh { (s : ℕ) (n : Node) (recorder : WriterState) (handed : Option Datagrams) → IsFresh s n recorder.setting handed → IsKept s n recorder [] handed }
+    // Calls at such stations, in whatever order, add entries, and all is kept.
+    ensures calls { (before : Option (List ℕ)) (stations calls : List ℕ) (old new : Stations) (es : List Entry)
+        → AllByRecursion (λ s. HasStation s stations) calls → AreKept before stations old es
+        → AreCalls calls old new → (more : List Entry) × AreKept before stations new (es ++ more) }
+{}
+
+/// What is written, where all is kept, and what stands in it.
+pub fn what_is_kept_stands()
+    // It is the beginning of the text of a recording.
+    ensures text { (before : List ℕ) (recorder : WriterState) (es : List Entry) → IsWritten (Some before) recorder es → IsBeginningOf before recorder es }
+    // Each request that the station sent is one of its manager's orders.
+    ensures requests { (s : ℕ) (n : Node) (recorder : WriterState) (es : List Entry) (handed : Option Datagrams) → IsKept s n recorder es handed
+        → RequestsAreOrdered recorder.setting.exercise n.manager (log_at s (past es)) }
+    // Where no site and application used one request identifier for two orders, nothing that it sent has a cause against it,
+    ensures sends { (s : ℕ) (n : Node) (recorder : WriterState) (es : List Entry) (handed : Option Datagrams) → IsKept s n recorder es handed
+        → AreOneOrder n.application.outfit (log_at s (past es)) → SendsStand recorder.setting.exercise (station_in recorder.setting s) (log_at s (past es)) }
+    // and where, besides, each datagram that was received and is not other was sent before, the entries are a run in the order of the file.
+    ensures run { (w : SettingData) (es : List Entry) → ((s : ℕ) → s < length w.stations → SendsStand w.exercise (station_in w s) (log_at s (past es)))
+        → AllByRecursion (λ v. station_of v < length w.stations) (past es) → ReceivesSent w (past es) → IsRun w (past es) }
+{}

@@ -1,0 +1,101 @@
+//! A line over memory, which fails at a call of the test's choice.
+
+use crate::line::{Line, LineFault};
+use http_server::Log;
+use std::alloc::Global;
+
+/// What comes, what was sent, and which call fails.
+#[derive(Drop)]
+pub struct MemoryLine {
+    coming: Vec<Vec<u8>>,
+    given: usize,
+    sent: Vec<Vec<u8>>,
+    calls: u64,
+    fails_at: Option<u64>,
+    failures: Log<(), ()>,
+}
+
+impl MemoryLine {
+    /// A line that hands out `coming`. Of its calls, counted from 1, the one whose number is `fails_at` fails.
+    pub fn new(alloc: Global, coming: Vec<Vec<u8>>, fails_at: Option<u64>) -> MemoryLine {
+        MemoryLine {
+            coming,
+            given: 0,
+            sent: Vec::new(alloc),
+            calls: 0,
+            fails_at,
+            failures: Log::new(),
+        }
+    }
+
+    /// The datagrams that it was handed, oldest first.
+    pub fn sent(&self) -> &[Vec<u8>]
+        ensures { result.now ≡ self.now.sent.items }
+    {
+        &self.sent
+    }
+
+    ghost use Rattle.std.specs.Prelude.{◌≡◌, ◌+◌, length};
+    ghost use Rattle.siman_lines.specs.Memory.{SameDatagrams};
+
+    fn fail(&mut self) -> LineFault
+        ensures same { SameDatagrams self.old self.new }
+        ensures counted { length self.new.failures.items ≡ length self.old.failures.items + 1 }
+    {
+        self.failures = self.failures.and(&(), &());
+        LineFault::Failed
+    }
+
+    // Counts the call, and says whether it is the one that fails.
+    fn is_failing(&mut self) -> bool
+        ensures same { SameDatagrams self.old self.new }
+        ensures failures { self.new.failures ≡ self.old.failures }
+    {
+        match self.calls.checked_add(1) {
+            None => false,
+            Some(number) => {
+                self.calls = number;
+                self.fails_at == Some(number)
+            }
+        }
+    }
+}
+
+impl Line for MemoryLine {
+    ghost use Rattle.std.specs.Prelude.{Some, length};
+    ghost use Rattle.siman_lines.specs.Memory.{sent_of, received_of, FoundNothing};
+
+    ghost received = { λ l. Some (received_of l) };
+
+    ghost sent = { λ l. Some (sent_of l) };
+
+    ghost failures = { λ l. length l.failures.items };
+
+    ghost finds_nothing = { FoundNothing };
+
+    fn send(&mut self, datagram: &[u8]) -> Result<(), LineFault> {
+        if self.is_failing() {
+            return Err(self.fail());
+        }
+        let Ok(copy) = Vec::from_slice(*self.sent.allocator(), datagram) else {
+            return Err(self.fail());
+        };
+        match self.sent.push(copy) {
+            Ok(()) => Ok(()),
+            Err(_) => Err(self.fail()),
+        }
+    }
+
+    fn receive(&mut self, buffer: &mut [u8]) -> Result<Option<usize>, LineFault> {
+        if self.is_failing() {
+            return Err(self.fail());
+        }
+        let Some(datagram) = self.coming.get(self.given) else {
+            return Ok(None);
+        };
+        let taken = datagram.len().min(buffer.len());
+        buffer[..taken].copy_from_slice(&datagram[..taken]);
+        self.given += 1;
+        Ok(Some(taken))
+    }
+}

@@ -44,8 +44,7 @@ impl<'a> Hash for Datagram<'a> {
 
 /// The stations that wait for each datagram. The datagrams come from a recording, whose writer may
 /// be a stranger, so the hasher is one for which nobody writes down datagrams that fall together.
-pub(crate) type Waiting<'a> =
-    IndexMap<Datagram<'a>, Vec<usize>, BuildHasherDefault<DefaultHasher>>;
+pub(crate) type Waiting<'a> = IndexMap<Datagram<'a>, Vec<usize>, BuildHasherDefault<DefaultHasher>>;
 
 /// Nobody waits. It takes no memory.
 #[tactic(auto, unfolding(crate::specs::Waiting::waiting_for))]

@@ -77,6 +77,10 @@ pub(crate) fn wake<'a>(alloc: Global, waiting: &mut Waiting<'a>, bytes: &'a [u8]
     ensures woken { result.items ≡ waiting_for waiting.old bytes.now }
     ensures leaves { Leaves waiting.old waiting.new bytes.now }
 {
+    // Where nobody waits, which is often, no datagram is hashed.
+    if waiting.is_empty() {
+        return Vec::new(alloc);
+    }
     match waiting.swap_remove(&Datagram { bytes }) {
         Some(stations) => stations,
         None => Vec::new(alloc),

@@ -5,12 +5,12 @@ Beside them stand the plain sum of a recording's bytes and a plain program of th
 (tools/plain/plain.rs), which is built where there is a rustc; where there is none, its columns are left out. Where the
 plain program is there, the two have to answer the same bytes.
 
-For each kind and size it prints the seconds of processor time in the program itself (user time, the least of the
-runs), the peak memory in MiB, and how each grows: the exponent from the size before, so 1.0 is in step with the entries
-and 2.0 with their square; and last how many times the plain program's time and memory check and audit take. Memory
-below some 16 MiB is not seen: so much this script has itself. A command that takes longer than --seconds is not timed
-at the sizes above. The built program is taken as it is: `./siman --version` proves and builds it first, where a source
-is newer. It is no part of the gate.
+For each kind and size it prints the seconds of processor time in the program itself (user time, the least of the runs),
+the peak memory in MiB, and how each grows: the exponent from the size before, so 1.0 is in step with the entries and
+2.0 with their square; and last how many times the plain program's time and memory check and audit take. Memory below
+some 16 MiB is not seen: so much this script has itself; and times of a few milliseconds are rough. A command that takes
+longer than --seconds is not timed at the sizes above. The built program is taken as it is: `./siman --version` proves
+and builds it first, where a source is newer. It is no part of the gate.
 """
 import argparse
 import math

@@ -1,13 +1,13 @@
 -- Who waits for what, after one waits or some are woken.
-use Rattle.std.proofs.Common.{◌≡◌, ℕ, List, [], ◌∷◌, ◌++◌, cond, Bool, Option, Some, None, true, false, refl, sym, ap, ◌∙◌, subst, append-nil}
+use Rattle.std.proofs.Common.{◌≡◌, ℕ, List, [], ◌++◌, cond, Bool, Option, Some, None, true, false, refl, sym, ap, ◌∙◌, append-nil}
 use Rattle.std.specs.Prelude.{nat_eq, if◌then◌else◌, unwrap_or, Result, Ok, Err, OnErr}
 use Rattle.std.specs.Option.{option_map_or}
 use Rattle.std.specs.Cmp.Lexicographic.{pointwise, bytes_decides}
 use Rattle.std.specs.Global.{Vec}
 use Rattle.std.specs.Map.{lookup}
-use Rattle.indexmap.specs.IndexMap.{get, get_by, IsUnchanged, Updates}
+use Rattle.indexmap.specs.IndexMap.{get, IsUnchanged, Updates}
 use Rattle.exercise_audit.specs.declared.waiting.Datagram.{Datagram}
-use Rattle.exercise_audit.specs.Waiting.{Waiting, same_bytes, waiting_for, Joins, Leaves, WaitsOn}
+use Rattle.exercise_audit.specs.Waiting.{Waiting, same_bytes, waiting_for, Leaves, WaitsOn}
 
 abbrev same_datagram : Datagram → Datagram → Bool
 same_datagram d e = pointwise nat_eq d.bytes.now e.bytes.now

@@ -44,8 +44,7 @@ impl<'a> Hash for Datagram<'a> {
 
 /// The stations that wait for each datagram. The datagrams come from a recording, whose writer may
 /// be a stranger, so the hasher is one for which nobody writes down datagrams that fall together.
-pub(crate) type Waiting<'a> =
-    IndexMap<Datagram<'a>, Vec<usize>, BuildHasherDefault<DefaultHasher>>;
+pub(crate) type Waiting<'a> = IndexMap<Datagram<'a>, Vec<usize>, BuildHasherDefault<DefaultHasher>>;
 
 /// Nobody waits. It takes no memory.
 #[tactic(auto, unfolding(crate::specs::Waiting::waiting_for))]
@@ -78,6 +77,10 @@ pub(crate) fn wake<'a>(alloc: Global, waiting: &mut Waiting<'a>, bytes: &'a [u8]
     ensures woken { result.items ≡ waiting_for waiting.old bytes.now }
     ensures leaves { Leaves waiting.old waiting.new bytes.now }
 {
+    // Where nobody waits, which is often, no datagram is hashed.
+    if waiting.is_empty() {
+        return Vec::new(alloc);
+    }
     match waiting.swap_remove(&Datagram { bytes }) {
         Some(stations) => stations,
         None => Vec::new(alloc),

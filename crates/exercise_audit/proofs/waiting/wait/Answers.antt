@@ -1,4 +1,4 @@
-use Rattle.std.proofs.Common.{rules, ◌≡◌, ◌++◌, ◌∷◌, [], ap, ◌∙◌, arith}
+use Rattle.std.proofs.Common.{rules, ◌++◌, ◌∷◌, [], ap, ◌∙◌}
 use Rattle.exercise_audit.specs.declared.waiting.Datagram.{Datagram}
 use Rattle.exercise_audit.proofs.Waiters.{joined, kept, had, unchanged, on_err}
 use Rattle.exercise_audit.proofs.waiting.wait.Goals as goal

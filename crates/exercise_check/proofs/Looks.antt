@@ -93,7 +93,8 @@ pub other_received : (r : PlainRecording) (n s stamp : ℕ) (b : List ℕ) → s
     → meaning r.setting.exercise b ≡ None → IsFound r n (plain (Allowed None))
 other_received r n s stamp b at other =
     found r n (Received s stamp b) (plain (Allowed None)) at
-    (subst (λ o. Judges o None (length r.entries) (Allowed None)) (sym (get_here r s b ∙ ap (option_and_then (get_cause r.setting [] b)) other)) (refl, refl, tt))
+    (subst (λ o. Judges o None (length r.entries) (Allowed None)) (sym (get_here r s b ∙ ap (option_and_then (get_cause r.setting [] b)) other))
+    (refl, refl, tt))
     refl refl (sym (ap (option_and_then (received_key s (station_at r s).address)) other))
 
 -- a state that was told

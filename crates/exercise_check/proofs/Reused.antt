@@ -88,9 +88,11 @@ under_is s t id p q e =
     ≡ (nat_eq t s && (b && (same_id (Some id) (request_id_of q.body) && other p q)))) [
       | false ↦ sym (and_false (nat_eq t s))
       | true ↦ elim (request_id_of q.body) as (λ o. option_map_or (other p)
-          (cond (option_map_or (same_identifier k) (option_map (identifier t) o) false) (Some q) None) false ≡ (nat_eq t s && (same_id (Some id) o && other p q))) [
+          (cond (option_map_or (same_identifier k) (option_map (identifier t) o) false) (Some q) None) false
+          ≡ (nat_eq t s && (same_id (Some id) o && other p q))) [
             | None ↦ sym (and_false (nat_eq t s))
-            | Some j ↦ ap (λ c. option_map_or (other p) (cond (c && nat_eq id j) (Some q) None) false) (nat_eq-comm s t) ∙ chosen (nat_eq t s) (nat_eq id j) (other p) q
+            | Some j ↦ ap (λ c. option_map_or (other p) (cond (c && nat_eq id j) (Some q) None) false) (nat_eq-comm s t)
+                ∙ chosen (nat_eq t s) (nat_eq id j) (other p) q
           ]
     ]
     ∙ ap (λ o. nat_eq t s && (is_request_body q.body && (same_id o (request_id_of q.body) && other p q))) (sym e)
@@ -337,7 +339,8 @@ sent_own r k j f =
     by_pdu : (t : ℕ) (q : Pdu) (b : List ℕ) → meaning r.setting.exercise b ≡ Some q → request_under k t q ≡ Some f
         → option_and_then (meant_by_send r.setting.exercise) (event_at k.station (Send t b)) ≡ Some f
     by_pdu t q b means h =
-        elim (nat_eq t k.station) as (λ c. nat_eq t k.station ≡ c → option_and_then (meant_by_send r.setting.exercise) (cond c (Some (Send t b)) None) ≡ Some f) [
+        elim (nat_eq t k.station) as (λ c. nat_eq t k.station ≡ c
+        → option_and_then (meant_by_send r.setting.exercise) (cond c (Some (Send t b)) None) ≡ Some f) [
           | true ↦ λ _. means ∙ taken (option_map_or (same_identifier k) (identifier_of t q) false) h
           | false ↦ λ far. absurd (cc (sym h ∙ ap (λ c. cond c (Some q) None) (apart far)))
         ] refl
@@ -435,7 +438,8 @@ settled r k n q kept at is so =
     ] refl (subst (λ (x : Kept). (x.mixed || nat_eq x.first n) ≡ true) is so) in
     record {
       reused = ap (λ (x : Kept). x.mixed) is ∙ reused;
-      after = kept_more r k n q at ∙ ap (λ (b : Bool). Some (record { first = (taken_first r k n).first; mixed = b })) (sym reused) ∙ ap (λ (x : Kept). Some x) (sym is);
+      after = kept_more r k n q at ∙ ap (λ (b : Bool). Some (record { first = (taken_first r k n).first; mixed = b })) (sym reused)
+          ∙ ap (λ (x : Kept). Some x) (sym is);
     }
   where
     by_first : (j : ℕ) → (j < n) × (is_some (request_at r k j) ≡ true) → (is_mixed r k n j || nat_eq j n) ≡ true → is_mixed r k n j ≡ used r k.station q n
@@ -470,7 +474,8 @@ unsettled r k n q kept at is pure far =
     (elim (first_request r k n) as (λ o. first_request r k n ≡ o
     → (unwrap_or (option_map (kept_of r k n) o) (record { first = n; mixed = false })).mixed ≡ false
     → nat_eq (unwrap_or (option_map (kept_of r k n) o) (record { first = n; mixed = false })).first n ≡ false
-    → kept_under r k (suc n) ≡ Some (record { first = (unwrap_or (option_map (kept_of r k n) o) (record { first = n; mixed = false })).first; mixed = used r k.station q n })
+    → kept_under r k (suc n)
+    ≡ Some (record { first = (unwrap_or (option_map (kept_of r k n) o) (record { first = n; mixed = false })).first; mixed = used r k.station q n })
     → Unsettled r k n q (unwrap_or (option_map (kept_of r k n) o) (record { first = n; mixed = false }))) [
       | None ↦ λ _ _ far _. absurd (cc (sym far ∙ eq-eqb n n refl))
       | Some j ↦ λ first pure _ after. by_first j (first_is r k n j first) pure after

@@ -10,10 +10,11 @@ use Rattle.siman_pdus.specs.Answers.{matches_kind}
 use Rattle.siman_pdus.specs.Ranges.{IsInRange}
 use Rattle.siman_pdus.specs.Reading.{reading}
 use Rattle.siman_pdus.specs.Role.{is_request_body}
-use Rattle.siman_pdus.specs.Spelling.{body_kind, pdu_size, pdu_text}
-use Rattle.siman_pdus.proofs.Offered.{text_is_read, read_in_range}
+use Rattle.siman_pdus.specs.Spelling.{body_kind, HasCarriedStatus, pdu_size, pdu_text}
+use Rattle.siman_pdus.proofs.Offered.{text_is_read, zero_is_carried, read_in_range}
 use Rattle.exercise_model.specs.Exchange.{is_answer_body}
 use Rattle.exercise_model.specs.History.{History, Send, Get}
+use Rattle.siman_application.specs.Answer.{answer}
 use Rattle.siman_application.specs.Distinct.{with_request, distinct}
 use Rattle.siman_application.specs.Outfit.{Outfit}
 use Rattle.siman_application.specs.OwnLog.{Turn, Tells, Orders, Passes, Takes, Loses, taken_in, sent_after, log_in, AreTurns, IsRead, IsOrder, IsOwnLog, MissNone}
@@ -32,7 +33,7 @@ use Rattle.siman_worlds.specs.Orders.{IsFit, AreFit, IsOfLife, IsKept, AreKept}
 use Rattle.siman_worlds.specs.Turn.{stamp_of}
 use Rattle.siman_worlds.specs.World.{WorldData, Course, outfit_of, settings_of, ready_after}
 use Rattle.siman_worlds.specs.WorldLaw.{IsOrderInRange}
-use Rattle.siman_worlds.proofs.Offered.{stamp_within, fit_requests, made_stands, of_place, some_of, repeat_own, matched_answers, of_life_on, kept_on, made_life, repeated_life, sent_kept, answer_kept, repeat_told}
+use Rattle.siman_worlds.proofs.Offered.{stamp_within, fit_requests, made_stands, of_place, some_of, IsOwnOrder, repeat_own, matched_answers, of_life_on, kept_on, made_life, repeated_life, sent_kept, answer_kept, repeat_told}
 use Rattle.siman_lines.specs.Kept.{came_in, heard_in, Stand}
 
 -- Turns.
@@ -59,6 +60,8 @@ reply_read : (a : Outfit) (s : ℕ) (ts : List Turn) (log : History) (q p : Pdu)
 reply_read a s ts log q p stamp own range h e =
     text_is_read p
     (some_of IsInRange (reply a (taken_in ts) q stamp) p e (reply_in_range a (taken_in ts) q stamp own.outfit (taken_in_range a false ts own.turns) range h))
+    (some_of HasCarriedStatus (reply a (taken_in ts) q stamp) p e
+    (reply_answers HasCarriedStatus a (taken_in ts) q stamp (λ k d mine. zero_is_carried (answer a k d stamp) (is_answer a k d stamp mine).status)))
     (some_of (λ r. pdu_size r ≤ LARGEST_DATAGRAM) (reply a (taken_in ts) q stamp) p e (reply_is_short a (taken_in ts) q stamp))
 
 reply_kept : (st : Settings) (calls : List Call) (a : Outfit) (s : ℕ) (ts : List Turn) (log : History) (b : List ℕ) (q : Pdu) (stamp : ℕ)
@@ -161,8 +164,8 @@ stand_call s a ds k new log closed call is goes = record {
 
 -- an order is sent
 stand_send : (s : ℕ) (a : Outfit) (ds : List Pdu) (k new : Book) (log : History) (closed : Type 0) (call : Call) (p : Pdu) → (is : Stand s a ds k log closed)
-    → Goes k is.calls call new → IsOrder a p → IsOfLife k.settings (call ∷ is.calls) p → Stand s a ds new (Send s (pdu_text p) ∷ log) closed
-stand_send s a ds k new log closed call p is goes order of = record {
+    → Goes k is.calls call new → IsOrder a p → HasCarriedStatus p → IsOfLife k.settings (call ∷ is.calls) p → Stand s a ds new (Send s (pdu_text p) ∷ log) closed
+stand_send s a ds k new log closed call p is goes order status of = record {
   turns = Orders p ∷ is.turns;
   calls = call ∷ is.calls;
   own_log = record {
@@ -177,7 +180,7 @@ stand_send s a ds k new log closed call p is goes order of = record {
   fit = goes.fit;
   heard = goes.none ∙ is.heard;
   ordered = subst (λ (st : Settings). AreKept st (call ∷ is.calls) a.exercise (Send s (pdu_text p) ∷ log)) (sym goes.settings)
-      (sent_kept k.settings (call ∷ is.calls) a.exercise p (text_is_read p order.ranges order.size) of,
+      (sent_kept k.settings (call ∷ is.calls) a.exercise p (text_is_read p order.ranges status order.size) of,
       kept_on k.settings is.calls call a.exercise log is.ordered);
 }
 
@@ -216,7 +219,7 @@ pub stand_orders : (s : ℕ) (a : Outfit) (ds : List Pdu) (k : Book) (log : Hist
     → Stand s a ds (with_orders k (with_order k.settings order now (stamp_of now) k.orders))
     (Send s (pdu_text (order_pdu k.settings (next_id k.settings (length k.orders)) order (stamp_of now))) ∷ log) closed
 stand_orders s a ds k log closed order now is x at request none range =
-    stand_send s a ds k _ log closed (Requested order now (stamp_of now)) p is (goes_order k is.calls order now is.manager is.fit request none range) own of where
+    stand_send s a ds k _ log closed (Requested order now (stamp_of now)) p is (goes_order k is.calls order now is.manager is.fit request none range) own refl of where
   n : ℕ
   n = length k.orders
   p : Pdu
@@ -262,16 +265,16 @@ pub stand_repeats : (s : ℕ) (a : Outfit) (ds : List Pdu) (k : Book) (log : His
     → k.settings.exercise ≡ a.exercise → k.settings.address ≡ a.station.address → next_repeat k now ≡ Some p
     → Stand s a ds (ticked k now (stamp_of now)) (Send s (pdu_text p) ∷ log) closed
 stand_repeats s a ds k log closed now p is x at due =
-    stand_send s a ds k _ log closed (Ticked now (stamp_of now)) p is (goes_tick k is.calls now is.manager is.fit) own of where
+    stand_send s a ds k _ log closed (Ticked now (stamp_of now)) p is (goes_tick k is.calls now is.manager is.fit) own.order (zero_is_carried p own.status) of where
   same : settings_of (one_world a k.settings) 0 ≡ k.settings
   same = settings_same k.settings a.exercise a.station.address x at
   told : option_map (λ (l : Life). with_stamp (stamp_of now) l.order) (ready_after k.settings is.calls now) ≡ Some p
   told = repeat_by k.settings is.calls now p is.fit (ap (λ (os : List KeptOrder). repeated k.settings now (stamp_of now) os) (sym is.manager) ∙ due)
   course : Course
   course = record { entries = []; came = λ t. []; calls = λ t. is.calls }
-  own : IsOrder a p
-  own = (repeat_own (one_world a k.settings) course 0 now p is.own_log.outfit is.fit
-      (subst (λ (st : Settings). option_map (λ (l : Life). with_stamp (stamp_of now) l.order) (ready_after st is.calls now) ≡ Some p) (sym same) told)).order
+  own : IsOwnOrder (one_world a k.settings) 0 p
+  own = repeat_own (one_world a k.settings) course 0 now p is.own_log.outfit is.fit
+      (subst (λ (st : Settings). option_map (λ (l : Life). with_stamp (stamp_of now) l.order) (ready_after st is.calls now) ≡ Some p) (sym same) told)
   of : IsOfLife k.settings (Ticked now (stamp_of now) ∷ is.calls) p
   of = of_life_on k.settings is.calls (Ticked now (stamp_of now)) p
       (repeated_life k.settings is.calls (stamp_of now) p

@@ -22,7 +22,8 @@ returns-in-Received g c steps tied ready =
     let e : Entry = Received c.in-Received.station c.in-Received.stamp c.in-Received.bytes.now in
     let at : slice_get r.entries n ≡ Some e = c.entry.ensures.entry ∙ ap (λ v. Some (shown v)) c.in-Received.is in
     let own = from_entry _ e (λ e. JudgesOwn r n (event_of e) x) at (c.requires.own.each n c.requires.within) in
-    at_entry _ e (λ e. Judges (cause_of r.setting (order_of r steps) (event_of e)) (link_of r steps n (event_of e)) (length r.entries) c.judge_received.result) at
+    at_entry _ e (λ e. Judges (cause_of r.setting (order_of r steps) (event_of e)) (link_of r steps n (event_of e)) (length r.entries)
+    c.judge_received.result) at
     (c.judge_received.ensures r steps n c.in-Received.station tied own)
 
 pub returns-in-Sent : goal.returns-in-Sent

@@ -13,7 +13,8 @@ returns g c =
     record {
       tied = c.in_ok-tables.ensures;
       requests = none_kept r c.no_requests.result c.no_requests.ensures;
-      judgements = subst (λ (xs : List Judgement). IsColumn (Allowed None) (JudgesAt r) 0 xs) (sym c.new.ensures.items) (column_none (Allowed None) (JudgesAt r));
+      judgements = subst (λ (xs : List Judgement). IsColumn (Allowed None) (JudgesAt r) 0 xs) (sym c.new.ensures.items)
+          (column_none (Allowed None) (JudgesAt r));
       ranks = subst (λ (xs : List ℕ). IsColumn 0 (IsRankAt r) 0 xs) (sym c.new-3.ensures.items) (column_none 0 (IsRankAt r));
       pairs = c.new-2.ensures.items ∙ sym (values-none (pair_of r));
     }

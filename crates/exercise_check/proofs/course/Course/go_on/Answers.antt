@@ -25,7 +25,8 @@ invariant_of-self-in-Allowed g c =
     let judged = c.judge.ensures steps c.self.invariant.sent (next_ready r steps c.args.place c.self.invariant.course.good next) in
     let within = rw (← c.self.view_is) at c.requires.within in
     let good = (allows r steps c.args.place c.in-Allowed.link within next (rw c.in-Allowed.is at judged)).good in
-    let items = c.in_ok-push-in-Allowed.ensures.items ∙ ap (λ xs. xs ++ record { place = c.args.place; link = c.link_number-link.result } ∷ []) c.in_ok-reserve-in-Allowed.ensures.items in
+    let items = c.in_ok-push-in-Allowed.ensures.items
+    ∙ ap (λ xs. xs ++ record { place = c.args.place; link = c.link_number-link.result } ∷ []) c.in_ok-reserve-in-Allowed.ensures.items in
     record {
       course = record {
         limits = c.self.invariant.course.limits;
@@ -65,8 +66,8 @@ returns-in_err-note_sender-in-Allowed-clause-allowed g c =
     let steps = c.self.inside.steps.items in
     let next = subst (λ v. IsNext v c.args.place) (sym c.self.view_is) c.requires.next in
     let judged = c.judge.ensures steps c.self.invariant.sent (next_ready r steps c.args.place c.self.invariant.course.good next) in
-    rw (← c.self.view_is) (on_err c.from_residual-in_err-note_sender-in-Allowed.result (allowed_goes (record { recording = r; steps = steps }) c.args.place c.in-Allowed.link
-    (rw c.in-Allowed.is at judged)))
+    rw (← c.self.view_is) (on_err c.from_residual-in_err-note_sender-in-Allowed.result
+    (allowed_goes (record { recording = r; steps = steps }) c.args.place c.in-Allowed.link (rw c.in-Allowed.is at judged)))
 
 pub returns-in_ok-push-in-Allowed-clause-judged : goal.returns-in_ok-push-in-Allowed-clause-judged
 returns-in_ok-push-in-Allowed-clause-judged g c =
@@ -74,7 +75,8 @@ returns-in_ok-push-in-Allowed-clause-judged g c =
     let steps = c.self.inside.steps.items in
     let next = subst (λ v. IsNext v c.args.place) (sym c.self.view_is) c.requires.next in
     let judged = c.judge.ensures steps c.self.invariant.sent (next_ready r steps c.args.place c.self.invariant.course.good next) in
-    let items = c.in_ok-push-in-Allowed.ensures.items ∙ ap (λ xs. xs ++ record { place = c.args.place; link = c.link_number-link.result } ∷ []) c.in_ok-reserve-in-Allowed.ensures.items in
+    let items = c.in_ok-push-in-Allowed.ensures.items
+    ∙ ap (λ xs. xs ++ record { place = c.args.place; link = c.link_number-link.result } ∷ []) c.in_ok-reserve-in-Allowed.ensures.items in
     rw (← c.self.view_is) (taken_goes (record { recording = r; steps = steps }) (record { recording = r; steps = c.push.new.self.items }) c.args.place
     c.link_number-link.result c.in-Allowed.link c.link_number-link.ensures
     (ap (λ (xs : List Step). let d : CourseData = record { recording = r; steps = xs } in d) items) (rw c.in-Allowed.is at judged))

@@ -11,7 +11,8 @@ use Rattle.dis_records.specs.declared.header.TheConstants.{LARGEST_DATAGRAM, VER
 use Rattle.dis_records.specs.Kind.{kind_code, kind_from, is_kind_code}
 use Rattle.dis_records.specs.Layout.{Field, Byte, ByteIf, Number, Padding, StandAt, spelled_number}
 
--- The table of the protocol versions that are read is VERSIONS: the number, and whether byte 10 is the PDU status or padding. It has version 6 (IEEE 1278.1A-1998), without a status, and version 7 (IEEE 1278.1-2012), with one.
+-- The table of the protocol versions that are read is VERSIONS: the number, and whether byte 10 is the PDU status or padding.
+-- It has version 6 (IEEE 1278.1A-1998), without a status, and version 7 (IEEE 1278.1-2012), with one.
 
 abbrev pub same_version : Version → Version → Bool
 same_version versions.V6 versions.V6 = true
@@ -51,7 +52,8 @@ has_status version = (version_row version).has_status
 abbrev pub carried_status : Version → ℕ → ℕ
 carried_status version status = if has_status version then status else 0
 
--- protocol version, exercise identifier, PDU type, protocol family (5, Simulation Management), timestamp, length, PDU status or, by the version, padding, padding
+-- protocol version, exercise identifier, PDU type, protocol family (5, Simulation Management), timestamp, length,
+-- PDU status, or padding in a version without one (profile), padding
 abbrev pub header_layout : Header → List Field
 header_layout h =
     Byte (version_code h.version) ∷ Byte h.exercise ∷ Byte (kind_code h.kind) ∷ Byte 5

@@ -2,7 +2,8 @@
 use Rattle.std.specs.Prelude.{◌≡◌, ℕ, Bool, true, false, ◌+◌, ◌-◌, ◌*◌, ◌/◌, ◌%◌, ◌^◌, ◌==◌, List, [], ◌∷◌, ◌++◌, length, take, drop, replicate, nat_le, if◌then◌else◌}
 use Rattle.std.specs.Int.{Width, w8, byte_len, from_be_bytes, to_be_bytes}
 
--- A field: a byte, a byte only where a test holds and else one that may be anything, a number in the bytes of its width, bytes that may be anything, or the first so many bits of a value in whole bytes.
+-- A field: a byte, a number in the bytes of its width, bytes that may be anything, or the first so many bits of a value in whole bytes.
+-- ByteIf is a byte where its test holds, and else one that may be anything.
 pub data Field : Type 0 where
   Byte : ℕ → Field
   ByteIf : Bool → ℕ → Field

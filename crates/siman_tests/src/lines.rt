@@ -71,9 +71,11 @@ fn is_served(alloc: Global, datagram: &[u8], wanted: Served, entries: usize) -> 
     let served = serve(alloc, &mut line, &mut node, &mut recorder, 0, 0, 8)?;
     recorder.finish()?;
     let recording = read_recording(alloc, recorder.into_inner().as_slice(), 65_536)?;
-    Ok(served == wanted
-        && recording.entry_count() == entries
-        && line.sent().len() == wanted.sent as usize)
+    Ok(
+        served == wanted
+            && recording.entry_count() == entries
+            && line.sent().len() == wanted.sent as usize,
+    )
 }
 
 #[test]
@@ -90,7 +92,14 @@ fn a_datagram_is_served(rt: HostRuntime) -> Result<(), Fail> {
     assert!(rt; is_served(alloc, &[1, 2, 3], served, 1)?);
     served.taken = 0;
     served.dropped = 1;
-    assert!(rt; is_served(alloc, Vec::from_elem(alloc, 0u8, 8193)?.as_slice(), served, 0)?);
+    assert!(rt;
+        is_served(
+            alloc,
+            Vec::from_elem(alloc, 0u8, 8193)?.as_slice(),
+            served,
+            0
+        )?
+    );
     Ok(())
 }
 
@@ -115,12 +124,14 @@ fn is_answered_after_a_lost_answer(alloc: Global) -> Result<bool, Fail> {
         idle: true,
     };
     let sent = line.sent().first().ok_or("an answer")?;
-    Ok(first == Err(ServeFault::Send)
-        && second == wanted
-        && recording.entry_count() == 4
-        && line.sent().len() == 1
-        && sent.as_slice() == ABLE.as_slice()
-        && node.application.state(7) == EntityState::Stopped)
+    Ok(
+        first == Err(ServeFault::Send)
+            && second == wanted
+            && recording.entry_count() == 4
+            && line.sent().len() == 1
+            && sent.as_slice() == ABLE.as_slice()
+            && node.application.state(7) == EntityState::Stopped,
+    )
 }
 
 #[test]
@@ -147,25 +158,19 @@ fn is_issued(alloc: Global) -> Result<bool, Fail> {
     let mut node = halves(alloc, &stations)?;
     let mut line = MemoryLine::new(alloc, Vec::new(alloc), None);
     let mut recorder = RecordingWriter::start(Vec::new(alloc), 1, &stations)?;
-    let id = issue(
-        alloc,
-        &mut line,
-        &mut node,
-        &mut recorder,
-        0,
-        order(),
-        0,
-    )?;
+    let id = issue(alloc, &mut line, &mut node, &mut recorder, 0, order(), 0)?;
     let early = nudge(alloc, &mut line, &mut node, &mut recorder, 0, 9)?;
     let due = nudge(alloc, &mut line, &mut node, &mut recorder, 0, 10)?;
     let first = line.sent().first().ok_or("an order")?;
     let second = line.sent().get(1).ok_or("a repeat")?;
-    Ok(id == 1
-        && !early
-        && due
-        && first.as_slice() == CREATION.as_slice()
-        && second.as_slice() == REPEAT.as_slice()
-        && line.sent().len() == 2)
+    Ok(
+        id == 1
+            && !early
+            && due
+            && first.as_slice() == CREATION.as_slice()
+            && second.as_slice() == REPEAT.as_slice()
+            && line.sent().len() == 2,
+    )
 }
 
 /// The same, where the line fails at the order: it is recorded, and the manager half waits.
@@ -174,21 +179,15 @@ fn is_lost(alloc: Global) -> Result<bool, Fail> {
     let mut node = halves(alloc, &stations)?;
     let mut line = MemoryLine::new(alloc, Vec::new(alloc), Some(1));
     let mut recorder = RecordingWriter::start(Vec::new(alloc), 1, &stations)?;
-    let issued = issue(
-        alloc,
-        &mut line,
-        &mut node,
-        &mut recorder,
-        0,
-        order(),
-        0,
-    );
+    let issued = issue(alloc, &mut line, &mut node, &mut recorder, 0, order(), 0);
     recorder.finish()?;
     let recording = read_recording(alloc, recorder.into_inner().as_slice(), 65_536)?;
-    Ok(issued == Err(IssueFault::Send)
-        && recording.entry_count() == 1
-        && line.sent().is_empty()
-        && node.manager.status(1) == Some(OrderStatus::Waiting(1)))
+    Ok(
+        issued == Err(IssueFault::Send)
+            && recording.entry_count() == 1
+            && line.sent().is_empty()
+            && node.manager.status(1) == Some(OrderStatus::Waiting(1)),
+    )
 }
 
 #[test]
@@ -283,18 +282,12 @@ fn is_silent_after_a_failed_record(alloc: Global, at: u64) -> Result<bool, Fail>
     let writer = failing_writer(alloc, 4096, at, None);
     let mut recorder = RecordingWriter::start(writer, 1, &stations)?;
     let first = serve(alloc, &mut line, &mut node, &mut recorder, 0, 0, 8);
-    let order = issue(
-        alloc,
-        &mut line,
-        &mut node,
-        &mut recorder,
-        0,
-        order(),
-        0,
-    );
-    Ok(first == Err(ServeFault::Record(WriterFault::Write))
-        && order == Err(IssueFault::Record(WriterFault::Spent))
-        && line.sent().is_empty())
+    let order = issue(alloc, &mut line, &mut node, &mut recorder, 0, order(), 0);
+    Ok(
+        first == Err(ServeFault::Record(WriterFault::Write))
+            && order == Err(IssueFault::Record(WriterFault::Spent))
+            && line.sent().is_empty(),
+    )
 }
 
 /// How many writes the head of a recording of station 2:3 takes, and its first entry.
@@ -338,13 +331,15 @@ fn is_answered_over_udp(alloc: Global, one: UdpSocket, other: UdpSocket) -> Resu
     let id = issue(alloc, &mut line, &mut manager, &mut first, 0, order(), 0)?;
     let answered = serve(alloc, &mut answering, &mut simulation, &mut second, 0, 0, 8)?;
     let taken = serve(alloc, &mut line, &mut manager, &mut first, 0, 0, 8)?;
-    Ok(nothing
-        && id == 1
-        && answered.taken == 1
-        && answered.sent == 1
-        && taken.taken == 1
-        && taken.idle
-        && manager.manager.status(1) == Some(OrderStatus::Answered))
+    Ok(
+        nothing
+            && id == 1
+            && answered.taken == 1
+            && answered.sent == 1
+            && taken.taken == 1
+            && taken.idle
+            && manager.manager.status(1) == Some(OrderStatus::Answered),
+    )
 }
 
 #[test]

@@ -1,5 +1,5 @@
 -- Nothing stands against what the log of a station sends, and so the entries of stations are a run.
-use Rattle.std.proofs.Common.{◌≡◌, ℕ, ◌<◌, ◌≤◌, ◌^◌, List, [], ◌∷◌, ◌++◌, length, refl, ap, sym, ◌∙◌, subst, ◌⊎◌, inl, inr}
+use Rattle.std.proofs.Common.{◌≡◌, ℕ, ◌<◌, ◌≤◌, ◌^◌, List, [], ◌∷◌, length, refl, ap, sym, ◌∙◌, subst, ◌⊎◌, inl, inr}
 use Rattle.std.specs.Prelude.{Bool, true, false, ◌==◌, ◌&&◌, ◌||◌, not, cond, drop, slice_get, Option, Some, None, option_and_then, option_map, bytes_eq}
 use Rattle.std.specs.List.{AllByRecursion, list_any}
 use Rattle.std.proofs.lemmas.Bool.{and_from, eq-eqb}
@@ -34,10 +34,10 @@ use Rattle.siman_manager.specs.declared.kept.KeptOrder.{KeptOrder}
 use Rattle.siman_manager.proofs.Offered.{agrees, made_as}
 use Rattle.dis_records.specs.declared.entity.EntityId.{EntityId}
 use Rattle.siman_worlds.specs.declared.turn.Node.{Node}
-use Rattle.siman_worlds.specs.Orders.{AreFit, IsOfLife, IsKept as IsKeptOrder, AreKept}
+use Rattle.siman_worlds.specs.Orders.{AreFit, IsOfLife, AreKept}
 use Rattle.siman_worlds.proofs.Offered.{fit_requests, some_of, not_reused, order_causes, any_at, log-first}
 use Rattle.siman_lines.specs.Told.{Datagrams}
-use Rattle.siman_lines.specs.Kept.{Stand, IsOfStation, IsKept}
+use Rattle.siman_lines.specs.Kept.{IsKept}
 use Rattle.siman_lines.specs.Calls.{SendsStand, ReceivesSent, IsOrdered, RequestsAreOrdered}
 use Rattle.siman_lines.proofs.Standing.{reply_answering}
 use Rattle.exercise_model.specs.Entry.{Entry}
@@ -50,11 +50,16 @@ AreOurs x (Send s b ∷ log) = ((p : Pdu) → meaning x b ≡ Some p → (is_req
 AreOurs x (Get s b ∷ log) = AreOurs x log
 AreOurs x (Tell s e y ∷ log) = AreOurs x log
 
-ours_reply : (a : Outfit) (s : ℕ) (later : Bool) (ts : List Turn) (b : List ℕ) (q : Pdu) (stamp : ℕ) (log : History) → IsOutfitInRange a → AreTurns a later ts → IsInRange q
-    → stamp < 2 ^ 32 → AreOurs a.exercise log → (o : Option Pdu) → reply a (taken_in ts) q stamp ≡ o → AreOurs a.exercise (sent_after s o (Get s b ∷ log))
+ours_reply : (a : Outfit) (s : ℕ) (later : Bool) (ts : List Turn) (b : List ℕ) (q : Pdu) (stamp : ℕ) (log : History) → IsOutfitInRange a
+    → AreTurns a later ts → IsInRange q
+    → stamp < 2 ^ 32 → AreOurs a.exercise log → (o : Option Pdu) → reply a (taken_in ts) q stamp ≡ o
+    → AreOurs a.exercise (sent_after s o (Get s b ∷ log))
 ours_reply a s later ts b q stamp log own are range h ours None e = ours
-ours_reply a s later ts b q stamp log own are range h ours (Some p) e =
-    (λ r f. inr (subst (λ (x : Pdu). is_answer_body x.body ≡ true) (read_meant a.exercise (pdu_text p) p r read f) (reply_answering a (taken_in ts) q p stamp e)), ours) where
+ours_reply a s later ts b q stamp log own are range h ours (Some p) e = (
+  λ r f. inr (subst (λ (x : Pdu). is_answer_body x.body ≡ true) (read_meant a.exercise (pdu_text p) p r read f) (reply_answering a (taken_in ts) q
+      p stamp e)),
+  ours,
+) where
   read : reading (pdu_text p) ≡ Some p
   read = text_is_read p
       (some_of IsInRange (reply a (taken_in ts) q stamp) p e (reply_in_range a (taken_in ts) q stamp own (taken_in_range a later ts are) range h))
@@ -63,9 +68,11 @@ ours_reply a s later ts b q stamp log own are range h ours (Some p) e =
 ours_turns : (a : Outfit) (s : ℕ) (later : Bool) (ts : List Turn) → IsOutfitInRange a → AreTurns a later ts → AreOurs a.exercise (log_in a s ts)
 ours_turns a s later [] own are = tt
 ours_turns a s later (Tells e y ∷ ts) own are = ours_turns a s later ts own are
-ours_turns a s later (Orders p ∷ ts) own are =
-    (λ q e. inl (subst (λ (x : Pdu). is_request_body x.body ≡ true) (read_meant a.exercise (pdu_text p) p q (text_is_read p are.0.ranges are.0.size) e) are.0.request),
-    ours_turns a s later ts own are.1)
+ours_turns a s later (Orders p ∷ ts) own are = (
+  λ q e. inl (subst (λ (x : Pdu). is_request_body x.body ≡ true) (read_meant a.exercise (pdu_text p) p q (text_is_read p are.0.ranges are.0.size)
+      e) are.0.request),
+  ours_turns a s later ts own are.1,
+)
 ours_turns a s later (Passes b ∷ ts) own are = ours_turns a s later ts own are
 ours_turns a s later (Takes b q stamp ∷ ts) own are =
     ours_reply a s (later || is_due a ts q stamp) ts b q stamp (log_in a s ts) own are.2 (read_in_range b q are.0.bytes are.0.read) are.1
@@ -77,13 +84,15 @@ ours_turns a s later (Loses b q stamp ∷ ts) own are = ours_turns a s true ts o
 site_same : (st : Settings) (p : Pdu) → p.origin ≡ manager_id st → is_from st.address p ≡ true
 site_same st p e =
     and_from (p.origin.site == st.address.site) (p.origin.application == st.address.application)
-    (eq-eqb p.origin.site st.address.site (ap (λ (i : EntityId). i.site) e)) (eq-eqb p.origin.application st.address.application (ap (λ (i : EntityId). i.application) e))
+    (eq-eqb p.origin.site st.address.site (ap (λ (i : EntityId). i.site) e)) (eq-eqb p.origin.application st.address.application (ap (λ (i :
+    EntityId). i.application) e))
 
 life_from : (st : Settings) (calls : List Call) → AreRequests calls → (p : Pdu) → IsOfLife st calls p → is_from st.address p ≡ true
 life_from st calls are p of =
     site_same st p (ap (λ (r : Pdu). r.origin) of.same ∙ (made_as st calls are of.number of.life_is of.there).origin)
 
-ordered_one : (k : Book) (calls : List Call) → AreFit calls → k.orders ≡ kept k.settings calls → (p : Pdu) → IsOfLife k.settings calls p → IsOrdered k p
+ordered_one : (k : Book) (calls : List Call) → AreFit calls → k.orders ≡ kept k.settings calls → (p : Pdu) → IsOfLife k.settings calls p
+    → IsOrdered k p
 ordered_one k calls fit orders p of = record {
   from = life_from k.settings calls (fit_requests calls fit) p of;
   order = kept_as of.life_is;
@@ -93,7 +102,8 @@ ordered_one k calls fit orders p of = record {
   same = of.same;
 }
 
-ordered_all : (k : Book) (calls : List Call) (x : ℕ) (log : History) → AreFit calls → k.orders ≡ kept k.settings calls → AreKept k.settings calls x log
+ordered_all : (k : Book) (calls : List Call) (x : ℕ) (log : History) → AreFit calls → k.orders ≡ kept k.settings calls
+    → AreKept k.settings calls x log
     → RequestsAreOrdered x k log
 ordered_all k calls x [] fit orders all = tt
 ordered_all k calls x (Send s b ∷ log) fit orders all =
@@ -112,14 +122,16 @@ requests_ordered s n w es handed is =
 sends_by : (a : Outfit) (st : Settings) (calls : List Call) (log : History) → AreFit calls → st.address ≡ a.station.address → AreOurs a.exercise log
     → AreKept st calls a.exercise log → AnswersStand a log → SendsStand a.exercise a.station log
 sends_by a st calls [] fit at ours all answers = tt
-sends_by a st calls (Send s b ∷ log) fit at ours all answers = (λ p e. by p e (ours.0 p e), sends_by a st calls log fit at ours.1 all.1 answers.1) where
-  by : (p : Pdu) → meaning a.exercise b ≡ Some p → (is_request_body p.body ≡ true) ⊎ (is_answer_body p.body ≡ true) → send_cause a.exercise a.station log p ≡ None
-  by p e (inl request) =
-      let of = all.0 p e request in
-      let are = fit_requests calls fit in
-      order_causes a.exercise a.station log p (subst (λ (d : Pair). is_from d p ≡ true) at (life_from st calls are p of)) request
-      (not_reused st calls are a.exercise p log of all.1)
-  by p e (inr answer) = answers.0 p e answer
+sends_by a st calls (Send s b ∷ log) fit at ours all answers = (λ p e. by p e (ours.0 p e), sends_by a st calls log fit at ours.1 all.1 answers.1)
+  where
+    by : (p : Pdu) → meaning a.exercise b ≡ Some p → (is_request_body p.body ≡ true) ⊎ (is_answer_body p.body ≡ true)
+        → send_cause a.exercise a.station log p ≡ None
+    by p e (inl request) =
+        let of = all.0 p e request in
+        let are = fit_requests calls fit in
+        order_causes a.exercise a.station log p (subst (λ (d : Pair). is_from d p ≡ true) at (life_from st calls are p of)) request
+        (not_reused st calls are a.exercise p log of all.1)
+    by p e (inr answer) = answers.0 p e answer
 sends_by a st calls (Get s b ∷ log) fit at ours all answers = sends_by a st calls log fit at ours all.1 answers
 sends_by a st calls (Tell s e y ∷ log) fit at ours all answers = sends_by a st calls log fit at ours all.1 answers
 
@@ -146,7 +158,8 @@ log_case : (s : ℕ) (v : Event) (h : History) (b : Bool) → (station_of v == s
 unfolding log_at
 log_case s v h b e = ap (λ (t : Bool). cond t (v ∷ log_at s h) (log_at s h)) e
 
-log_tail : (x : ℕ) (o : StationData) (s : ℕ) (v : Event) (h : History) (b : Bool) → (station_of v == s) ≡ b → SendsStand x o (log_at s (v ∷ h)) → SendsStand x o (log_at s h)
+log_tail : (x : ℕ) (o : StationData) (s : ℕ) (v : Event) (h : History) (b : Bool) → (station_of v == s) ≡ b → SendsStand x o (log_at s (v ∷ h))
+    → SendsStand x o (log_at s h)
 log_tail x o s v h true e is = stand_tail x o v (log_at s h) (subst (SendsStand x o) (log_case s v h true e) is)
 log_tail x o s v h false e is = subst (SendsStand x o) (log_case s v h false e) is
 
@@ -184,12 +197,12 @@ sent_recorded : (w : SettingData) (b : List ℕ) (p : Pdu) (h : History) → All
 sent_recorded w b p [] all within e sent = absurd cc
 sent_recorded w b p (Send s c ∷ h) all within e sent =
     by (either (bytes_eq b c) (list_any (sends b) h) sent) (λ before. sent_recorded w b p h (all_tail w (Send s c) h all) within.1 e before) where
-  by : (bytes_eq b c ≡ true) ⊎ (list_any (sends b) h ≡ true) → (list_any (sends b) h ≡ true → is_recorded w p ≡ true) → is_recorded w p ≡ true
-  by (inl same) rest =
-      recorded_by w p s within.0
-      (sent_own w.exercise (station_in w s) (log_at s h) p
-      (first_stands w s c h all within.0 p (subst (λ (d : List ℕ). meaning w.exercise d ≡ Some p) ((bytes_eq-Decides b c).0 same) e)))
-  by (inr before) rest = rest before
+      by : (bytes_eq b c ≡ true) ⊎ (list_any (sends b) h ≡ true) → (list_any (sends b) h ≡ true → is_recorded w p ≡ true) → is_recorded w p ≡ true
+      by (inl same) rest =
+          recorded_by w p s within.0
+          (sent_own w.exercise (station_in w s) (log_at s h) p
+          (first_stands w s c h all within.0 p (subst (λ (d : List ℕ). meaning w.exercise d ≡ Some p) ((bytes_eq-Decides b c).0 same) e)))
+      by (inr before) rest = rest before
 sent_recorded w b p (Get s c ∷ h) all within e sent = sent_recorded w b p h (all_tail w (Get s c) h all) within.1 e sent
 sent_recorded w b p (Tell s n y ∷ h) all within e sent = sent_recorded w b p h (all_tail w (Tell s n y) h all) within.1 e sent
 

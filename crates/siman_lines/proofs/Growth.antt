@@ -1,9 +1,9 @@
 -- What a line tells grows.
-use Rattle.std.proofs.Common.{◌≡◌, ℕ, ◌+◌, ◌≤◌, List, [], ◌∷◌, ◌++◌, length, take, min, Option, Some, None, refl, sym, ap, subst, ◌∙◌, arith, append_assoc, append-nil}
-use Rattle.std.proofs.lemmas.List.{take_all, reverse-append}
+use Rattle.std.proofs.Common.{◌≡◌, ℕ, ◌+◌, ◌≤◌, List, [], ◌∷◌, ◌++◌, length, min, Option, Some, None, refl, sym, ap, subst, ◌∙◌, arith, append_assoc, append-nil}
+use Rattle.std.proofs.lemmas.List.{reverse-append}
 use Rattle.std.specs.Prelude.{reverse}
 use Rattle.dis_records.specs.declared.header.TheConstants.{LARGEST_DATAGRAM}
-use Rattle.siman_lines.specs.Told.{Datagrams, Same, GrowsAll, Grows, Hands}
+use Rattle.siman_lines.specs.Told.{Datagrams, Same, GrowsAll, Grows}
 
 pub grows_none : (old : Option Datagrams) → GrowsAll old old []
 grows_none None = tt
@@ -62,5 +62,6 @@ received_on old mid new us b g h = subst (GrowsAll old new) (sym (reverse_on b u
 
 -- What is handed out in a buffer of 8193 bytes.
 
-pub whole : (n : ℕ) (d buffer : List ℕ) → length buffer ≡ LARGEST_DATAGRAM + 1 → n ≤ LARGEST_DATAGRAM → n ≡ min (length d) (length buffer) → length d ≤ n
+pub whole : (n : ℕ) (d buffer : List ℕ) → length buffer ≡ LARGEST_DATAGRAM + 1 → n ≤ LARGEST_DATAGRAM → n ≡ min (length d) (length buffer)
+    → length d ≤ n
 whole n d buffer size short is = grind (arith)

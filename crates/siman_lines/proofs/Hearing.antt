@@ -1,22 +1,19 @@
 -- What a station keeps as it takes datagrams.
-use Rattle.std.proofs.Common.{◌≡◌, ℕ, ◌+◌, ◌<◌, ◌≤◌, ◌^◌, List, [], ◌∷◌, ◌++◌, length, refl, ap, sym, ◌∙◌, subst, ◌⊎◌, inl, inr, append_assoc, append-nil}
-use Rattle.std.specs.Prelude.{Bool, true, false, ◌==◌, Option, Some, None, is_some}
-use Rattle.std.specs.List.{AllByRecursion}
+use Rattle.std.proofs.Common.{◌≡◌, ℕ, List, [], ◌∷◌, ◌++◌, refl, ap, sym, ◌∙◌, subst, ◌⊎◌, inl, inr, append_assoc, append-nil}
+use Rattle.std.specs.Prelude.{true, false, ◌==◌, Option, Some, None}
 use Rattle.std.proofs.lemmas.Bool.{eq-eqb}
 use Rattle.siman_pdus.specs.declared.pdu.Pdu.{Pdu}
 use Rattle.siman_pdus.specs.Reading.{reading}
-use Rattle.siman_pdus.specs.Spelling.{pdu_text}
-use Rattle.exercise_model.specs.Entry.{Entry, Sent, Received}
-use Rattle.exercise_model.specs.History.{History, Send, Get, past, log_at}
+use Rattle.exercise_model.specs.Entry.{Entry, Received}
+use Rattle.exercise_model.specs.History.{History, Get, past, log_at}
 use Rattle.exercise_model.proofs.Offered.{log_at-append, past-append}
 use Rattle.exercise_recording.specs.Writer.{WriterState}
 use Rattle.siman_application.specs.Outfit.{Outfit}
 use Rattle.siman_application.specs.OwnLog.{sent_after, MissNone}
-use Rattle.siman_application.specs.Play.{reply_after}
 use Rattle.siman_manager.specs.Book.{Book}
 use Rattle.siman_worlds.specs.Recording.{WritesOne}
 use Rattle.siman_worlds.specs.Turn.{stamp_of, sent_as, RecordsAll}
-use Rattle.siman_worlds.proofs.Offered.{past-one, past-first, past-came, log-all, stamp_within, all_append}
+use Rattle.siman_worlds.proofs.Offered.{past-came, log-all, stamp_within, all_append}
 use Rattle.siman_lines.specs.Told.{Datagrams}
 use Rattle.siman_lines.specs.Serving.{came_with, came_after, taken_with, book_after, reply_with, reply_at, entries_after, IsBytes, AreBytes}
 use Rattle.siman_lines.specs.Kept.{IsClosed, AreOf, Stand}
@@ -42,13 +39,15 @@ pub own_sent : (s now : ℕ) (o : Option Pdu) → AreOf s (sent_as s now o)
 own_sent s now None = tt
 own_sent s now (Some p) = (refl, tt)
 
-got_log : (s now : ℕ) (b : List ℕ) (o : Option Pdu) (log : History) → past (Received s now b ∷ sent_as s now o) ++ log ≡ sent_after s o (Get s b ∷ log)
+got_log : (s now : ℕ) (b : List ℕ) (o : Option Pdu) (log : History)
+    → past (Received s now b ∷ sent_as s now o) ++ log ≡ sent_after s o (Get s b ∷ log)
 got_log s now b None log = ap (λ (h : History). h ++ log) (past-came s now b None)
 got_log s now b (Some p) log = ap (λ (h : History). h ++ log) (past-came s now b (Some p))
 
 -- One datagram.
 
-pub stand_closed : (s : ℕ) (a : Outfit) (ds : List Pdu) (k : Book) (log : History) (closed shut : Type 0) → (closed → shut) → Stand s a ds k log closed → Stand s a ds k log shut
+pub stand_closed : (s : ℕ) (a : Outfit) (ds : List Pdu) (k : Book) (log : History) (closed shut : Type 0) → (closed → shut)
+    → Stand s a ds k log closed → Stand s a ds k log shut
 stand_closed s a ds k log closed shut on is = record {
   turns = is.turns;
   calls = is.calls;
@@ -64,18 +63,21 @@ stand_closed s a ds k log closed shut on is = record {
   by (inl h) = inl h
   by (inr h) = inr (on h)
 
-pub none_missing : (s : ℕ) (a : Outfit) (ds : List Pdu) (k : Book) (log : History) (closed : Type 0) → (is : Stand s a ds k log closed) → (closed → ⊥) → MissNone is.turns
+pub none_missing : (s : ℕ) (a : Outfit) (ds : List Pdu) (k : Book) (log : History) (closed : Type 0) → (is : Stand s a ds k log closed)
+    → (closed → ⊥) → MissNone is.turns
 none_missing s a ds k log closed is takes = by is.missing where
   by : MissNone is.turns ⊎ closed → MissNone is.turns
   by (inl h) = h
   by (inr h) = absurd (takes h)
 
-hear_by : (s now : ℕ) (a : Outfit) (ds : List Pdu) (k : Book) (log : History) (closed : Type 0) (b : List ℕ) → (closed → ⊥) → IsBytes b → Stand s a ds k log closed
+hear_by : (s now : ℕ) (a : Outfit) (ds : List Pdu) (k : Book) (log : History) (closed : Type 0) (b : List ℕ) → (closed → ⊥) → IsBytes b
+    → Stand s a ds k log closed
     → (o : Option Pdu) → reading b ≡ o
     → Stand s a (came_with a ds o) (taken_with k o) (sent_after s (reply_with a ds o (stamp_of now)) (Get s b ∷ log)) closed
 hear_by s now a ds k log closed b takes bytes is None e = stand_passes s a ds k log closed b is
 hear_by s now a ds k log closed b takes bytes is (Some q) e =
-    stand_takes s a ds k log closed b q (stamp_of now) is (none_missing s a ds k log closed is takes) (record { bytes = bytes; read = e }) (stamp_within now)
+    stand_takes s a ds k log closed b q (stamp_of now) is (none_missing s a ds k log closed is takes) (record { bytes = bytes; read = e })
+    (stamp_within now)
 
 -- ONE MORE DATAGRAM is taken
 pub hear_one : (s now : ℕ) (a : Outfit) (ds : List Pdu) (k : Book) (es : List Entry) (w new : WriterState) (b : List ℕ) → IsBytes b

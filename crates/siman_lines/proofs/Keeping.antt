@@ -1,10 +1,9 @@
 -- What the calls of a station keep.
-use Rattle.std.proofs.Common.{◌≡◌, ℕ, ◌<◌, ◌≤◌, ◌^◌, List, [], ◌∷◌, ◌++◌, length, refl, ap, sym, ◌∙◌, subst, ◌⊎◌, inl, inr, arith, append_assoc, append-nil}
+use Rattle.std.proofs.Common.{◌≡◌, ℕ, ◌<◌, ◌≤◌, ◌^◌, List, [], ◌∷◌, ◌++◌, length, refl, ap, sym, ◌∙◌, subst, inl, inr, arith, append_assoc, append-nil}
 use Rattle.std.specs.Prelude.{Bool, true, false, ◌&&◌, nat_lt, nat_le, Option, Some, None, Result, Ok, Err, is_some}
 use Rattle.std.specs.List.{AllByRecursion, list_all}
 use Rattle.std.proofs.lemmas.Bool.Decides.{nat_tests}
 use Rattle.std.proofs.lemmas.List.Folds.{list_all-append}
-use Rattle.dis_records.specs.Address.{Pair}
 use Rattle.dis_records.specs.declared.header.TheConstants.{LARGEST_DATAGRAM}
 use Rattle.siman_pdus.specs.declared.pdu.Pdu.{Pdu}
 use Rattle.siman_pdus.specs.Reading.{reading}
@@ -12,37 +11,34 @@ use Rattle.siman_pdus.specs.Role.{is_request_body}
 use Rattle.siman_pdus.specs.Spelling.{pdu_text}
 use Rattle.exercise_model.specs.Entry.{Entry, Sent, Received, Told, is_entry, is_stamped}
 use Rattle.exercise_model.specs.History.{History, Send, Get, past, log_at}
-use Rattle.exercise_model.specs.Setting.{SettingData, station_in}
+use Rattle.exercise_model.specs.Setting.{SettingData}
 use Rattle.exercise_model.specs.Station.{StationData}
 use Rattle.exercise_recording.specs.declared.fault.WriterFault.{WriterFault}
 use Rattle.exercise_recording.specs.Writer.{WriterState}
 use Rattle.siman_application.specs.Distinct.{with_request}
 use Rattle.siman_application.specs.Outfit.{Outfit}
-use Rattle.siman_application.specs.Play.{reply_after}
 use Rattle.siman_application.specs.Standing.{Standing, came}
 use Rattle.siman_manager.specs.declared.order.Order.{Order}
 use Rattle.siman_manager.specs.declared.settings.Settings.{Settings}
-use Rattle.siman_manager.specs.Answers.{refusal_of}
 use Rattle.siman_manager.specs.Book.{Book}
 use Rattle.siman_worlds.specs.declared.turn.Node.{Node}
 use Rattle.siman_worlds.specs.declared.turn.TurnFault.{TurnFault}
 use Rattle.siman_worlds.specs.declared.turn.TurnFault.TheVariants as turn_faults
-use Rattle.siman_worlds.specs.Acts.{next_order, next_repeat, after_order, after_tick}
+use Rattle.siman_worlds.specs.Acts.{next_order, next_repeat, after_tick}
 use Rattle.siman_worlds.specs.Recording.{WritesOne, WritesNone}
-use Rattle.siman_worlds.specs.Turn.{stamp_of, sent_as, reply_due, RecordsAll, FailsTurn, IsUnheard, IsUnanswered}
-use Rattle.siman_worlds.specs.WorldLaw.{IsOrderInRange}
+use Rattle.siman_worlds.specs.Turn.{stamp_of, sent_as, RecordsAll, FailsTurn, IsUnanswered}
 use Rattle.siman_worlds.proofs.Offered.{past-one, all_append, stamp_within}
 use Rattle.siman_lines.specs.declared.fault.ServeFault.{ServeFault}
 use Rattle.siman_lines.specs.declared.fault.ServeFault.TheVariants as faults
 use Rattle.siman_lines.specs.declared.fault.IssueFault.{IssueFault}
 use Rattle.siman_lines.specs.declared.fault.IssueFault.TheVariants as issue_faults
 use Rattle.siman_lines.specs.declared.served.Served.{Served}
-use Rattle.siman_lines.specs.Told.{Datagrams, Same, GrowsAll, Grows, MayGrow}
-use Rattle.siman_lines.specs.Serving.{State, HasTaken, HasServed, Serves, LosesReceive, LosesSend, BreaksTurn, FailsServe, ServeEnds, IsBytes, AreBytes, came_after, book_after, taken_with, reply_at, entries_after, text_of, texts_after, texts_by, short_of, is_short}
-use Rattle.siman_lines.specs.Ordering.{SendsText, LosesText, KeepsText, Rests, Makes, Issues, Withholds, FailsIssue, IssueEnds, Repeats, Nudges, Delays, FailsNudge, NudgeEnds}
+use Rattle.siman_lines.specs.Told.{Datagrams, Same, GrowsAll, MayGrow}
+use Rattle.siman_lines.specs.Serving.{State, HasTaken, LosesSend, BreaksTurn, ServeEnds, IsBytes, AreBytes, came_after, book_after, taken_with, reply_at, entries_after, text_of, texts_after, texts_by, short_of, is_short}
+use Rattle.siman_lines.specs.Ordering.{Rests, Makes, IssueEnds, NudgeEnds}
 use Rattle.siman_lines.specs.Kept.{IsWritten, IsClosed, HasSent, AreHanded, Stand, IsOfStation, IsKept, AreOf, KeepsOn, Keeps}
 use Rattle.siman_lines.proofs.Growth.{same_itself}
-use Rattle.siman_lines.proofs.Hearing.{log_own, own_sent, own_entries, stand_closed, none_missing, hear_all}
+use Rattle.siman_lines.proofs.Hearing.{log_own, own_entries, stand_closed, none_missing, hear_all}
 use Rattle.siman_lines.proofs.Standing.{stand_passes, stand_loses, stand_orders, stand_withholds, stand_ticks, stand_repeats}
 use Rattle.siman_lines.proofs.Writings.{is_open, written_one, written_none, written_all, setting_none, setting_all, closed_none, closed_all}
 
@@ -69,7 +65,8 @@ pub handed_more : (s : ℕ) (es more : List Entry) (o : Option Datagrams) → Ar
 handed_more s es more None h = tt
 handed_more s es more (Some ds) h = each_on (HasSent s es) (HasSent s (es ++ more)) (sent_more s es more) ds h
 
-handed_all : (s : ℕ) (es : List Entry) (old new : Option Datagrams) (ds : Datagrams) → AreHanded s es old → GrowsAll old new ds → AllByRecursion (HasSent s es) ds
+handed_all : (s : ℕ) (es : List Entry) (old new : Option Datagrams) (ds : Datagrams) → AreHanded s es old → GrowsAll old new ds
+    → AllByRecursion (HasSent s es) ds
     → AreHanded s es new
 handed_all s es None None ds h g all = tt
 handed_all s es None (Some ns) ds h g all = absurd g
@@ -82,7 +79,8 @@ handed_same s es None (Some ns) h g = absurd g
 handed_same s es (Some os) None h g = tt
 handed_same s es (Some os) (Some ns) h g = subst (AllByRecursion (HasSent s es)) (sym g) h
 
-handed_may : (s : ℕ) (es : List Entry) (old new : Option Datagrams) (d : List ℕ) → AreHanded s es old → MayGrow old new d → HasSent s es d → AreHanded s es new
+handed_may : (s : ℕ) (es : List Entry) (old new : Option Datagrams) (d : List ℕ) → AreHanded s es old → MayGrow old new d → HasSent s es d
+    → AreHanded s es new
 handed_may s es old new d h (inl g) has = handed_all s es old new (d ∷ []) h g (has, tt)
 handed_may s es old new d h (inr g) has = handed_same s es old new h g
 
@@ -91,7 +89,8 @@ reply_has : (s now : ℕ) (b : List ℕ) (o : Option Pdu) → AllByRecursion (Ha
 reply_has s now b None = tt
 reply_has s now b (Some p) = (inl (refl, refl), tt)
 
-texts_has : (s now : ℕ) (a : Outfit) (ds : List Pdu) (bs : Datagrams) → AllByRecursion (HasSent s (entries_after a ds s now bs)) (texts_after a ds now bs)
+texts_has : (s now : ℕ) (a : Outfit) (ds : List Pdu) (bs : Datagrams)
+    → AllByRecursion (HasSent s (entries_after a ds s now bs)) (texts_after a ds now bs)
 texts_has s now a ds [] = tt
 texts_has s now a ds (b ∷ bs) =
     let o = reply_at a ds now bs b in
@@ -117,7 +116,8 @@ sent_stamped : (s now : ℕ) (o : Option Pdu) → now < 2 ^ 64 → list_all is_s
 sent_stamped s now None h = refl
 sent_stamped s now (Some p) h = ap (λ (b : Bool). b && true) (now_stamped now h)
 
-pub entries_stamped : (s now : ℕ) (a : Outfit) (ds : List Pdu) (bs : Datagrams) → now < 2 ^ 64 → list_all is_stamped (entries_after a ds s now bs) ≡ true
+pub entries_stamped : (s now : ℕ) (a : Outfit) (ds : List Pdu) (bs : Datagrams) → now < 2 ^ 64
+    → list_all is_stamped (entries_after a ds s now bs) ≡ true
 entries_stamped s now a ds [] h = refl
 entries_stamped s now a ds (b ∷ bs) h =
     rw (list_all-append, entries_stamped s now a ds bs h, now_stamped now h, sent_stamped s now (reply_at a ds now bs b) h) refl
@@ -132,13 +132,15 @@ pub settings_after : (k : Book) (bs : Datagrams) → (book_after k bs).settings 
 settings_after k [] = refl
 settings_after k (b ∷ bs) = settings_taken (book_after k bs) (reading b) ∙ settings_after k bs
 
-stand_as : (s : ℕ) (a c : Outfit) (ds es : List Pdu) (k l : Book) (log : History) (closed : Type 0) → c ≡ a → es ≡ ds → l ≡ k → Stand s a ds k log closed
+stand_as : (s : ℕ) (a c : Outfit) (ds es : List Pdu) (k l : Book) (log : History) (closed : Type 0) → c ≡ a → es ≡ ds → l ≡ k
+    → Stand s a ds k log closed
     → Stand s c es l log closed
 stand_as s a c ds es k l log closed e f g is =
     subst (λ (x : Outfit). Stand s x es l log closed) (sym e)
     (subst (λ (x : List Pdu). Stand s a x l log closed) (sym f) (subst (λ (x : Book). Stand s a ds x log closed) (sym g) is))
 
-pub of_station : (s : ℕ) (n m : Node) (w v : SettingData) → m.application.outfit ≡ n.application.outfit → m.manager.settings ≡ n.manager.settings → v ≡ w
+pub of_station : (s : ℕ) (n m : Node) (w v : SettingData) → m.application.outfit ≡ n.application.outfit → m.manager.settings ≡ n.manager.settings
+    → v ≡ w
     → IsOfStation s n w → IsOfStation s m v
 of_station s n m w v outfit settings setting is = subst (IsOfStation s m) (sym setting) (record {
   within = is.within;
@@ -160,7 +162,8 @@ pub record Step (s : ℕ) (before : Option (List ℕ)) (es : List Entry) (n m : 
   pub halves : Stand s n.application.outfit (came m.application) m.manager (log_at s (past (es ++ more))) (IsClosed new)
   pub handed_are : AreHanded s (es ++ more) handed
 
-step_keeps : (s : ℕ) (before : Option (List ℕ)) (es : List Entry) (n m : Node) (w new : WriterState) (old handed : Option Datagrams) → IsKept s n w es old
+step_keeps : (s : ℕ) (before : Option (List ℕ)) (es : List Entry) (n m : Node) (w new : WriterState) (old handed : Option Datagrams)
+    → IsKept s n w es old
     → Step s before es n m w new handed → KeepsOn s before es m w new handed
 step_keeps s before es n m w new old handed is step = record {
   more = step.more;
@@ -170,7 +173,8 @@ step_keeps s before es n m w new old handed is step = record {
   written = step.written;
   kept = record {
     station = of_station s n m w.setting new.setting step.outfit step.settings step.setting is.station;
-    halves = subst (λ (x : Outfit). Stand s x (came m.application) m.manager (log_at s (past (es ++ step.more))) (IsClosed new)) (sym step.outfit) step.halves;
+    halves = subst (λ (x : Outfit). Stand s x (came m.application) m.manager (log_at s (past (es ++ step.more))) (IsClosed new)) (sym step.outfit)
+        step.halves;
     handed_are = step.handed_are;
   };
 }
@@ -178,7 +182,8 @@ step_keeps s before es n m w new old handed is step = record {
 -- one step after another
 then_keeps : (s : ℕ) (before : Option (List ℕ)) (es : List Entry) (mid m : Node) (w writer new : WriterState) (heard handed : Option Datagrams)
     → KeepsOn s before es mid w writer heard
-    → ((fs : List Entry) → IsWritten before writer fs → IsKept s mid writer fs heard → KeepsOn s before fs m writer new handed) → KeepsOn s before es m w new handed
+    → ((fs : List Entry) → IsWritten before writer fs → IsKept s mid writer fs heard → KeepsOn s before fs m writer new handed)
+    → KeepsOn s before es m w new handed
 then_keeps s before es mid m w writer new heard handed first next =
     let after = next (es ++ first.more) first.written first.kept in record {
       more = first.more ++ after.more;
@@ -191,7 +196,8 @@ then_keeps s before es mid m w writer new heard handed first next =
 
 -- Of serving.
 
-keeps_taken : (s now : ℕ) (bs : Datagrams) (n m : Node) (w new : WriterState) (before : Option (List ℕ)) (es : List Entry) (old handed : Option Datagrams) → now < 2 ^ 64
+keeps_taken : (s now : ℕ) (bs : Datagrams) (n m : Node) (w new : WriterState) (before : Option (List ℕ)) (es : List Entry) (old handed : Option
+    Datagrams) → now < 2 ^ 64
     → HasTaken s now bs n m w new → AreBytes bs → IsWritten before w es → IsKept s n w es old
     → AreHanded s (es ++ entries_after n.application.outfit (came n.application) s now bs) handed → KeepsOn s before es m w new handed
 keeps_taken s now bs n m w new before es old handed h taken bytes written is handed_are =
@@ -205,13 +211,15 @@ keeps_taken s now bs n m w new before es old handed h taken bytes written is han
       written = written_all before (entries_after a ds s now bs) w new es (entries_stamped s now a ds bs h) written taken.entries;
       outfit = taken.outfit;
       settings = ap (λ (k : Book). k.settings) taken.manager ∙ settings_after n.manager bs;
-      halves = stand_as s a a (came_after a ds bs) (came m.application) (book_after n.manager bs) m.manager _ (IsClosed new) refl taken.came_is taken.manager
+      halves = stand_as s a a (came_after a ds bs) (came m.application) (book_after n.manager bs) m.manager _ (IsClosed new) refl taken.came_is
+          taken.manager
           (hear_all s now a ds n.manager es bs w new bytes is.halves taken.entries);
       handed_are = handed_are;
     })
 
 -- nothing was written
-keeps_unwritten : (s : ℕ) (before : Option (List ℕ)) (es : List Entry) (n : Node) (w new : WriterState) (old handed : Option Datagrams) → IsWritten before new es
+keeps_unwritten : (s : ℕ) (before : Option (List ℕ)) (es : List Entry) (n : Node) (w new : WriterState) (old handed : Option Datagrams)
+    → IsWritten before new es
     → new.setting ≡ w.setting → (IsClosed w → IsClosed new) → IsKept s n w es old → Same old handed → KeepsOn s before es n w new handed
 keeps_unwritten s before es n w new old handed written setting closed is same =
     step_keeps s before es n n w new old handed is (record {
@@ -222,7 +230,8 @@ keeps_unwritten s before es n w new old handed written setting closed is same =
       written = subst (IsWritten before new) (sym (append-nil es)) written;
       outfit = refl;
       settings = refl;
-      halves = subst (λ (l : List Entry). Stand s n.application.outfit (came n.application) n.manager (log_at s (past l)) (IsClosed new)) (sym (append-nil es))
+      halves = subst (λ (l : List Entry). Stand s n.application.outfit (came n.application) n.manager (log_at s (past l)) (IsClosed new)) (sym
+          (append-nil es))
           (stand_closed s n.application.outfit (came n.application) n.manager _ (IsClosed w) (IsClosed new) closed is.halves);
       handed_are = subst (λ (l : List Entry). AreHanded s l handed) (sym (append-nil es)) (handed_same s es old handed is.handed_are same);
     })
@@ -238,8 +247,10 @@ stamped_one : (now : ℕ) → now < 2 ^ 64 → (s : ℕ) (b : List ℕ) → is_s
 stamped_one now h s b = now_stamped now h
 
 -- a datagram that was received and not taken
-keeps_received : (s now : ℕ) (b : List ℕ) (n : Node) (w new : WriterState) (before : Option (List ℕ)) (es : List Entry) (old handed : Option Datagrams) → now < 2 ^ 64
-    → RecordsAll WritesOne (Received s now b ∷ []) w new → IsWritten before w es → IsKept s n w es old → Same old handed → KeepsOn s before es n w new handed
+keeps_received : (s now : ℕ) (b : List ℕ) (n : Node) (w new : WriterState) (before : Option (List ℕ)) (es : List Entry) (old handed : Option
+    Datagrams) → now < 2 ^ 64
+    → RecordsAll WritesOne (Received s now b ∷ []) w new → IsWritten before w es → IsKept s n w es old → Same old handed
+    → KeepsOn s before es n w new handed
 keeps_received s now b n w new before es old handed h all written is same =
     step_keeps s before es n n w new old handed is (record {
       more = Received s now b ∷ [];
@@ -250,7 +261,8 @@ keeps_received s now b n w new before es old handed h all written is same =
       outfit = refl;
       settings = refl;
       halves = subst (λ (log : History). Stand s n.application.outfit (came n.application) n.manager log (IsClosed new)) (sym (log_got s now es b))
-          (stand_closed s n.application.outfit (came n.application) n.manager _ (IsClosed w) (IsClosed new) (closed_all (Received s now b ∷ []) w new all)
+          (stand_closed s n.application.outfit (came n.application) n.manager _ (IsClosed w) (IsClosed new) (closed_all (Received s now b ∷ []) w new
+          all)
           (stand_passes s n.application.outfit (came n.application) n.manager _ (IsClosed w) b is.halves));
       handed_are = handed_same s (es ++ Received s now b ∷ []) old handed (handed_more s es (Received s now b ∷ []) old is.handed_are) same;
     })
@@ -258,17 +270,21 @@ keeps_received s now b n w new before es old handed h all written is same =
 good_entry : (s n : ℕ) (b : List ℕ) → s < n → length b ≤ LARGEST_DATAGRAM → (nat_lt s n && nat_le (length b) LARGEST_DATAGRAM) ≡ true
 good_entry s n b h k = grind (arith, nat_tests)
 
-pub good_sent : (s now : ℕ) (b : List ℕ) (w : SettingData) (n : Node) → IsOfStation s n w → length b ≤ LARGEST_DATAGRAM → is_entry (length w.stations) (Sent s now b) ≡ true
+pub good_sent : (s now : ℕ) (b : List ℕ) (w : SettingData) (n : Node) → IsOfStation s n w → length b ≤ LARGEST_DATAGRAM
+    → is_entry (length w.stations) (Sent s now b) ≡ true
 good_sent s now b w n is short = good_entry s (length w.stations) b is.within short
 
-pub good_got : (s now : ℕ) (b : List ℕ) (w : SettingData) (n : Node) → IsOfStation s n w → is_short b ≡ true → is_entry (length w.stations) (Received s now b) ≡ true
+pub good_got : (s now : ℕ) (b : List ℕ) (w : SettingData) (n : Node) → IsOfStation s n w → is_short b ≡ true
+    → is_entry (length w.stations) (Received s now b) ≡ true
 good_got s now b w n is short = by (length w.stations) is.within where
   by : (k : ℕ) → s < k → (nat_lt s k && nat_le (length b) LARGEST_DATAGRAM) ≡ true
   by k h = grind (arith, nat_tests, short)
 
 -- a reply that was not written
-keeps_unanswered : (s now : ℕ) (b : List ℕ) (fault : WriterFault) (n m : Node) (w new : WriterState) (before : Option (List ℕ)) (es : List Entry) (old handed : Option Datagrams)
-    → now < 2 ^ 64 → IsBytes b → IsUnanswered WritesOne WritesNone s now b fault w new n m → IsWritten before w es → IsKept s n w es old → Same old handed
+keeps_unanswered : (s now : ℕ) (b : List ℕ) (fault : WriterFault) (n m : Node) (w new : WriterState) (before : Option (List ℕ)) (es : List Entry)
+    (old handed : Option Datagrams)
+    → now < 2 ^ 64 → IsBytes b → IsUnanswered WritesOne WritesNone s now b fault w new n m → IsWritten before w es → IsKept s n w es old
+    → Same old handed
     → KeepsOn s before es m w new handed
 keeps_unanswered s now b fault n m w new before es old handed h bytes u written is same =
     let a = n.application.outfit in
@@ -277,7 +293,8 @@ keeps_unanswered s now b fault n m w new before es old handed h bytes u written 
     let text = pdu_text u.unsent.answer in
     let next_setting : u.next.setting ≡ w.setting = u.received.adds.setting in
     let shut : IsClosed new = closed_none u.next new (Sent s now text) fault
-    (good_sent s now text u.next.setting n (of_station s n n w.setting u.next.setting refl refl next_setting is.station) u.unsent.size) u.unsent.refused in
+    (good_sent s now text u.next.setting n (of_station s n n w.setting u.next.setting refl refl next_setting is.station) u.unsent.size)
+    u.unsent.refused in
     step_keeps s before es n m w new old handed is (record {
       more = Received s now b ∷ [];
       own = (refl, tt);
@@ -295,8 +312,10 @@ keeps_unanswered s now b fault n m w new before es old handed h bytes u written 
       handed_are = handed_same s (es ++ Received s now b ∷ []) old handed (handed_more s es (Received s now b ∷ []) old is.handed_are) same;
     })
 
-keeps_broken : (s now : ℕ) (b : List ℕ) (fault : TurnFault WriterFault) (n m : Node) (w new : WriterState) (before : Option (List ℕ)) (es : List Entry) (old : Option Datagrams)
-    → now < 2 ^ 64 → IsBytes b → is_short b ≡ true → FailsTurn WritesOne WritesNone s now b fault w new n m → IsWritten before w es → IsKept s n w es old
+keeps_broken : (s now : ℕ) (b : List ℕ) (fault : TurnFault WriterFault) (n m : Node) (w new : WriterState) (before : Option (List ℕ)) (es : List
+    Entry) (old : Option Datagrams)
+    → now < 2 ^ 64 → IsBytes b → is_short b ≡ true → FailsTurn WritesOne WritesNone s now b fault w new n m → IsWritten before w es
+    → IsKept s n w es old
     → Same old old → KeepsOn s before es m w new old
 keeps_broken s now b (turn_faults.Record fault) n m w new before es old h bytes short (inl u) written is same =
     subst (λ (x : Node). KeepsOn s before es x w new old) (sym u.halves)
@@ -308,8 +327,10 @@ keeps_broken s now b (turn_faults.Record fault) n m w new before es old h bytes 
 keeps_broken s now b turn_faults.Memory n m w new before es old h bytes short u written is same =
     subst (λ (x : Node). KeepsOn s before es x w new old) (sym u.1) (keeps_received s now b n w new before es old old h u.0 written is same)
 
-keeps_served : (s now : ℕ) (bs : Datagrams) (n m : Node) (w new : WriterState) (before : Option (List ℕ)) (es : List Entry) (old handed : Option Datagrams) → now < 2 ^ 64
-    → HasTaken s now bs n m w new → AreBytes bs → GrowsAll old handed (texts_by n now bs) → IsWritten before w es → IsKept s n w es old → KeepsOn s before es m w new handed
+keeps_served : (s now : ℕ) (bs : Datagrams) (n m : Node) (w new : WriterState) (before : Option (List ℕ)) (es : List Entry) (old handed : Option
+    Datagrams) → now < 2 ^ 64
+    → HasTaken s now bs n m w new → AreBytes bs → GrowsAll old handed (texts_by n now bs) → IsWritten before w es → IsKept s n w es old
+    → KeepsOn s before es m w new handed
 keeps_served s now bs n m w new before es old handed h taken bytes sent written is =
     keeps_taken s now bs n m w new before es old handed h taken bytes written is
     (handed_texts s now n.application.outfit (came n.application) es bs old handed is.handed_are sent)
@@ -320,11 +341,12 @@ answer_has s now a ds es bs b p due =
     let first = entries_after a ds s now bs in
     let last = Received s now b ∷ sent_as s now (reply_at a ds now bs b) in
     sent_late s es (first ++ last) (pdu_text p) (sent_late s first last (pdu_text p) (by (reply_at a ds now bs b) due)) where
-  by : (o : Option Pdu) → o ≡ Some p → HasSent s (Received s now b ∷ sent_as s now o) (pdu_text p)
-  by None e = absurd cc
-  by (Some q) e = let same : q ≡ p = cc in inl (refl, ap pdu_text same)
+      by : (o : Option Pdu) → o ≡ Some p → HasSent s (Received s now b ∷ sent_as s now o) (pdu_text p)
+      by None e = absurd cc
+      by (Some q) e = let same : q ≡ p = cc in inl (refl, ap pdu_text same)
 
-keeps_lost : (s now : ℕ) (old new : State) (before : Option (List ℕ)) (es : List Entry) → now < 2 ^ 64 → LosesSend s now old new → IsWritten before old.recorder es
+keeps_lost : (s now : ℕ) (old new : State) (before : Option (List ℕ)) (es : List Entry) → now < 2 ^ 64 → LosesSend s now old new
+    → IsWritten before old.recorder es
     → IsKept s old.node old.recorder es old.sent → KeepsOn s before es new.node old.recorder new.recorder new.sent
 keeps_lost s now old new before es h l written is =
     let a = old.node.application.outfit in
@@ -338,30 +360,38 @@ keeps_lost s now old new before es h l written is =
     (λ b has. sent_late s es all b (sent_more s (entries_after a ds s now bs) _ b has)) (texts_after a ds now bs) (texts_has s now a ds bs)))
     l.may_be_sent (answer_has s now a ds es bs l.datagram l.answer l.due))
 
-keeps_stopped : (s now : ℕ) (fault : TurnFault WriterFault) (old new : State) (before : Option (List ℕ)) (es : List Entry) → now < 2 ^ 64 → BreaksTurn s now fault old new
+keeps_stopped : (s now : ℕ) (fault : TurnFault WriterFault) (old new : State) (before : Option (List ℕ)) (es : List Entry) → now < 2 ^ 64
+    → BreaksTurn s now fault old new
     → IsWritten before old.recorder es → IsKept s old.node old.recorder es old.sent → KeepsOn s before es new.node old.recorder new.recorder new.sent
 keeps_stopped s now fault old new before es h l written is =
     then_keeps s before es l.node new.node old.recorder l.recorder new.recorder new.sent new.sent
-    (keeps_served s now (short_of l.earlier) old.node l.node old.recorder l.recorder before es old.sent new.sent h l.taken l.bytes.1 l.sent_are written is)
-    (λ fs more there. keeps_broken s now l.datagram fault l.node new.node l.recorder new.recorder before fs new.sent h l.bytes.0 l.short l.broken more there
+    (keeps_served s now (short_of l.earlier) old.node l.node old.recorder l.recorder before es old.sent new.sent h l.taken l.bytes.1 l.sent_are
+    written is)
+    (λ fs more there. keeps_broken s now l.datagram fault l.node new.node l.recorder new.recorder before fs new.sent h l.bytes.0 l.short l.broken
+    more there
     (same_itself new.sent))
 
 pub keeps_serves : (s now turns : ℕ) (old new : State) (result : Result Served ServeFault) → now < 2 ^ 64 → ServeEnds s now turns old new result
     → Keeps s old.node old.recorder old.sent new.node new.recorder new.sent
 keeps_serves s now turns old new (Ok served) h ends = λ before es written is.
-    keeps_served s now (short_of ends.datagrams) old.node new.node old.recorder new.recorder before es old.sent new.sent h ends.done.taken ends.done.bytes
+    keeps_served s now (short_of ends.datagrams) old.node new.node old.recorder new.recorder before es old.sent new.sent h ends.done.taken
+    ends.done.bytes
     ends.done.sent_are written is
 keeps_serves s now turns old new (Err faults.Receive) h ends = λ before es written is.
-    keeps_served s now (short_of ends.datagrams) old.node new.node old.recorder new.recorder before es old.sent new.sent h ends.done.taken ends.done.bytes
+    keeps_served s now (short_of ends.datagrams) old.node new.node old.recorder new.recorder before es old.sent new.sent h ends.done.taken
+    ends.done.bytes
     ends.done.sent_are written is
 keeps_serves s now turns old new (Err faults.Send) h ends = λ before es written is. keeps_lost s now old new before es h ends written is
-keeps_serves s now turns old new (Err (faults.Record fault)) h ends = λ before es written is. keeps_stopped s now (turn_faults.Record fault) old new before es h ends written is
-keeps_serves s now turns old new (Err faults.Memory) h ends = λ before es written is. keeps_stopped s now turn_faults.Memory old new before es h ends written is
+keeps_serves s now turns old new (Err (faults.Record fault)) h ends = λ before es written is. keeps_stopped s now (turn_faults.Record fault) old new
+    before es h ends written is
+keeps_serves s now turns old new (Err faults.Memory) h ends = λ before es written is. keeps_stopped s now turn_faults.Memory old new before es h ends
+    written is
 
 -- Of orders and repeats.
 
 -- an entry of the station that sends a text
-keeps_text : (s now : ℕ) (text : List ℕ) (n m : Node) (w new : WriterState) (before : Option (List ℕ)) (es : List Entry) (old handed : Option Datagrams) → now < 2 ^ 64
+keeps_text : (s now : ℕ) (text : List ℕ) (n m : Node) (w new : WriterState) (before : Option (List ℕ)) (es : List Entry) (old handed : Option
+    Datagrams) → now < 2 ^ 64
     → WritesOne w (Sent s now text) new → m.application ≡ n.application → m.manager.settings ≡ n.manager.settings
     → Stand s n.application.outfit (came n.application) m.manager (Send s text ∷ log_at s (past es)) (IsClosed w)
     → AreHanded s (es ++ Sent s now text ∷ []) handed → IsWritten before w es → IsKept s n w es old → KeepsOn s before es m w new handed
@@ -383,7 +413,8 @@ keeps_text s now text n m w new before es old handed h one application settings 
     })
 
 -- nothing was written, and the manager half went on
-keeps_quiet : (s : ℕ) (before : Option (List ℕ)) (es : List Entry) (n m : Node) (w new : WriterState) (old handed : Option Datagrams) → IsWritten before new es
+keeps_quiet : (s : ℕ) (before : Option (List ℕ)) (es : List Entry) (n m : Node) (w new : WriterState) (old handed : Option Datagrams)
+    → IsWritten before new es
     → new.setting ≡ w.setting → (IsClosed w → IsClosed new) → m.application ≡ n.application → m.manager.settings ≡ n.manager.settings
     → Stand s n.application.outfit (came n.application) m.manager (log_at s (past es)) (IsClosed w) → IsKept s n w es old → Same old handed
     → KeepsOn s before es m w new handed
@@ -396,8 +427,10 @@ keeps_quiet s before es n m w new old handed written setting closed application 
       written = subst (IsWritten before new) (sym (append-nil es)) written;
       outfit = ap (λ (a : Standing). a.outfit) application;
       settings = settings;
-      halves = subst (λ (ds : List Pdu). Stand s n.application.outfit ds m.manager (log_at s (past (es ++ []))) (IsClosed new)) (sym (ap came application))
-          (subst (λ (l : List Entry). Stand s n.application.outfit (came n.application) m.manager (log_at s (past l)) (IsClosed new)) (sym (append-nil es))
+      halves = subst (λ (ds : List Pdu). Stand s n.application.outfit ds m.manager (log_at s (past (es ++ []))) (IsClosed new)) (sym (ap came
+          application))
+          (subst (λ (l : List Entry). Stand s n.application.outfit (came n.application) m.manager (log_at s (past l)) (IsClosed new)) (sym
+          (append-nil es))
           (stand_closed s n.application.outfit (came n.application) m.manager _ (IsClosed w) (IsClosed new) closed halves));
       handed_are = subst (λ (l : List Entry). AreHanded s l handed) (sym (append-nil es)) (handed_same s es old handed is.handed_are same);
     })
@@ -418,14 +451,17 @@ handed_text s now text es old new h may =
 -- what stands of the halves after an order was made
 order_sent : (s now : ℕ) (order : Order) (n m : Node) (w : WriterState) (es : List Entry) (old : Option Datagrams) → is_request_body order.body ≡ true
     → Makes now order n m → IsKept s n w es old
-    → Stand s n.application.outfit (came n.application) m.manager (Send s (pdu_text (next_order n.manager now order)) ∷ log_at s (past es)) (IsClosed w)
+    → Stand s n.application.outfit (came n.application) m.manager (Send s (pdu_text (next_order n.manager now order)) ∷ log_at s (past es)) (IsClosed
+    w)
 order_sent s now order n m w es old request makes is =
-    subst (λ (x : Node). Stand s n.application.outfit (came n.application) x.manager (Send s (pdu_text (next_order n.manager now order)) ∷ log_at s (past es)) (IsClosed w))
+    subst (λ (x : Node). Stand s n.application.outfit (came n.application) x.manager (Send s (pdu_text (next_order n.manager now order)) ∷ log_at s
+    (past es)) (IsClosed w))
     (sym makes.halves)
     (stand_orders s n.application.outfit (came n.application) n.manager _ (IsClosed w) order now is.halves (exercise_own s n w.setting is.station)
     (address_own s n w.setting is.station) request makes.made makes.in_range)
 
-order_withheld : (s now : ℕ) (order : Order) (n m : Node) (w : WriterState) (es : List Entry) (old : Option Datagrams) → is_request_body order.body ≡ true
+order_withheld : (s now : ℕ) (order : Order) (n m : Node) (w : WriterState) (es : List Entry) (old : Option Datagrams)
+    → is_request_body order.body ≡ true
     → Makes now order n m → IsKept s n w es old
     → Stand s n.application.outfit (came n.application) m.manager (log_at s (past es)) (IsClosed w)
 order_withheld s now order n m w es old request makes is =
@@ -441,7 +477,8 @@ makes_settings now order n m makes = ap (λ (x : Node). x.manager.settings) make
 pub keeps_issue : (s now : ℕ) (order : Order) (old new : State) (result : Result ℕ IssueFault) → now < 2 ^ 64 → is_request_body order.body ≡ true
     → IssueEnds s now order old new result → Keeps s old.node old.recorder old.sent new.node new.recorder new.sent
 keeps_issue s now order old new (Ok id) h request ends = λ before es written is.
-    keeps_text s now (pdu_text (next_order old.node.manager now order)) old.node new.node old.recorder new.recorder before es old.sent new.sent h ends.goes.entry
+    keeps_text s now (pdu_text (next_order old.node.manager now order)) old.node new.node old.recorder new.recorder before es old.sent new.sent h
+    ends.goes.entry
     (makes_application now order old.node new.node ends.makes) (makes_settings now order old.node new.node ends.makes)
     (order_sent s now order old.node new.node old.recorder es old.sent request ends.makes is)
     (handed_text s now (pdu_text (next_order old.node.manager now order)) es old.sent new.sent is.handed_are (inl ends.goes.sent_are)) written is
@@ -451,7 +488,8 @@ keeps_issue s now order old new (Err (issue_faults.Order fault)) h request ends 
     (subst (λ (w : WriterState). IsWritten before w es) (sym ends.2.recorder) written) (ap (λ (w : WriterState). w.setting) ends.2.recorder)
     (λ c. subst IsClosed (sym ends.2.recorder) c) is ends.2.sent_are)
 keeps_issue s now order old new (Err issue_faults.Send) h request ends = λ before es written is.
-    keeps_text s now (pdu_text (next_order old.node.manager now order)) old.node new.node old.recorder new.recorder before es old.sent new.sent h ends.left.entry
+    keeps_text s now (pdu_text (next_order old.node.manager now order)) old.node new.node old.recorder new.recorder before es old.sent new.sent h
+    ends.left.entry
     (makes_application now order old.node new.node ends.makes) (makes_settings now order old.node new.node ends.makes)
     (order_sent s now order old.node new.node old.recorder es old.sent request ends.makes is)
     (handed_text s now (pdu_text (next_order old.node.manager now order)) es old.sent new.sent is.handed_are ends.left.may_be_sent) written is
@@ -460,7 +498,8 @@ keeps_issue s now order old new (Err (issue_faults.Record fault)) h request ends
     keeps_quiet s before es old.node new.node old.recorder new.recorder old.sent new.sent
     (written_none before old.recorder new.recorder es (Sent s now text) fault (now_stamped now h) written ends.left.refused)
     (setting_none old.recorder new.recorder (Sent s now text) fault ends.left.refused)
-    (λ c. closed_none old.recorder new.recorder (Sent s now text) fault (good_sent s now text old.recorder.setting old.node is.station ends.size) ends.left.refused)
+    (λ c. closed_none old.recorder new.recorder (Sent s now text) fault (good_sent s now text old.recorder.setting old.node is.station ends.size)
+    ends.left.refused)
     (makes_application now order old.node new.node ends.makes) (makes_settings now order old.node new.node ends.makes)
     (order_withheld s now order old.node new.node old.recorder es old.sent request ends.makes is) is ends.left.sent_are)
 keeps_issue s now order old new (Err issue_faults.Memory) h request ends = λ before es written is.
@@ -471,10 +510,12 @@ keeps_issue s now order old new (Err issue_faults.Memory) h request ends = λ be
     (order_withheld s now order old.node new.node old.recorder es old.sent request ends.0 is) is ends.1.sent_are
 
 -- what stands of the halves after a tick
-tick_sent : (s now : ℕ) (p : Pdu) (n m : Node) (w : WriterState) (es : List Entry) (old : Option Datagrams) → m ≡ after_tick n now → next_repeat n.manager now ≡ Some p
+tick_sent : (s now : ℕ) (p : Pdu) (n m : Node) (w : WriterState) (es : List Entry) (old : Option Datagrams) → m ≡ after_tick n now
+    → next_repeat n.manager now ≡ Some p
     → IsKept s n w es old → Stand s n.application.outfit (came n.application) m.manager (Send s (pdu_text p) ∷ log_at s (past es)) (IsClosed w)
 tick_sent s now p n m w es old after due is =
-    subst (λ (x : Node). Stand s n.application.outfit (came n.application) x.manager (Send s (pdu_text p) ∷ log_at s (past es)) (IsClosed w)) (sym after)
+    subst (λ (x : Node). Stand s n.application.outfit (came n.application) x.manager (Send s (pdu_text p) ∷ log_at s (past es)) (IsClosed w)) (sym
+    after)
     (stand_repeats s n.application.outfit (came n.application) n.manager _ (IsClosed w) now p is.halves (exercise_own s n w.setting is.station)
     (address_own s n w.setting is.station) due)
 
@@ -513,7 +554,8 @@ keeps_nudge s now old new (Err (issue_faults.Record fault)) h ends = λ before e
     keeps_quiet s before es old.node new.node old.recorder new.recorder old.sent new.sent
     (written_none before old.recorder new.recorder es (Sent s now text) fault (now_stamped now h) written ends.1.left.refused)
     (setting_none old.recorder new.recorder (Sent s now text) fault ends.1.left.refused)
-    (λ c. closed_none old.recorder new.recorder (Sent s now text) fault (good_sent s now text old.recorder.setting old.node is.station ends.1.size) ends.1.left.refused)
+    (λ c. closed_none old.recorder new.recorder (Sent s now text) fault (good_sent s now text old.recorder.setting old.node is.station ends.1.size)
+    ends.1.left.refused)
     (ap (λ (x : Node). x.application) ends.0) (ap (λ (x : Node). x.manager.settings) ends.0)
     (tick_quiet s now old.node new.node old.recorder es old.sent ends.0 is) is ends.1.left.sent_are)
 keeps_nudge s now old new (Err issue_faults.Memory) h ends = λ before es written is. keeps_tick s now old new before es ends.0 ends.2 written is

@@ -1,10 +1,10 @@
 -- Where a recorder refuses an entry of a call.
-use Rattle.std.proofs.Common.{◌≡◌, ℕ, ◌<◌, ◌≤◌, List, [], ◌∷◌, length, refl, ap, sym, ◌∙◌, subst, inl, inr, arith}
+use Rattle.std.proofs.Common.{◌≡◌, ℕ, ◌<◌, ◌≤◌, List, [], ◌∷◌, length, refl, sym, ◌∙◌, subst, inl, inr, arith}
 use Rattle.std.specs.Prelude.{Bool, true, false, nat_lt, nat_le, ◌&&◌, Result, Ok, Err}
 use Rattle.std.proofs.lemmas.Bool.Decides.{nat_tests}
 use Rattle.dis_records.specs.declared.header.TheConstants.{LARGEST_DATAGRAM}
 use Rattle.siman_pdus.specs.Spelling.{pdu_text}
-use Rattle.exercise_model.specs.Entry.{Entry, Sent, Received, is_entry}
+use Rattle.exercise_model.specs.Entry.{Sent, Received, is_entry}
 use Rattle.exercise_model.specs.Setting.{SettingData}
 use Rattle.exercise_recording.specs.declared.fault.WriterFault.{WriterFault}
 use Rattle.exercise_recording.specs.Writer.{WriterState}
@@ -19,7 +19,7 @@ use Rattle.siman_lines.specs.declared.fault.ServeFault.TheVariants as faults
 use Rattle.siman_lines.specs.declared.fault.IssueFault.{IssueFault}
 use Rattle.siman_lines.specs.declared.fault.IssueFault.TheVariants as issue_faults
 use Rattle.siman_lines.specs.declared.served.Served.{Served}
-use Rattle.siman_lines.specs.Serving.{State, BreaksTurn, ServeEnds, is_short}
+use Rattle.siman_lines.specs.Serving.{State, ServeEnds, is_short}
 use Rattle.siman_lines.specs.Ordering.{IssueEnds, NudgeEnds}
 use Rattle.siman_lines.specs.Kept.{IsRightRefusal, RefusesServe, RefusesIssue}
 use Rattle.siman_lines.proofs.Writings.{right_refusal, refusal_before, setting_all}
@@ -27,16 +27,20 @@ use Rattle.siman_lines.proofs.Writings.{right_refusal, refusal_before, setting_a
 good_at : (s n : ℕ) (b : List ℕ) → s < n → length b ≤ LARGEST_DATAGRAM → (nat_lt s n && nat_le (length b) LARGEST_DATAGRAM) ≡ true
 good_at s n b h k = grind (arith, nat_tests)
 
-good_text : (s now : ℕ) (b : List ℕ) (v w : SettingData) → s < length w.stations → v ≡ w → length b ≤ LARGEST_DATAGRAM → is_entry (length v.stations) (Sent s now b) ≡ true
-good_text s now b v w within same short = subst (λ (x : SettingData). is_entry (length x.stations) (Sent s now b) ≡ true) (sym same) (good_at s (length w.stations) b within short)
+good_text : (s now : ℕ) (b : List ℕ) (v w : SettingData) → s < length w.stations → v ≡ w → length b ≤ LARGEST_DATAGRAM
+    → is_entry (length v.stations) (Sent s now b) ≡ true
+good_text s now b v w within same short = subst (λ (x : SettingData). is_entry (length x.stations) (Sent s now b) ≡ true) (sym same) (good_at s
+    (length w.stations) b within short)
 
-good_came : (s now : ℕ) (b : List ℕ) (v w : SettingData) → s < length w.stations → v ≡ w → is_short b ≡ true → is_entry (length v.stations) (Received s now b) ≡ true
+good_came : (s now : ℕ) (b : List ℕ) (v w : SettingData) → s < length w.stations → v ≡ w → is_short b ≡ true
+    → is_entry (length v.stations) (Received s now b) ≡ true
 good_came s now b v w within same short =
     subst (λ (x : SettingData). is_entry (length x.stations) (Received s now b) ≡ true) (sym same) (by (length w.stations) within) where
-  by : (n : ℕ) → s < n → (nat_lt s n && nat_le (length b) LARGEST_DATAGRAM) ≡ true
-  by n h = grind (arith, nat_tests, short)
+      by : (n : ℕ) → s < n → (nat_lt s n && nat_le (length b) LARGEST_DATAGRAM) ≡ true
+      by n h = grind (arith, nat_tests, short)
 
-turn_refused : (s now : ℕ) (b : List ℕ) (fault : WriterFault) (n m : Node) (first w new : WriterState) → s < length first.setting.stations → w.setting ≡ first.setting
+turn_refused : (s now : ℕ) (b : List ℕ) (fault : WriterFault) (n m : Node) (first w new : WriterState) → s < length first.setting.stations
+    → w.setting ≡ first.setting
     → is_short b ≡ true → FailsTurn WritesOne WritesNone s now b (turn_faults.Record fault) w new n m → IsRightRefusal fault w new
 turn_refused s now b fault n m first w new within same short (inl u) =
     right_refusal w new (Received s now b) fault (good_came s now b w.setting first.setting within same short) u.refused
@@ -63,7 +67,8 @@ issue_refused s now order old new (Err (issue_faults.Order fault)) within ends =
 issue_refused s now order old new (Err issue_faults.Send) within ends = tt
 issue_refused s now order old new (Err (issue_faults.Record fault)) within ends =
     (let text = pdu_text (next_order old.node.manager now order) in
-    right_refusal old.recorder new.recorder (Sent s now text) fault (good_text s now text old.recorder.setting old.recorder.setting within refl ends.size) ends.left.refused)
+    right_refusal old.recorder new.recorder (Sent s now text) fault (good_text s now text old.recorder.setting old.recorder.setting within refl
+    ends.size) ends.left.refused)
 issue_refused s now order old new (Err issue_faults.Memory) within ends = tt
 
 pub nudge_refused : (s now : ℕ) (old new : State) (result : Result Bool IssueFault) → s < length old.recorder.setting.stations

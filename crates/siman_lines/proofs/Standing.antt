@@ -1,7 +1,6 @@
 -- How the halves of a station go on.
-use Rattle.std.proofs.Common.{◌≡◌, ℕ, ◌+◌, ◌<◌, ◌≤◌, ◌^◌, List, [], ◌∷◌, length, refl, ap, sym, ◌∙◌, subst, ◌⊎◌, inl, inr}
-use Rattle.std.specs.Prelude.{Bool, true, false, ◌||◌, Option, Some, None, IfSome, is_some, option_map}
-use Rattle.std.specs.List.{AllByRecursion}
+use Rattle.std.proofs.Common.{◌≡◌, ℕ, ◌<◌, ◌≤◌, ◌^◌, List, [], ◌∷◌, length, refl, ap, sym, ◌∙◌, subst, inl, inr}
+use Rattle.std.specs.Prelude.{Bool, true, false, ◌||◌, Option, Some, None, is_some, option_map}
 use Rattle.std.proofs.lemmas.Bool.{and_parts}
 use Rattle.dis_records.specs.declared.header.TheConstants.{LARGEST_DATAGRAM}
 use Rattle.dis_records.specs.Address.{Pair}
@@ -15,11 +14,11 @@ use Rattle.siman_pdus.proofs.Offered.{text_is_read, zero_is_carried, read_in_ran
 use Rattle.exercise_model.specs.Exchange.{is_answer_body}
 use Rattle.exercise_model.specs.History.{History, Send, Get}
 use Rattle.siman_application.specs.Answer.{answer}
-use Rattle.siman_application.specs.Distinct.{with_request, distinct}
+use Rattle.siman_application.specs.Distinct.{with_request}
 use Rattle.siman_application.specs.Outfit.{Outfit}
-use Rattle.siman_application.specs.OwnLog.{Turn, Tells, Orders, Passes, Takes, Loses, taken_in, sent_after, log_in, AreTurns, IsRead, IsOrder, IsOwnLog, MissNone}
+use Rattle.siman_application.specs.OwnLog.{Turn, Tells, Orders, Passes, Takes, Loses, taken_in, sent_after, AreTurns, IsRead, IsOrder, IsOwnLog, MissNone}
 use Rattle.siman_application.specs.Play.{reply, reply_after}
-use Rattle.siman_application.proofs.Offered.{Each, is_answer, reply_answers, reply_in_range, reply_is_short, taken_in_range}
+use Rattle.siman_application.proofs.Offered.{is_answer, reply_answers, reply_in_range, reply_is_short, taken_in_range}
 use Rattle.siman_manager.specs.declared.kept.KeptOrder.{KeptOrder}
 use Rattle.siman_manager.specs.declared.order.Order.{Order}
 use Rattle.siman_manager.specs.declared.settings.Settings.{Settings}
@@ -29,12 +28,12 @@ use Rattle.siman_manager.specs.Calls.{Call, Requested, Came, Ticked, kept, Life,
 use Rattle.siman_manager.proofs.Offered.{counts}
 use Rattle.exercise_model.specs.Place.{first_below}
 use Rattle.siman_worlds.specs.Acts.{next_repeat}
-use Rattle.siman_worlds.specs.Orders.{IsFit, AreFit, IsOfLife, IsKept, AreKept}
+use Rattle.siman_worlds.specs.Orders.{AreFit, IsOfLife, AreKept}
 use Rattle.siman_worlds.specs.Turn.{stamp_of}
-use Rattle.siman_worlds.specs.World.{WorldData, Course, outfit_of, settings_of, ready_after}
+use Rattle.siman_worlds.specs.World.{WorldData, Course, settings_of, ready_after}
 use Rattle.siman_worlds.specs.WorldLaw.{IsOrderInRange}
 use Rattle.siman_worlds.proofs.Offered.{stamp_within, fit_requests, made_stands, of_place, some_of, IsOwnOrder, repeat_own, matched_answers, of_life_on, kept_on, made_life, repeated_life, sent_kept, answer_kept, repeat_told}
-use Rattle.siman_lines.specs.Kept.{came_in, heard_in, Stand}
+use Rattle.siman_lines.specs.Kept.{came_in, Stand}
 
 -- Turns.
 
@@ -52,14 +51,17 @@ pub reply_answering : (a : Outfit) (qs : List Pdu) (q p : Pdu) (stamp : ℕ) →
 reply_answering a qs q p stamp e =
     some_of (λ r. is_answer_body r.body ≡ true) (reply a qs q stamp) p e
     (reply_answers (λ r. is_answer_body r.body ≡ true) a qs q stamp
-    (λ k d mine. let is = is_answer a k d stamp mine in matched_answers _ (body_kind d.body) (and_parts (matches_kind _ (body_kind d.body)) _ is.answers).0))
+    (λ k d mine. let is = is_answer a k d stamp mine in matched_answers _ (body_kind d.body) (and_parts (matches_kind _ (body_kind d.body)) _
+    is.answers).0))
 
 -- and its text is read as it
-reply_read : (a : Outfit) (s : ℕ) (ts : List Turn) (log : History) (q p : Pdu) (stamp : ℕ) → IsOwnLog a s ts log (taken_in ts) → IsInRange q → stamp < 2 ^ 32
+reply_read : (a : Outfit) (s : ℕ) (ts : List Turn) (log : History) (q p : Pdu) (stamp : ℕ) → IsOwnLog a s ts log (taken_in ts) → IsInRange q
+    → stamp < 2 ^ 32
     → reply a (taken_in ts) q stamp ≡ Some p → reading (pdu_text p) ≡ Some p
 reply_read a s ts log q p stamp own range h e =
     text_is_read p
-    (some_of IsInRange (reply a (taken_in ts) q stamp) p e (reply_in_range a (taken_in ts) q stamp own.outfit (taken_in_range a false ts own.turns) range h))
+    (some_of IsInRange (reply a (taken_in ts) q stamp) p e (reply_in_range a (taken_in ts) q stamp own.outfit (taken_in_range a false ts own.turns)
+    range h))
     (some_of HasCarriedStatus (reply a (taken_in ts) q stamp) p e
     (reply_answers HasCarriedStatus a (taken_in ts) q stamp (λ k d mine. zero_is_carried (answer a k d stamp) (is_answer a k d stamp mine).status)))
     (some_of (λ r. pdu_size r ≤ LARGEST_DATAGRAM) (reply a (taken_in ts) q stamp) p e (reply_is_short a (taken_in ts) q stamp))
@@ -72,7 +74,8 @@ reply_kept st calls a s ts log b q stamp own range h kept (Some p) e =
     (answer_kept st calls a.exercise p (reply_read a s ts log q p stamp own range h e) (reply_answering a (taken_in ts) q p stamp e), (tt, kept))
 
 -- A DATAGRAM is taken by both halves, and the reply that is due is sent
-pub stand_takes : (s : ℕ) (a : Outfit) (ds : List Pdu) (k : Book) (log : History) (closed : Type 0) (b : List ℕ) (q : Pdu) (stamp : ℕ) → (is : Stand s a ds k log closed)
+pub stand_takes : (s : ℕ) (a : Outfit) (ds : List Pdu) (k : Book) (log : History) (closed : Type 0) (b : List ℕ) (q : Pdu) (stamp : ℕ)
+    → (is : Stand s a ds k log closed)
     → MissNone is.turns → IsRead b q → stamp < 2 ^ 32
     → Stand s a (with_request a ds q) (taken k q) (sent_after s (reply_after a ds q stamp) (Get s b ∷ log)) closed
 stand_takes s a ds k log closed b q stamp is none read h = record {
@@ -117,15 +120,23 @@ stand_passes s a ds k log closed b is = record {
 }
 
 -- A DATAGRAM is taken by the application half, and the reply that is due is not written
-pub stand_loses : (s : ℕ) (a : Outfit) (ds : List Pdu) (k : Book) (log : History) (closed shut : Type 0) (b : List ℕ) (q : Pdu) (stamp : ℕ) → (is : Stand s a ds k log closed)
-    → MissNone is.turns → IsRead b q → stamp < 2 ^ 32 → is_some (reply_after a ds q stamp) ≡ true → shut → Stand s a (with_request a ds q) k (Get s b ∷ log) shut
+pub stand_loses : (s : ℕ) (a : Outfit) (ds : List Pdu) (k : Book) (log : History) (closed shut : Type 0) (b : List ℕ) (q : Pdu) (stamp : ℕ)
+    → (is : Stand s a ds k log closed)
+    → MissNone is.turns → IsRead b q → stamp < 2 ^ 32 → is_some (reply_after a ds q stamp) ≡ true → shut
+    → Stand s a (with_request a ds q) k (Get s b ∷ log) shut
 stand_loses s a ds k log closed shut b q stamp is none read h due ends = record {
   turns = Loses b q stamp ∷ is.turns;
   calls = is.calls;
   own_log = record {
     outfit = is.own_log.outfit;
-    turns =
-        (read, h, ap (λ (d : List Pdu). is_some (reply_after a d q stamp)) (sym is.application) ∙ due, refl, any_later a false true is.turns none is.own_log.turns);
+    turns = (
+      read,
+      h,
+      ap (λ (d : List Pdu). is_some (reply_after a d q stamp)) (sym is.application) ∙ due,
+      refl,
+      any_later a false true is.turns none
+          is.own_log.turns,
+    );
     log_is = ap (λ (l : History). Get s b ∷ l) is.own_log.log_is;
     taken_is = refl;
   };
@@ -163,7 +174,8 @@ stand_call s a ds k new log closed call is goes = record {
 }
 
 -- an order is sent
-stand_send : (s : ℕ) (a : Outfit) (ds : List Pdu) (k new : Book) (log : History) (closed : Type 0) (call : Call) (p : Pdu) → (is : Stand s a ds k log closed)
+stand_send : (s : ℕ) (a : Outfit) (ds : List Pdu) (k new : Book) (log : History) (closed : Type 0) (call : Call) (p : Pdu)
+    → (is : Stand s a ds k log closed)
     → Goes k is.calls call new → IsOrder a p → HasCarriedStatus p → IsOfLife k.settings (call ∷ is.calls) p → Stand s a ds new (Send s (pdu_text p) ∷ log) closed
 stand_send s a ds k new log closed call p is goes order status of = record {
   turns = Orders p ∷ is.turns;
@@ -179,16 +191,24 @@ stand_send s a ds k new log closed call p is goes order status of = record {
   manager = goes.orders ∙ ap (λ (st : Settings). kept st (call ∷ is.calls)) (sym goes.settings);
   fit = goes.fit;
   heard = goes.none ∙ is.heard;
-  ordered = subst (λ (st : Settings). AreKept st (call ∷ is.calls) a.exercise (Send s (pdu_text p) ∷ log)) (sym goes.settings)
-      (sent_kept k.settings (call ∷ is.calls) a.exercise p (text_is_read p order.ranges status order.size) of,
-      kept_on k.settings is.calls call a.exercise log is.ordered);
+  ordered = subst (λ (st : Settings). AreKept st (call ∷ is.calls) a.exercise (Send s (pdu_text p) ∷ log)) (sym goes.settings) (
+    sent_kept k.settings (call ∷ is.calls) a.exercise p (text_is_read p order.ranges status order.size) of,
+    kept_on k.settings is.calls call a.exercise log is.ordered,
+  );
 }
 
 -- the settings of a manager half, by its exercise and address
 settings_same : (st : Settings) (x : ℕ) (at : Pair) → st.exercise ≡ x → st.address ≡ at
     → record { exercise = x; address = at; first_id = st.first_id; tries = st.tries; wait = st.wait } ≡ st
 settings_same st x at e f =
-    sym (ap (λ (n : ℕ). record st { exercise = n }) e ∙ ap (λ (d : Pair). record { exercise = x; address = d; first_id = st.first_id; tries = st.tries; wait = st.wait }) f)
+    sym (ap (λ (n : ℕ). record st { exercise = n }) e ∙ ap (λ (d : Pair). record {
+      exercise = x;
+      address = d;
+      first_id = st.first_id;
+      tries =
+          st.tries;
+      wait = st.wait;
+    }) f)
 
 -- a world of this station alone
 abbrev pub one_world : Outfit → Settings → WorldData
@@ -213,31 +233,44 @@ goes_order k calls order now are fit request none range = record {
 count_is : (k : Book) (calls : List Call) → k.orders ≡ kept k.settings calls → length k.orders ≡ count_made k.settings calls
 count_is k calls are = ap length are ∙ counts k.settings calls
 
-pub stand_orders : (s : ℕ) (a : Outfit) (ds : List Pdu) (k : Book) (log : History) (closed : Type 0) (order : Order) (now : ℕ) → Stand s a ds k log closed
+pub stand_orders : (s : ℕ) (a : Outfit) (ds : List Pdu) (k : Book) (log : History) (closed : Type 0) (order : Order) (now : ℕ)
+    → Stand s a ds k log closed
     → k.settings.exercise ≡ a.exercise → k.settings.address ≡ a.station.address
     → is_request_body order.body ≡ true → refusal_of k order (stamp_of now) ≡ None → IsOrderInRange order
     → Stand s a ds (with_orders k (with_order k.settings order now (stamp_of now) k.orders))
     (Send s (pdu_text (order_pdu k.settings (next_id k.settings (length k.orders)) order (stamp_of now))) ∷ log) closed
 stand_orders s a ds k log closed order now is x at request none range =
-    stand_send s a ds k _ log closed (Requested order now (stamp_of now)) p is (goes_order k is.calls order now is.manager is.fit request none range) own refl of where
-  n : ℕ
-  n = length k.orders
-  p : Pdu
-  p = order_pdu k.settings (next_id k.settings n) order (stamp_of now)
-  same : settings_of (one_world a k.settings) 0 ≡ k.settings
-  same = settings_same k.settings a.exercise a.station.address x at
-  own : IsOrder a p
-  own = subst (λ (st : Settings). IsOrder a (order_pdu st (next_id st n) order (stamp_of now))) same
-      (made_stands (one_world a k.settings) 0 is.own_log.outfit n order (stamp_of now) (record { request = request; range = range; stamp_is = stamp_within now })
-      (subst (λ (st : Settings). refusal st n order (stamp_of now) ≡ None) (sym same) none))
-  of : IsOfLife k.settings (Requested order now (stamp_of now) ∷ is.calls) p
-  of = subst (λ (m : ℕ). IsOfLife k.settings (Requested order now (stamp_of now) ∷ is.calls) (order_pdu k.settings (next_id k.settings m) order (stamp_of now)))
-      (sym (count_is k is.calls is.manager))
-      (made_life k.settings is.calls order now (stamp_of now)
-      (subst (λ (m : ℕ). refusal k.settings m order (stamp_of now) ≡ None) (count_is k is.calls is.manager) none))
+    stand_send s a ds k _ log closed (Requested order now (stamp_of now)) p is (goes_order k is.calls order now is.manager is.fit request none range)
+    own refl of where
+      n : ℕ
+      n = length k.orders
+
+      p : Pdu
+      p = order_pdu k.settings (next_id k.settings n) order (stamp_of now)
+
+      same : settings_of (one_world a k.settings) 0 ≡ k.settings
+      same = settings_same k.settings a.exercise a.station.address x at
+
+      own : IsOrder a p
+      own = subst (λ (st : Settings). IsOrder a (order_pdu st (next_id st n) order (stamp_of now))) same
+          (made_stands (one_world a k.settings) 0 is.own_log.outfit n order (stamp_of now) (record {
+            request = request;
+            range = range;
+            stamp_is =
+                stamp_within now;
+          })
+          (subst (λ (st : Settings). refusal st n order (stamp_of now) ≡ None) (sym same) none))
+
+      of : IsOfLife k.settings (Requested order now (stamp_of now) ∷ is.calls) p
+      of = subst (λ (m : ℕ). IsOfLife k.settings (Requested order now (stamp_of now) ∷ is.calls) (order_pdu k.settings (next_id k.settings m) order
+          (stamp_of now)))
+          (sym (count_is k is.calls is.manager))
+          (made_life k.settings is.calls order now (stamp_of now)
+          (subst (λ (m : ℕ). refusal k.settings m order (stamp_of now) ≡ None) (count_is k is.calls is.manager) none))
 
 -- it is made and not written
-pub stand_withholds : (s : ℕ) (a : Outfit) (ds : List Pdu) (k : Book) (log : History) (closed : Type 0) (order : Order) (now : ℕ) → Stand s a ds k log closed
+pub stand_withholds : (s : ℕ) (a : Outfit) (ds : List Pdu) (k : Book) (log : History) (closed : Type 0) (order : Order) (now : ℕ)
+    → Stand s a ds k log closed
     → is_request_body order.body ≡ true → refusal_of k order (stamp_of now) ≡ None → IsOrderInRange order
     → Stand s a ds (with_orders k (with_order k.settings order now (stamp_of now) k.orders)) log closed
 stand_withholds s a ds k log closed order now is request none range =
@@ -245,7 +278,8 @@ stand_withholds s a ds k log closed order now is request none range =
 
 -- Repeats.
 
-goes_tick : (k : Book) (calls : List Call) (now : ℕ) → k.orders ≡ kept k.settings calls → AreFit calls → Goes k calls (Ticked now (stamp_of now)) (ticked k now (stamp_of now))
+goes_tick : (k : Book) (calls : List Call) (now : ℕ) → k.orders ≡ kept k.settings calls → AreFit calls
+    → Goes k calls (Ticked now (stamp_of now)) (ticked k now (stamp_of now))
 goes_tick k calls now are fit = record {
   settings = refl;
   orders = ap (λ (os : List KeptOrder). (ticked (record { settings = k.settings; orders = os }) now (stamp_of now)).orders) are;
@@ -265,18 +299,24 @@ pub stand_repeats : (s : ℕ) (a : Outfit) (ds : List Pdu) (k : Book) (log : His
     → k.settings.exercise ≡ a.exercise → k.settings.address ≡ a.station.address → next_repeat k now ≡ Some p
     → Stand s a ds (ticked k now (stamp_of now)) (Send s (pdu_text p) ∷ log) closed
 stand_repeats s a ds k log closed now p is x at due =
-    stand_send s a ds k _ log closed (Ticked now (stamp_of now)) p is (goes_tick k is.calls now is.manager is.fit) own.order (zero_is_carried p own.status) of where
-  same : settings_of (one_world a k.settings) 0 ≡ k.settings
-  same = settings_same k.settings a.exercise a.station.address x at
-  told : option_map (λ (l : Life). with_stamp (stamp_of now) l.order) (ready_after k.settings is.calls now) ≡ Some p
-  told = repeat_by k.settings is.calls now p is.fit (ap (λ (os : List KeptOrder). repeated k.settings now (stamp_of now) os) (sym is.manager) ∙ due)
-  course : Course
-  course = record { entries = []; came = λ t. []; calls = λ t. is.calls }
-  own : IsOwnOrder (one_world a k.settings) 0 p
-  own = repeat_own (one_world a k.settings) course 0 now p is.own_log.outfit is.fit
-      (subst (λ (st : Settings). option_map (λ (l : Life). with_stamp (stamp_of now) l.order) (ready_after st is.calls now) ≡ Some p) (sym same) told)
-  of : IsOfLife k.settings (Ticked now (stamp_of now) ∷ is.calls) p
-  of = of_life_on k.settings is.calls (Ticked now (stamp_of now)) p
-      (repeated_life k.settings is.calls (stamp_of now) p
-      (of_place k.settings is.calls (stamp_of now) p
-      (first_below (λ i. passes (is_ready_at k.settings now) (life k.settings is.calls i)) (count_made k.settings is.calls)) told))
+    stand_send s a ds k _ log closed (Ticked now (stamp_of now)) p is (goes_tick k is.calls now is.manager is.fit) own.order
+    (zero_is_carried p own.status) of where
+      same : settings_of (one_world a k.settings) 0 ≡ k.settings
+      same = settings_same k.settings a.exercise a.station.address x at
+
+      told : option_map (λ (l : Life). with_stamp (stamp_of now) l.order) (ready_after k.settings is.calls now) ≡ Some p
+      told = repeat_by k.settings is.calls now p is.fit (ap (λ (os : List KeptOrder). repeated k.settings now (stamp_of now) os) (sym is.manager) ∙ due)
+
+      course : Course
+      course = record { entries = []; came = λ t. []; calls = λ t. is.calls }
+
+      own : IsOwnOrder (one_world a k.settings) 0 p
+      own = repeat_own (one_world a k.settings) course 0 now p is.own_log.outfit is.fit
+          (subst (λ (st : Settings). option_map (λ (l : Life). with_stamp (stamp_of now) l.order) (ready_after st is.calls now) ≡ Some p) (sym same)
+          told)
+
+      of : IsOfLife k.settings (Ticked now (stamp_of now) ∷ is.calls) p
+      of = of_life_on k.settings is.calls (Ticked now (stamp_of now)) p
+          (repeated_life k.settings is.calls (stamp_of now) p
+          (of_place k.settings is.calls (stamp_of now) p
+          (first_below (λ i. passes (is_ready_at k.settings now) (life k.settings is.calls i)) (count_made k.settings is.calls)) told))

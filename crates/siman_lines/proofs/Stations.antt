@@ -1,5 +1,5 @@
 -- Stations over one recorder, as they are begun and after calls.
-use Rattle.std.proofs.Common.{◌≡◌, ℕ, ◌<◌, ◌≤◌, List, [], ◌∷◌, ◌++◌, length, take, refl, ap, sym, ◌∙◌, subst, ◌⊎◌, inl, inr, arith, append_assoc, append-nil, length-append}
+use Rattle.std.proofs.Common.{◌≡◌, ℕ, List, [], ◌∷◌, ◌++◌, length, take, refl, ap, sym, ◌∙◌, subst, ◌⊎◌, inl, inr, arith, append_assoc, append-nil}
 use Rattle.std.specs.Prelude.{Bool, true, false, ◌==◌, Option, Some, None}
 use Rattle.std.specs.List.{AllByRecursion, flat_map}
 use Rattle.std.specs.Io.KnownBytes.{Appends}
@@ -8,12 +8,11 @@ use Rattle.std.proofs.lemmas.List.Concat.{flat_map-append}
 use Rattle.std.proofs.lemmas.List.{take-append-drop}
 use Rattle.std.specs.Prelude.{drop}
 use Rattle.siman_pdus.specs.declared.pdu.Pdu.{Pdu}
-use Rattle.exercise_model.specs.declared.recording.TheConstants.{MOST_ENTRIES}
 use Rattle.exercise_model.specs.Entry.{Entry}
 use Rattle.exercise_model.specs.History.{History, past, log_at}
-use Rattle.exercise_model.specs.Recording.{PlainRecording, IsRecording}
+use Rattle.exercise_model.specs.Recording.{IsRecording}
 use Rattle.exercise_model.specs.Setting.{SettingData, IsSetting}
-use Rattle.exercise_recording.specs.Text.{head_text, entry_text, end_text, recording_text}
+use Rattle.exercise_recording.specs.Text.{head_text, entry_text, end_text}
 use Rattle.exercise_recording.specs.Writer.{WriterState, Starts}
 use Rattle.siman_application.specs.Outfit.{Outfit}
 use Rattle.siman_application.specs.Kept.{requests}
@@ -22,14 +21,15 @@ use Rattle.siman_application.specs.Standing.{came}
 use Rattle.siman_manager.specs.Book.{Book}
 use Rattle.siman_worlds.specs.declared.turn.Node.{Node}
 use Rattle.siman_lines.specs.Told.{Datagrams}
-use Rattle.siman_lines.specs.Kept.{IsTail, IsWritten, IsClosed, AreHanded, Stand, IsOfStation, IsKept, AreOf, KeepsOn, Keeps}
+use Rattle.siman_lines.specs.Kept.{IsTail, IsWritten, IsClosed, AreHanded, Stand, IsOfStation, IsKept, AreOf, KeepsOn}
 use Rattle.siman_lines.specs.Calls.{IsUnused, IsFresh, Stations, HasStation, IsCall, AreCalls, AreKept, IsBeginningOf}
 use Rattle.siman_lines.proofs.Hearing.{log_other, stand_closed}
 use Rattle.siman_lines.proofs.Keeping.{handed_more}
 
 -- Beginnings.
 
-pub started : (before : Option (List ℕ)) (w : SettingData) (recorder : WriterState) → IsSetting w → Starts before w recorder → IsWritten before recorder []
+pub started : (before : Option (List ℕ)) (w : SettingData) (recorder : WriterState) → IsSetting w → Starts before w recorder
+    → IsWritten before recorder []
 started before w recorder is starts = record {
   torn = [];
   contents = subst (Appends before recorder.contents) text starts.contents;
@@ -40,6 +40,7 @@ started before w recorder is starts = record {
 } where
   text : head_text w ≡ head_text recorder.setting ++ flat_map entry_text [] ++ []
   text = ap head_text (sym starts.setting) ∙ sym (append-nil (head_text recorder.setting ++ []) ∙ append-nil (head_text recorder.setting))
+
   whole : (spent : Bool) → spent ≡ false → IsTail spent recorder.setting [] []
   whole false e = refl
   whole true e = absurd cc
@@ -52,7 +53,8 @@ no_past : (s : ℕ) → log_at s (past []) ≡ []
 unfolding log_at past
 no_past s = refl
 
-stand_fresh : (s : ℕ) (a : Outfit) (k : Book) (closed : Type 0) (ds : List Pdu) → ds ≡ [] → k.orders ≡ [] → IsOutfitInRange a → Stand s a ds k [] closed
+stand_fresh : (s : ℕ) (a : Outfit) (k : Book) (closed : Type 0) (ds : List Pdu) → ds ≡ [] → k.orders ≡ [] → IsOutfitInRange a
+    → Stand s a ds k [] closed
 stand_fresh s a k closed ds none orders own = record {
   turns = [];
   calls = [];
@@ -65,7 +67,8 @@ stand_fresh s a k closed ds none orders own = record {
   ordered = tt;
 }
 
-pub fresh : (s : ℕ) (n : Node) (recorder : WriterState) (handed : Option Datagrams) → IsFresh s n recorder.setting handed → IsKept s n recorder [] handed
+pub fresh : (s : ℕ) (n : Node) (recorder : WriterState) (handed : Option Datagrams) → IsFresh s n recorder.setting handed
+    → IsKept s n recorder [] handed
 fresh s n recorder handed is = record {
   station = is.station;
   halves = subst (λ (log : History). Stand s n.application.outfit (came n.application) n.manager log (IsClosed recorder)) (sym (no_past s))
@@ -79,7 +82,8 @@ apart_test : (s t : ℕ) → (s ≡ t → ⊥) → (s == t) ≡ false
 apart_test s t h = grind (arith, nat_tests)
 
 -- what is kept of another station
-stays : (s t : ℕ) (n : Node) (w new : WriterState) (es more : List Entry) (handed : Option Datagrams) → (s ≡ t → ⊥) → AreOf s more → new.setting ≡ w.setting
+stays : (s t : ℕ) (n : Node) (w new : WriterState) (es more : List Entry) (handed : Option Datagrams) → (s ≡ t → ⊥) → AreOf s more
+    → new.setting ≡ w.setting
     → (IsClosed w → IsClosed new) → IsKept t n w es handed → IsKept t n new (es ++ more) handed
 stays s t n w new es more handed apart own setting closed is = record {
   station = subst (IsOfStation t n) (sym setting) is.station;
@@ -114,16 +118,21 @@ each_call before s old new es call on (t ∷ ts) all = (by (same_or_apart s t), 
       (subst (λ (o : Option Datagrams). IsKept t (old.node t) new.recorder (es ++ on.more) o) (sym (call.lines t apart))
       (stays s t (old.node t) old.recorder new.recorder es on.more (old.handed t) apart on.own on.setting on.closed all.0))
 
-pub one_call : (before : Option (List ℕ)) (stations : List ℕ) (s : ℕ) (old new : Stations) (es : List Entry) → HasStation s stations → AreKept before stations old es
+pub one_call : (before : Option (List ℕ)) (stations : List ℕ) (s : ℕ) (old new : Stations) (es : List Entry) → HasStation s stations
+    → AreKept before stations old es
     → IsCall s old new → (more : List Entry) × AreKept before stations new (es ++ more)
 one_call before stations s old new es has is call =
     let on = call.keeps before es is.written (found before old es s stations has is.kept) in
     (on.more, record { written = on.written; kept = each_call before s old new es call on stations is.kept })
 
-pub all_calls : (before : Option (List ℕ)) (stations calls : List ℕ) (old new : Stations) (es : List Entry) → AllByRecursion (λ s. HasStation s stations) calls
+pub all_calls : (before : Option (List ℕ)) (stations calls : List ℕ) (old new : Stations) (es : List Entry)
+    → AllByRecursion (λ s. HasStation s stations) calls
     → AreKept before stations old es → AreCalls calls old new → (more : List Entry) × AreKept before stations new (es ++ more)
-all_calls before stations [] old new es has is are =
-    ([], subst (λ (l : List Entry). AreKept before stations new l) (sym (append-nil es)) (subst (λ (x : Stations). AreKept before stations x es) (sym are) is))
+all_calls before stations [] old new es has is are = (
+  [],
+  subst (λ (l : List Entry). AreKept before stations new l) (sym (append-nil es)) (subst (λ (x : Stations). AreKept before stations x es) (sym
+      are) is),
+)
 all_calls before stations (s ∷ ss) old new es has is are =
     let one = one_call before stations s old are.0 es has.0 is are.1 in
     let rest = all_calls before stations ss are.0 new (es ++ one.0) has.1 one.1 are.2 in
@@ -139,6 +148,7 @@ pub beginning : (before : List ℕ) (w : WriterState) (es : List Entry) → IsWr
 beginning before w es is = by w.spent refl is.tail where
   head : List ℕ
   head = head_text w.setting ++ flat_map entry_text es
+
   by : (spent : Bool) → w.spent ≡ spent → IsTail spent w.setting es is.torn → IsBeginningOf before w es
   by false e tail = record {
     recording = record { setting = w.setting; entries = es };

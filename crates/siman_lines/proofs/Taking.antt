@@ -1,5 +1,5 @@
 -- What a station makes of the datagrams that it takes, one after the other.
-use Rattle.std.proofs.Common.{◌≡◌, ℕ, List, [], ◌∷◌, ◌++◌, Option, Some, None, refl, sym, ap, subst, ◌∙◌}
+use Rattle.std.proofs.Common.{◌≡◌, ℕ, List, [], ◌∷◌, ◌++◌, Option, Some, None, refl, ap, subst, ◌∙◌}
 use Rattle.siman_pdus.specs.declared.pdu.Pdu.{Pdu}
 use Rattle.siman_pdus.specs.Reading.{reading}
 use Rattle.exercise_model.specs.Entry.{Entry, Received}
@@ -11,7 +11,7 @@ use Rattle.siman_worlds.specs.declared.turn.Node.{Node}
 use Rattle.siman_worlds.specs.Recording.{WritesOne}
 use Rattle.siman_worlds.specs.Turn.{stamp_of, sent_as, reply_due, turn_entries, RecordsAll, TakesBoth}
 use Rattle.siman_lines.specs.Told.{Datagrams}
-use Rattle.siman_lines.specs.Serving.{came_with, came_after, taken_with, book_after, reply_with, reply_at, entries_after, text_of, texts_by, HasTaken}
+use Rattle.siman_lines.specs.Serving.{came_with, taken_with, reply_with, reply_at, entries_after, HasTaken}
 
 -- Entries are recorded one after the other.
 
@@ -37,7 +37,8 @@ pub takes_outfit : (o : Option Pdu) (old new : Node) → TakesBoth o old new →
 takes_outfit None old new t = ap (λ (n : Node). n.application.outfit) t
 takes_outfit (Some q) old new t = t.0.outfit
 
-pub takes_came : (o : Option Pdu) (old new : Node) → TakesBoth o old new → came new.application ≡ came_with old.application.outfit (came old.application) o
+pub takes_came : (o : Option Pdu) (old new : Node) → TakesBoth o old new
+    → came new.application ≡ came_with old.application.outfit (came old.application) o
 takes_came None old new t = ap (λ (n : Node). came n.application) t
 takes_came (Some q) old new t = t.0.came_is
 
@@ -61,8 +62,10 @@ pub taken_none : (s now : ℕ) (n : Node) (w : WriterState) → HasTaken s now [
 taken_none s now n w = record { outfit = refl; came_is = refl; manager = refl; entries = refl }
 
 -- ONE MORE DATAGRAM is taken
-pub taken_on : (s now : ℕ) (bs : Datagrams) (b : List ℕ) (before mid after : Node) (old writer new : WriterState) → HasTaken s now bs before mid old writer
-    → RecordsAll WritesOne (turn_entries mid.application s now b) writer new → TakesBoth (reading b) mid after → HasTaken s now (b ∷ bs) before after old new
+pub taken_on : (s now : ℕ) (bs : Datagrams) (b : List ℕ) (before mid after : Node) (old writer new : WriterState)
+    → HasTaken s now bs before mid old writer
+    → RecordsAll WritesOne (turn_entries mid.application s now b) writer new → TakesBoth (reading b) mid after
+    → HasTaken s now (b ∷ bs) before after old new
 taken_on s now bs b before mid after old writer new t entries halves = record {
   outfit = takes_outfit (reading b) mid after halves ∙ t.outfit;
   came_is = takes_came (reading b) mid after halves
@@ -70,5 +73,6 @@ taken_on s now bs b before mid after old writer new t entries halves = record {
       ∙ ap (λ (ds : List Pdu). came_with before.application.outfit ds (reading b)) t.came_is);
   manager = takes_book (reading b) mid after halves ∙ ap (λ (k : Book). taken_with k (reading b)) t.manager;
   entries = records_on WritesOne (entries_after before.application.outfit (came before.application) s now bs) _ old writer new t.entries
-      (subst (λ (o : Option Pdu). RecordsAll WritesOne (Received s now b ∷ sent_as s now o) writer new) (reply_told s now bs b before mid old writer t) entries);
+      (subst (λ (o : Option Pdu). RecordsAll WritesOne (Received s now b ∷ sent_as s now o) writer new) (reply_told s now bs b before mid old writer
+      t) entries);
 }

@@ -1,12 +1,12 @@
 -- What lists of calls over one recorder come to: stations that each serve a line of their own, and issue and repeat orders (profile). Histories have THE LAST EVENT FIRST.
-use Rattle.std.specs.Prelude.{◌≡◌, ◌≤◌, ◌<◌, ℕ, List, [], ◌∷◌, ◌++◌, length, true, slice_get, Option, Some, None, ◌⊎◌}
+use Rattle.std.specs.Prelude.{◌≡◌, ◌≤◌, ℕ, List, [], ◌∷◌, ◌++◌, length, true, slice_get, Option, Some, None, ◌⊎◌}
 use Rattle.std.specs.List.{AllByRecursion}
 use Rattle.siman_pdus.specs.declared.pdu.Pdu.{Pdu}
 use Rattle.siman_pdus.specs.Role.{is_request_body}
 use Rattle.siman_pdus.specs.Same.{IsSameOrder}
 use Rattle.exercise_model.specs.Cause.{send_cause, was_sent, IsAllowed}
 use Rattle.exercise_model.specs.Entry.{Entry}
-use Rattle.exercise_model.specs.History.{History, Event, Send, Get, Tell, station_of}
+use Rattle.exercise_model.specs.History.{History, Send, Get, Tell}
 use Rattle.exercise_model.specs.Meaning.{meaning}
 use Rattle.exercise_model.specs.Recording.{PlainRecording, IsRecording}
 use Rattle.exercise_model.specs.Setting.{SettingData, is_from}
@@ -14,7 +14,6 @@ use Rattle.exercise_model.specs.Station.{StationData}
 use Rattle.exercise_recording.specs.Text.{recording_text}
 use Rattle.exercise_recording.specs.Writer.{WriterState}
 use Rattle.siman_application.specs.Ranges.{IsOutfitInRange}
-use Rattle.siman_application.specs.Standing.{came}
 use Rattle.siman_manager.specs.declared.kept.KeptOrder.{KeptOrder}
 use Rattle.siman_manager.specs.Book.{Book}
 use Rattle.siman_worlds.specs.declared.turn.Node.{Node}

@@ -1,5 +1,5 @@
 -- WHAT IS KEPT of a station over its line, its recorder and its halves (profile). Histories, turns and calls have THE LAST ONE FIRST.
-use Rattle.std.specs.Prelude.{◌≡◌, ◌≤◌, ◌<◌, ℕ, List, [], ◌∷◌, ◌++◌, take, length, Bool, true, false, Option, Some, None, Result, Ok, Err, ◌⊎◌}
+use Rattle.std.specs.Prelude.{◌≡◌, ◌≤◌, ◌<◌, ℕ, List, [], ◌∷◌, ◌++◌, take, length, Bool, true, false, Option, Some, None, Result, Err, ◌⊎◌}
 use Rattle.std.specs.Io.KnownBytes.{Appends}
 use Rattle.std.specs.List.{AllByRecursion, flat_map}
 use Rattle.exercise_model.specs.declared.recording.TheConstants.{MOST_ENTRIES}

@@ -1,4 +1,4 @@
-use Rattle.std.proofs.Common.{◌≡◌, ◌+◌, ◌<◌, Vec, get_or, length, arith}
+use Rattle.std.proofs.Common.{arith}
 use Rattle.std.proofs.lemmas.Grind.{common_steps}
 use Rattle.siman_lines.proofs.Handing.{map-take_more}
 use Rattle.siman_lines.proofs.memory.MemoryLineLine.receive.Goals as goal

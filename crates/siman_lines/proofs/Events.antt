@@ -10,8 +10,8 @@ use Rattle.siman_pdus.specs.declared.pdu.Pdu.{Pdu}
 use Rattle.siman_pdus.specs.Ranges.{IsInRange}
 use Rattle.siman_pdus.specs.Reading.{reading}
 use Rattle.siman_pdus.specs.Role.{is_request_body}
-use Rattle.siman_pdus.specs.Spelling.{pdu_size, pdu_text}
-use Rattle.siman_pdus.proofs.Offered.{text_is_read, read_in_range}
+use Rattle.siman_pdus.specs.Spelling.{HasCarriedStatus, carried, pdu_size, pdu_text}
+use Rattle.siman_pdus.proofs.Offered.{text_is_read, text_is_carried, zero_is_carried, read_in_range}
 use Rattle.exercise_model.specs.declared.cause.Cause.{Cause}
 use Rattle.exercise_model.specs.declared.cause.Cause.TheVariants.{WrongSender, Stranger, NeverSent}
 use Rattle.exercise_model.specs.Cause.{first_cause, send_rows, send_cause, sends, was_sent, get_cause, cause_of, IsAllowed}
@@ -22,11 +22,12 @@ use Rattle.exercise_model.specs.Run.{IsRun}
 use Rattle.exercise_model.specs.Setting.{SettingData, nowhere, station_in, is_from, is_recorded}
 use Rattle.exercise_model.specs.Station.{StationData}
 use Rattle.exercise_recording.specs.Writer.{WriterState}
+use Rattle.siman_application.specs.Answer.{answer}
 use Rattle.siman_application.specs.Outfit.{Outfit}
 use Rattle.siman_application.specs.OwnLog.{Turn, Tells, Orders, Passes, Takes, Loses, taken_in, sent_after, log_in, is_due, AreTurns, AreOneOrder, AnswersStand}
 use Rattle.siman_application.specs.Play.{reply}
 use Rattle.siman_application.specs.Ranges.{IsOutfitInRange}
-use Rattle.siman_application.proofs.Offered.{read_meant, reply_in_range, reply_is_short, taken_in_range, answers_stand}
+use Rattle.siman_application.proofs.Offered.{read_meant, is_answer, reply_answers, reply_in_range, reply_is_short, taken_in_range, answers_stand}
 use Rattle.siman_manager.specs.declared.settings.Settings.{Settings}
 use Rattle.siman_manager.specs.Book.{Book}
 use Rattle.siman_manager.specs.Calls.{Call, AreRequests, Life, kept, kept_as, manager_id}
@@ -63,14 +64,16 @@ ours_reply a s later ts b q stamp log own are range h ours (Some p) e = (
   read : reading (pdu_text p) ≡ Some p
   read = text_is_read p
       (some_of IsInRange (reply a (taken_in ts) q stamp) p e (reply_in_range a (taken_in ts) q stamp own (taken_in_range a later ts are) range h))
+      (some_of HasCarriedStatus (reply a (taken_in ts) q stamp) p e
+      (reply_answers HasCarriedStatus a (taken_in ts) q stamp (λ k d mine. zero_is_carried (answer a k d stamp) (is_answer a k d stamp mine).status)))
       (some_of (λ r. pdu_size r ≤ LARGEST_DATAGRAM) (reply a (taken_in ts) q stamp) p e (reply_is_short a (taken_in ts) q stamp))
 
 ours_turns : (a : Outfit) (s : ℕ) (later : Bool) (ts : List Turn) → IsOutfitInRange a → AreTurns a later ts → AreOurs a.exercise (log_in a s ts)
 ours_turns a s later [] own are = tt
 ours_turns a s later (Tells e y ∷ ts) own are = ours_turns a s later ts own are
 ours_turns a s later (Orders p ∷ ts) own are = (
-  λ q e. inl (subst (λ (x : Pdu). is_request_body x.body ≡ true) (read_meant a.exercise (pdu_text p) p q (text_is_read p are.0.ranges are.0.size)
-      e) are.0.request),
+  λ q e. inl (subst (λ (x : Pdu). is_request_body x.body ≡ true) (read_meant a.exercise (pdu_text p) (carried p) q
+      (text_is_carried p are.0.ranges are.0.size) e) are.0.request),
   ours_turns a s later ts own are.1,
 )
 ours_turns a s later (Passes b ∷ ts) own are = ours_turns a s later ts own are

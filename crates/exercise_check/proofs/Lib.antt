@@ -11,7 +11,7 @@ mod Reused
 mod Looks
 mod Goodness
 mod Courses
-mod Counted
+mod Nexts
 mod Moved
 mod Links
 mod Explained

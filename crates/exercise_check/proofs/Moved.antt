@@ -12,7 +12,7 @@ use Rattle.exercise_check.specs.declared.cursors.Cursors.{Cursors}
 use Rattle.exercise_check.specs.Order.{order_of}
 use Rattle.exercise_check.specs.Column.{IsColumn}
 use Rattle.exercise_check.specs.Cursors.{StandsFor, IsNextFrom, IsNextAfter, IsFollower, IsFollowerFrom, AreCursorsFrom, AreCursors}
-use Rattle.exercise_check.proofs.Counted.{own_here}
+use Rattle.exercise_check.proofs.Nexts.{own_here}
 use Rattle.exercise_check.proofs.Courses.{at_entry, from_entry}
 use Rattle.exercise_check.proofs.Orders.{length-entries-more, length-entries-none, length-order-more, length-order-none}
 

@@ -34,29 +34,10 @@ changed_by r j v = change_made r.setting.exercise (station_at r (station_of v)) 
 unfoldable pub change_at : PlainRecording → ℕ → Option Change
 change_at r j = option_and_then (λ e. changed_by r j (event_of e)) (slice_get r.entries j)
 
--- how many entries of each station stand before entry n
-abbrev pub IsCountBefore : PlainRecording → ℕ → ℕ → ℕ → Type 0
-IsCountBefore r n s count = count ≡ length (log_before r s n)
-
-abbrev pub AreCounts : PlainRecording → ℕ → List ℕ → Type 0
-AreCounts r n counts = IsColumn 0 (IsCountBefore r n) (length r.setting.stations) counts
-
--- how many entries of each station were taken
-abbrev pub IsCountTaken : PlainRecording → List Step → ℕ → ℕ → Type 0
-IsCountTaken r steps s count = count ≡ length (log_at s (order_of r steps))
-
-abbrev pub AreTaken : PlainRecording → List Step → List ℕ → Type 0
-AreTaken r steps taken = IsColumn 0 (IsCountTaken r steps) (length r.setting.stations) taken
-
--- how many entries of its station stand before entry j
-abbrev pub IsRankAt : PlainRecording → ℕ → ℕ → Type 0
-IsRankAt r j rank = IfSome (slice_get r.entries j) (λ e. rank ≡ length (log_before r (station_of (event_of e)) j))
-
 -- THE TIE of the tables, after the entries below n
 pub record AreTied (r : PlainRecording) (n : ℕ) (t : Tables) : Type 0 where
   pub firsts : AreFirsts r n t.firsts
   pub states : AreStates r n t.states.items
-  pub counts : AreCounts r n t.counts.items
 
 -- What the log of its station says of the event of entry j: all but whether a datagram that was received was sent before, which it judges as if nothing had been.
 abbrev pub JudgesOwn : PlainRecording → ℕ → Event → Judgement → Type 0
@@ -83,7 +64,6 @@ pub record AreFindings (r : PlainRecording) (n : ℕ) (f : Findings) : Type 0 wh
   pub requests : AreRequests r n f.requests
   pub judgements : IsColumn (Allowed None) (JudgesAt r) n f.judgements.items
   pub pairs : f.pairs.items ≡ values_below (pair_of r) n
-  pub ranks : IsColumn 0 (IsRankAt r) n f.ranks.items
 
 -- it is judged to receive what was never sent
 abbrev pub is_never_sent : Cause → Bool
@@ -103,11 +83,10 @@ JudgesNext r steps place given = IfSome (slice_get r.entries place) (λ e. Judge
 abbrev pub IsReadyAt : PlainRecording → List Step → ℕ → Type 0
 IsReadyAt r steps place = IfSome (slice_get r.entries place) (λ e. IsReady r steps place (event_of e))
 
--- WHAT A COURSE KEEPS TO: its recording and steps are those of a course, all entries are found, those that were taken are counted, and
+-- WHAT A COURSE KEEPS TO: its recording and steps are those of a course, all entries are found, and
 -- who sent each datagram first and the next entry of each station are known
-pub record Keeps (r : PlainRecording) (steps : List Step) (f : Findings) (taken : List ℕ) (senders : Senders) (cursors : Cursors) : Type 0 where
+pub record Keeps (r : PlainRecording) (steps : List Step) (f : Findings) (senders : Senders) (cursors : Cursors) : Type 0 where
   pub course : IsCourse (record { recording = r; steps = steps })
   pub found : AreFindings r (length r.entries) f
-  pub counted : AreTaken r steps taken
   pub sent : AreSenders r steps senders
   pub next : AreCursors r steps cursors

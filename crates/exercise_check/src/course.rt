@@ -12,8 +12,7 @@ use crate::account::account;
 use crate::cause::{Judgement, judge};
 use crate::certificate::{Certificate, NO_LINK, Step};
 use crate::checked::Checked;
-use crate::counts::{count_taken, no_counts};
-use crate::cursors::{Cursors, first_cursors, next_entry, pass};
+use crate::cursors::{Cursors, first_cursors, is_at, next_entry, pass};
 use crate::findings::{Findings, find};
 use crate::order::station_of;
 use crate::senders::{Senders, no_senders, note_sender};
@@ -31,7 +30,6 @@ pub struct Course<'a, L: ExerciseLog> {
     log: &'a L,
     steps: Vec<Step>,
     found: Findings,
-    taken: Vec<u32>,
     senders: Senders<'a>,
     cursors: Cursors,
 }
@@ -41,7 +39,7 @@ impl<'a, L: ExerciseLog> Model for Course<'a, L> {
 
     ghost view = { λ c. record { recording = L.recording c.log.now; steps = c.steps.items } };
 
-    ghost invariant = { λ c. Keeps (L.recording c.log.now) c.steps.items c.found c.taken.items c.senders c.cursors };
+    ghost invariant = { λ c. Keeps (L.recording c.log.now) c.steps.items c.found c.senders c.cursors };
 }
 
 /// What going on by an entry comes to.
@@ -65,15 +63,6 @@ fn link_number(link: Option<usize>) -> u32
     }
 }
 
-/// Whether as many entries of a station were taken as stand before one.
-fn is_due(taken: &[u32], ranks: &[u32], station: usize, place: usize) -> bool
-    requires station { station < length taken.now }
-    requires place { place < length ranks.now }
-    ensures { result ≡ (slice_index_or taken.now station 0 == slice_index_or ranks.now place 0) }
-{
-    taken[station] == ranks[place]
-}
-
 impl<'a, L: ExerciseLog> Course<'a, L> {
     /// The course over a log before its first step.
     pub fn begin(alloc: Global, log: &'a L) -> Result<Course<'a, L>, AllocError>
@@ -82,13 +71,11 @@ impl<'a, L: ExerciseLog> Course<'a, L> {
         // To count the entries shows that the recording keeps its limits.
         let _entries = log.entry_count();
         let found = find(alloc, log)?;
-        let taken = no_counts(alloc, log.station_count())?;
         let cursors = first_cursors(alloc, log)?;
         Ok(Course {
             log,
             steps: Vec::new(alloc),
             found,
-            taken,
             senders: no_senders(alloc),
             cursors,
         })
@@ -109,7 +96,7 @@ impl<'a, L: ExerciseLog> Course<'a, L> {
         ensures { IfSome (slice_get self.now.recording.entries place) (λ e. result ≡ is_next self.now.recording self.now.steps place (event_of e)) }
     {
         let station = station_of(&self.log.entry(place));
-        is_due(&self.taken, &self.found.ranks, station, place)
+        is_at(&self.cursors, station, place)
     }
 
     /// The next entry of a station, or `None` where all its entries were taken.
@@ -144,7 +131,6 @@ impl<'a, L: ExerciseLog> Course<'a, L> {
                     place: place as u32,
                     link,
                 })?;
-                count_taken(&mut self.taken, self.log, place);
                 pass(&mut self.cursors, self.log, place);
                 Ok(Progress::Taken(link))
             }

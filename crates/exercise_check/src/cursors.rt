@@ -85,6 +85,14 @@ pub(crate) fn next_entry<L: ExerciseLog>(
     }
 }
 
+/// Whether the next entry of a station is this one.
+pub(crate) fn is_at(cursors: &Cursors, station: usize, place: usize) -> bool
+    requires { station < length cursors.now.next.items }
+    ensures { result ≡ (slice_index_or cursors.now.next.items station 0 == place) }
+{
+    cursors.next[station] as usize == place
+}
+
 /// Moves the cursor of a station on, past the entry of a step that is taken.
 pub(crate) fn pass<L: ExerciseLog>(cursors: &mut Cursors, log: &L, place: usize)
     requires within { place < length (L.recording log.now).entries }

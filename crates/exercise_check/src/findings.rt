@@ -6,7 +6,7 @@ ghost use Rattle.exercise_check.specs.Tables.{AreFindings};
 use crate::cause::Judgement;
 use crate::found::find_at;
 use crate::requests::{Requests, no_requests};
-use crate::tables::{Tables, no_tables, note_tables, rank_at};
+use crate::tables::{Tables, no_tables, note_tables};
 use exercise_model::ExerciseLog;
 use std::alloc::{AllocError, Global};
 
@@ -21,8 +21,6 @@ pub(crate) struct Findings {
     pub judgements: Vec<Judgement>,
     /// The entry of the request that each answer takes up.
     pub pairs: Vec<Option<u32>>,
-    /// How many entries of its station stand before each entry.
-    pub ranks: Vec<u32>,
 }
 
 /// What was found before the first entry.
@@ -35,7 +33,6 @@ fn nothing_found<L: ExerciseLog>(alloc: Global, log: &L) -> Result<Findings, All
         requests: no_requests(alloc),
         judgements: Vec::new(alloc),
         pairs: Vec::new(alloc),
-        ranks: Vec::new(alloc),
     })
 }
 
@@ -45,11 +42,9 @@ fn find_entry<L: ExerciseLog>(found: &mut Findings, log: &L, entry: usize) -> Re
     requires found { AreFindings (L.recording log.now) entry found.old }
     ensures { OnOk result (AreFindings (L.recording log.now) (entry + 1) found.new) }
 {
-    let rank = rank_at(log, &found.tables, entry);
     let here = find_at(log, &found.tables, &mut found.requests, entry)?;
     found.judgements.push(here.judgement)?;
     found.pairs.push(here.pair)?;
-    found.ranks.push(rank)?;
     note_tables(&mut found.tables, log, entry, here.change, here.key)
 }
 

@@ -19,7 +19,6 @@ mod certificate_text;
 mod change;
 mod checked;
 mod checker;
-mod counts;
 mod course;
 mod cursors;
 mod exchange;

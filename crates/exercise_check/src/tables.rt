@@ -2,12 +2,10 @@
 
 ghost use Rattle.std.specs.Prelude.{◌≡◌, ◌<◌, ◌+◌, length, OnOk, IfOk};
 ghost use Rattle.exercise_check.specs.Firsts.{key_at};
-ghost use Rattle.exercise_check.specs.Tables.{AreTied, change_at, IsRankAt};
+ghost use Rattle.exercise_check.specs.Tables.{AreTied, change_at};
 
-use crate::counts::{count_entry, no_counts};
 use crate::firsts::{Firsts, no_firsts, note_entry};
 use crate::key::Key;
-use crate::order::station_of;
 use crate::states::{States, no_changes, note_change};
 use exercise_model::{Change, ExerciseLog};
 use std::alloc::{AllocError, Global};
@@ -19,8 +17,6 @@ pub(crate) struct Tables {
     pub firsts: Firsts,
     /// The states of the entities of each station.
     pub states: Vec<States>,
-    /// How many entries of each station there were.
-    pub counts: Vec<u32>,
 }
 
 /// What is kept before the first entry.
@@ -28,21 +24,10 @@ pub(crate) fn no_tables<L: ExerciseLog>(alloc: Global, log: &L) -> Result<Tables
     ensures { IfOk result (λ tables. AreTied (L.recording log.now) 0 tables) }
 {
     let states = no_changes(alloc, log)?;
-    let counts = no_counts(alloc, log.station_count())?;
     Ok(Tables {
         firsts: no_firsts(alloc),
         states,
-        counts,
     })
-}
-
-/// How many entries of its station stand before the next entry of a log.
-pub(crate) fn rank_at<L: ExerciseLog>(log: &L, tables: &Tables, entry: usize) -> u32
-    requires within { entry < length (L.recording log.now).entries }
-    requires tied { AreTied (L.recording log.now) entry tables.now }
-    ensures { IsRankAt (L.recording log.now) entry result }
-{
-    tables.counts[station_of(&log.entry(entry))]
 }
 
 /// Keeps the next entry of a log, which makes this change and has this key.
@@ -60,6 +45,5 @@ pub(crate) fn note_tables<L: ExerciseLog>(
     ensures { OnOk result (AreTied (L.recording log.now) (entry + 1) tables.new) }
 {
     note_change(&mut tables.states, log, change, entry)?;
-    count_entry(&mut tables.counts, log, entry);
     note_entry(&mut tables.firsts, log, entry, key)
 }

@@ -2,7 +2,7 @@ use Rattle.std.proofs.Common.{ℕ, List, None, sym, ◌∙◌, subst}
 use Rattle.exercise_model.specs.Account.{pair_of}
 use Rattle.exercise_check.specs.declared.cause.Judgement.{Judgement}
 use Rattle.exercise_check.specs.declared.cause.Judgement.TheVariants.{Allowed}
-use Rattle.exercise_check.specs.Tables.{IsColumn, JudgesAt, IsRankAt}
+use Rattle.exercise_check.specs.Tables.{IsColumn, JudgesAt}
 use Rattle.exercise_check.proofs.Columns.{column_none, values-none}
 use Rattle.exercise_check.proofs.Reused.{none_kept}
 use Rattle.exercise_check.proofs.findings.nothing_found.Goals as goal
@@ -15,6 +15,5 @@ returns g c =
       requests = none_kept r c.no_requests.result c.no_requests.ensures;
       judgements = subst (λ (xs : List Judgement). IsColumn (Allowed None) (JudgesAt r) 0 xs) (sym c.new.ensures.items)
           (column_none (Allowed None) (JudgesAt r));
-      ranks = subst (λ (xs : List ℕ). IsColumn 0 (IsRankAt r) 0 xs) (sym c.new-3.ensures.items) (column_none 0 (IsRankAt r));
       pairs = c.new-2.ensures.items ∙ sym (values-none (pair_of r));
     }

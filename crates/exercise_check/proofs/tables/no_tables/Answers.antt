@@ -1,7 +1,5 @@
 use Rattle.std.proofs.Common.{◌≡◌, ℕ, sym, ◌∙◌, subst}
-use Rattle.exercise_check.specs.Tables.{IsColumn}
 use Rattle.exercise_check.proofs.Keyed.{first_under-none}
-use Rattle.exercise_check.proofs.Counted.{counts_none}
 use Rattle.exercise_check.proofs.tables.no_tables.Goals as goal
 
 pub returns : goal.returns
@@ -10,5 +8,4 @@ returns g c =
     record {
       firsts = λ k. c.no_firsts.ensures k ∙ sym (first_under-none r k);
       states = c.in_ok-states.ensures;
-      counts = counts_none r c.in_ok-counts.counts.items (subst (λ (n : ℕ). IsColumn 0 (λ s x. x ≡ 0) n c.in_ok-counts.counts.items) c.station_count.ensures.count c.in_ok-counts.ensures);
     }

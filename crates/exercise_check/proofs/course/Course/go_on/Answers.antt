@@ -4,7 +4,6 @@ use Rattle.exercise_check.specs.Course.{CourseData, IsNext}
 use Rattle.exercise_check.proofs.Columns.{on_err}
 use Rattle.exercise_check.proofs.Goodness.{good_push}
 use Rattle.exercise_check.proofs.Courses.{next_ready, next_counts, allows, small_link, barred_goes, taken_goes, allowed_goes}
-use Rattle.exercise_check.proofs.Counted.{few_taken}
 use Rattle.exercise_check.proofs.course.Course.go_on.Goals as goal
 
 pub link_number-link-requires : goal.link_number-link-requires
@@ -33,15 +32,9 @@ invariant_of-self-in-Allowed g c =
         good = rw (items, c.link_number-link.ensures) (good_push r steps _ c.self.invariant.course.good good);
       };
       found = c.self.invariant.found;
-      counted = rw items (c.count_taken.ensures steps _ c.self.invariant.counted);
       sent = rw items (c.in_ok-note_sender-in-Allowed.ensures.noted steps _ c.self.invariant.sent);
       next = rw items (c.pass.ensures steps _ (next_counts r steps c.args.place next) c.self.invariant.next);
     }
-
-pub count_taken-requires-clause-few : goal.count_taken-requires-clause-few
-count_taken-requires-clause-few g c =
-    few_taken (g.L.ExerciseLog.recording c.self.inside.log.now) c.self.inside.steps.items c.self.inside.taken.items c.self.invariant.course.limits
-    c.self.invariant.course.good c.self.invariant.counted
 
 pub returns-in-Forbidden-clause-judged : goal.returns-in-Forbidden-clause-judged
 returns-in-Forbidden-clause-judged g c =

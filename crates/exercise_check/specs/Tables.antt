@@ -1,10 +1,10 @@
 -- What a pass over a log finds, entry by entry, and how it is kept (profile).
-use Rattle.std.specs.Prelude.{◌≡◌, ℕ, Bool, true, false, List, [], length, slice_get, slice_index_or, Option, None, IfSome, ◌<◌, option_and_then}
+use Rattle.std.specs.Prelude.{◌≡◌, ℕ, Bool, true, false, List, [], length, slice_get, Option, None, IfSome, option_and_then}
 use Rattle.exercise_model.specs.declared.state.Change.{Change}
 use Rattle.exercise_model.specs.declared.cause.Cause.{Cause}
 use Rattle.exercise_model.specs.declared.cause.Cause.TheVariants.{NeverSent}
 use Rattle.exercise_model.specs.Recording.{PlainRecording}
-use Rattle.exercise_model.specs.History.{Event, Send, Get, Tell, event_of, station_of, station_at, log_at}
+use Rattle.exercise_model.specs.History.{Event, Send, Get, Tell, event_of, station_of, station_at}
 use Rattle.exercise_model.specs.Meaning.{meaning}
 use Rattle.exercise_model.specs.State.{change_made, state_after}
 use Rattle.exercise_model.specs.Cause.{send_cause, cause_of, tell_rows, first_cause}

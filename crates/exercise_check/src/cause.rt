@@ -21,6 +21,7 @@ ghost use Rattle.exercise_check.specs.Tables.{AreTied, IsColumn, JudgesAt, Judge
 use crate::change::{is_change, was_able, was_unable};
 use crate::exchange::request_taken_up;
 use crate::firsts::Firsts;
+use crate::found::number;
 use crate::senders::{Senders, first_sender};
 use crate::state::state_before;
 use crate::tables::Tables;
@@ -34,7 +35,7 @@ use siman_pdus::{ABLE, PduView, UNABLE, answers};
 #[derive(Clone, Copy, Debug, PartialEq, Eq)]
 pub(crate) enum Judgement {
     /// It is allowed: the entry that its step links with, if it links with one.
-    Allowed(Option<usize>),
+    Allowed(Option<u32>),
     /// It may not happen: the first cause that holds.
     Forbidden(Cause),
 }
@@ -147,6 +148,8 @@ pub(crate) fn judge_sent<L: ExerciseLog>(
     requires reused { let r = L.recording log.now in reused ≡ (is_request_body (pdu_of pdu.now).body && is_reused r.setting.exercise (pdu_of pdu.now) (log_before r station before)) }
     ensures { let r = L.recording log.now in Judges (send_cause r.setting.exercise (station_at r station) (log_before r station before) (pdu_of pdu.now)) (pair_of_sent r station before (pdu_of pdu.now)) (length r.entries) result }
 {
+    // To count the entries shows that the recording keeps its limits.
+    let _entries = log.entry_count();
     if !is_from(log.station(station).address(), pdu) {
         return Judgement::Forbidden(Cause::WrongSender);
     }
@@ -166,7 +169,7 @@ pub(crate) fn judge_sent<L: ExerciseLog>(
     } else if is_impossible(log, tables, station, before, pdu, &request) {
         Judgement::Forbidden(Cause::Impossible)
     } else {
-        Judgement::Allowed(Some(entry))
+        Judgement::Allowed(number(Some(entry)))
     }
 }
 

@@ -53,12 +53,11 @@ pub enum Progress {
 }
 
 /// The number that stands for a link in a certificate.
-fn link_number(link: Option<usize>) -> u32
-    requires { IfSome link (λ e. e < 4294967296) }
+fn link_number(link: Option<u32>) -> u32
     ensures { result ≡ link_number link }
 {
     match link {
-        Some(entry) => entry as u32,
+        Some(entry) => entry,
         None => NO_LINK,
     }
 }

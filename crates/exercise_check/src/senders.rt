@@ -81,11 +81,11 @@ pub(crate) fn note_sender<'a, L: ExerciseLog>(
 }
 
 /// The entry of the first step that sent a datagram of these bytes.
-pub(crate) fn first_sender(senders: &Senders<'_>, datagram: &[u8]) -> Option<usize>
+pub(crate) fn first_sender(senders: &Senders<'_>, datagram: &[u8]) -> Option<u32>
     ensures { (steps : List Step) (r : PlainRecording) → AreSenders r steps senders.now → result ≡ first_sender r.entries datagram.now steps }
 {
     match senders.get(&Datagram { bytes: datagram }) {
-        Some(entry) => Some(*entry as usize),
+        Some(entry) => Some(*entry),
         None => None,
     }
 }

@@ -1,4 +1,4 @@
-use Rattle.std.proofs.Common.{ℕ, ◌+◌, ◌++◌, ◌∷◌, [], List, None, sym, ap, ◌∙◌, subst}
+use Rattle.std.proofs.Common.{◌+◌, ◌++◌, ◌∷◌, [], List, None, sym, ap, ◌∙◌, subst}
 use Rattle.exercise_model.specs.Account.{pair_of, values_below}
 use Rattle.exercise_model.proofs.Offered.{values_below-more}
 use Rattle.exercise_check.specs.declared.cause.Judgement.{Judgement}

@@ -1,4 +1,4 @@
-use Rattle.std.proofs.Common.{ℕ, List, None, sym, ◌∙◌, subst}
+use Rattle.std.proofs.Common.{List, None, sym, ◌∙◌, subst}
 use Rattle.exercise_model.specs.Account.{pair_of}
 use Rattle.exercise_check.specs.declared.cause.Judgement.{Judgement}
 use Rattle.exercise_check.specs.declared.cause.Judgement.TheVariants.{Allowed}

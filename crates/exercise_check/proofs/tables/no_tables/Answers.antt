@@ -1,4 +1,4 @@
-use Rattle.std.proofs.Common.{◌≡◌, ℕ, sym, ◌∙◌, subst}
+use Rattle.std.proofs.Common.{sym, ◌∙◌}
 use Rattle.exercise_check.proofs.Keyed.{first_under-none}
 use Rattle.exercise_check.proofs.tables.no_tables.Goals as goal
 

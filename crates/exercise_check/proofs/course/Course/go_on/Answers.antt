@@ -3,18 +3,8 @@ use Rattle.exercise_check.specs.declared.certificate.Step.{Step}
 use Rattle.exercise_check.specs.Course.{CourseData, IsNext}
 use Rattle.exercise_check.proofs.Columns.{on_err}
 use Rattle.exercise_check.proofs.Goodness.{good_push}
-use Rattle.exercise_check.proofs.Courses.{next_ready, next_counts, allows, small_link, barred_goes, taken_goes, allowed_goes}
+use Rattle.exercise_check.proofs.Courses.{next_ready, next_counts, allows, barred_goes, taken_goes, allowed_goes}
 use Rattle.exercise_check.proofs.course.Course.go_on.Goals as goal
-
-pub link_number-link-requires : goal.link_number-link-requires
-link_number-link-requires g c =
-    let r = g.L.ExerciseLog.recording c.self.inside.log.now in
-    let steps = c.self.inside.steps.items in
-    let next = subst (λ v. IsNext v c.args.place) (sym c.self.view_is) c.requires.next in
-    let judged = c.judge.ensures steps c.self.invariant.sent (next_ready r steps c.args.place c.self.invariant.course.good next) in
-    let within = rw (← c.self.view_is) at c.requires.within in
-    small_link r c.in-Allowed.link c.self.invariant.course.limits
-    (allows r steps c.args.place c.in-Allowed.link within next (rw c.in-Allowed.is at judged)).within
 
 pub invariant_of-self-in-Allowed : goal.invariant_of-self-in-Allowed
 invariant_of-self-in-Allowed g c =

@@ -42,7 +42,11 @@ fn step_cause<L: ExerciseLog>(log: &L, before: &[Step], step: Step) -> Option<Ca
         Ok(Some(link)) => step.link as usize == link,
         Ok(None) => step.link == NO_LINK,
     };
-    if is_linked { None } else { Some(Cause::BadLink) }
+    if is_linked {
+        None
+    } else {
+        Some(Cause::BadLink)
+    }
 }
 
 /// Checks a certificate against the logs of an exercise: a yes, or the first bad step and the first

@@ -40,7 +40,11 @@ pub(crate) fn is_own<L: ExerciseLog>(log: &L, station: usize, entry: usize) -> b
 }
 
 /// What an entry of a station sends, if it sends something that is not "other".
-pub(crate) fn sent_by<L: ExerciseLog>(log: &L, station: usize, entry: usize) -> Option<PduView<'_>> {
+pub(crate) fn sent_by<L: ExerciseLog>(
+    log: &L,
+    station: usize,
+    entry: usize,
+) -> Option<PduView<'_>> {
     match entry_at(log, entry)? {
         EntryView::Sent {
             station: at,

@@ -17,4 +17,4 @@ mod state;
 
 pub use check::plain_check;
 pub use report::{plain_cause, plain_others, plain_pair, plain_states};
-pub use search::plain_audit;
+pub use search::{plain_audit, plain_steps};

@@ -74,14 +74,20 @@ fn blocks<L: ExerciseLog>(
     Ok(blocks)
 }
 
-/// Looks for an order that explains a recording: the stations take one step each in turn, until
-/// none can. It finds one exactly where there is one; which it finds is not said.
-pub fn plain_audit<L: ExerciseLog>(alloc: Global, log: &L) -> Result<Audit, AllocError> {
+/// The steps that the stations can take, one each in turn, until none can go on.
+pub fn plain_steps<L: ExerciseLog>(alloc: Global, log: &L) -> Result<Vec<Step>, AllocError> {
     let mut steps = Vec::new(alloc);
     // Each sweep adds a step at least, or no later one does.
     for _sweep in 0..log.entry_count() {
         sweep(log, &mut steps)?;
     }
+    Ok(steps)
+}
+
+/// Looks for an order that explains a recording. It finds one exactly where there is one; which it
+/// finds is not said.
+pub fn plain_audit<L: ExerciseLog>(alloc: Global, log: &L) -> Result<Audit, AllocError> {
+    let steps = plain_steps(alloc, log)?;
     if steps.len() == log.entry_count() {
         Ok(Audit::Explained(Certificate { steps }))
     } else {

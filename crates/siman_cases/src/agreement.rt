@@ -1,11 +1,12 @@
 //! Whether the checker and the search answer as the plain ones do.
 
+use crate::calls::{WELL, read_from};
+use crate::case::Case;
 use exercise_audit::{Audit, audit};
-use exercise_check::{Certificate, CheckFault, Checked, check};
-use exercise_model::ExerciseLog;
-use plain_check::{
-    plain_audit, plain_cause, plain_check, plain_others, plain_pair, plain_states,
-};
+use exercise_check::{Certificate, CheckFault, Checked, check, read_certificate};
+use exercise_model::{ExerciseLog, LARGEST_ENTITY};
+use exercise_recording::RecordingView;
+use plain_check::{plain_audit, plain_cause, plain_check, plain_others, plain_pair, plain_states};
 use std::alloc::{AllocError, Global};
 
 /// The number of an entry as the checker reports it.
@@ -82,4 +83,50 @@ pub(crate) fn compare_audits<L: ExerciseLog>(
         _ => false,
     };
     Ok((same, found))
+}
+
+/// The bytes of the last file that a word of a case names.
+fn file_at(case: &Case, word: usize) -> Option<&[u8]> {
+    let name = case.words.get(word)?;
+    let mut bytes = None;
+    for file in &case.files {
+        if file.name.as_bytes() == name.as_slice() {
+            bytes = Some(file.bytes.as_slice());
+        }
+    }
+    bytes
+}
+
+/// Whether the answer to a case of `check` or `audit` is what the plain ones answer; `None` for
+/// every other case, and where the recording or the certificate can't be read.
+pub(crate) fn compare_case(alloc: Global, case: &Case) -> Result<Option<bool>, AllocError> {
+    let (Some(command), Some(bytes)) = (case.words.first(), file_at(case, 1)) else {
+        return Ok(None);
+    };
+    let Ok(log) = RecordingView::over(alloc, bytes) else {
+        return Ok(None);
+    };
+    match command.as_slice() {
+        b"audit" => Ok(Some(compare_audits(alloc, &log, LARGEST_ENTITY)?.0)),
+        b"check" => compare_certificate(alloc, &log, case),
+        _ => Ok(None),
+    }
+}
+
+/// Whether the answer to the certificate of a case is what the plain checker answers.
+fn compare_certificate<L: ExerciseLog>(
+    alloc: Global,
+    log: &L,
+    case: &Case,
+) -> Result<Option<bool>, AllocError> {
+    let Some(bytes) = file_at(case, 2) else {
+        return Ok(None);
+    };
+    match read_certificate(alloc, read_from(bytes, WELL), 1024) {
+        Ok(certificate) => {
+            let (same, _) = compare_checks(alloc, log, &certificate, LARGEST_ENTITY)?;
+            Ok(Some(same))
+        }
+        Err(_) => Ok(None),
+    }
 }

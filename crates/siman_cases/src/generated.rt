@@ -36,6 +36,16 @@ fn add_one(counts: &mut [u32], place: usize) {
     }
 }
 
+/// Whether all counts from a place on are above 0.
+fn are_counted(counts: &[u32], from: usize) -> bool {
+    for place in from..counts.len() {
+        if counts[place] == 0 {
+            return false;
+        }
+    }
+    true
+}
+
 /// The stations of a scene, as they are before its first deed.
 fn stations(alloc: Global, scene: &Scene) -> Result<Vec<Station>, AllocError> {
     let mut stations = Vec::new(alloc);
@@ -96,13 +106,23 @@ fn recording(alloc: Global, random: Random) -> Result<Recording, LogFault> {
     for _ in 0..deeds {
         scene.swap();
     }
-    for (stamp, deed) in scene.deeds.iter().enumerate() {
-        match entry(alloc, *deed, stamp as u64) {
+    for deed in &scene.deeds {
+        match entry(alloc, *deed, recording.entry_count() as u64) {
             Ok(entry) => recording.push(entry)?,
             Err(_) => return Err(LogFault::Memory),
         }
     }
     Ok(recording)
+}
+
+/// Whether one of these steps names an entry.
+fn names(steps: &[Step], place: u32) -> bool {
+    for step in steps {
+        if step.place == place {
+            return true;
+        }
+    }
+    false
 }
 
 /// The steps that the stations can take, and behind them the entries that are left, by their
@@ -111,7 +131,7 @@ fn whole(alloc: Global, log: &Recording) -> Result<Certificate, AllocError> {
     let mut steps = plain_steps(alloc, log)?;
     for place in 0..log.entry_count() {
         let place = place as u32;
-        if !steps.iter().any(|step| step.place == place) {
+        if !names(&steps, place) {
             steps.push(Step {
                 place,
                 link: NO_LINK,
@@ -125,7 +145,7 @@ fn whole(alloc: Global, log: &Recording) -> Result<Certificate, AllocError> {
 fn spoil(random: &mut Random, certificate: &mut Certificate) -> Result<(), AllocError> {
     let count = certificate.steps.len();
     let (place, other) = (random.below(count), random.below(count));
-    let link = random.below(count) as u32;
+    let link = (random.below(count) % 65536) as u32;
     if place >= count || other >= count {
         return Ok(());
     }
@@ -197,9 +217,8 @@ impl Answers {
     /// Whether all answers were as the plain ones are, and each came: yes, and each cause, and of
     /// those of an event also in the way of a station.
     pub(crate) fn are_good(&self) -> bool {
-        let causes = self.causes.iter().skip(1).all(|count| *count > 0);
-        let ways = self.ways.iter().skip(5).all(|count| *count > 0);
-        self.otherwise == 0 && self.yes > 0 && self.explained > 0 && causes && ways
+        let came = are_counted(&self.causes, 1) && are_counted(&self.ways, 5);
+        self.otherwise == 0 && self.yes > 0 && self.explained > 0 && came
     }
 
     /// Prints how often each answer came.

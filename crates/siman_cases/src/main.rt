@@ -49,9 +49,16 @@ fn try_file(rt: &HostRuntime, alloc: Global, name: &str) -> io::Result<bool> {
     let Tally {
         tried,
         otherwise,
+        compared,
         ..
     } = tally;
     match tally.unread {
+        None if compared > 0 => {
+            writeln!(
+                out,
+                "{name}: {tried} tried, {otherwise} otherwise, {compared} compared"
+            )?;
+        }
         None => writeln!(out, "{name}: {tried} tried, {otherwise} otherwise")?,
         Some(line) => writeln!(out, "{name}: line {line} can't be read")?,
     }

@@ -1,7 +1,7 @@
 //! Numbers that seem to follow no rule, the same in each run: a linear congruence.
 
 /// Where the row of numbers stands.
-#[derive(Clone, Copy, Debug)]
+#[derive(Clone, Copy)]
 pub(crate) struct Random {
     pub(crate) state: u64,
 }

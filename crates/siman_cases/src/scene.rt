@@ -51,7 +51,8 @@ fn made(kind: u8, before: EntityState) -> EntityState {
         (11, _) => EntityState::Stopped,
         (12, _) | (_, EntityState::Absent) => EntityState::Absent,
         (13, _) => EntityState::Running,
-        _ => EntityState::Stopped,
+        (14, _) => EntityState::Stopped,
+        _ => before,
     }
 }
 
@@ -94,9 +95,12 @@ impl Scene {
         Ok(())
     }
 
-    /// Takes what its station receives.
+    /// Takes what its station receives, if it goes to one.
     fn get(&mut self, letter: Letter) -> Result<(), AllocError> {
-        if letter.kind <= 14 {
+        if letter.to >= self.stations {
+            return self.ask();
+        }
+        if letter.kind <= 14 || letter.kind == 16 {
             self.got.push(letter)?;
         }
         self.deeds.push(Deed::Gets(letter.to, letter))?;
@@ -123,19 +127,30 @@ impl Scene {
 
     /// A number of an entity.
     fn entity(&mut self) -> u8 {
-        (self.random.below(usize::from(ENTITIES)) as u8).saturating_add(1)
+        match self.random.below(usize::from(ENTITIES)) {
+            0 => 1,
+            1 => 2,
+            2 => 3,
+            _ => 4,
+        }
     }
 
     /// A station orders something.
     fn ask(&mut self) -> Result<(), AllocError> {
-        let kind = (self.random.below(4) as u8).saturating_add(11);
+        let kind = match self.random.below(8) {
+            0..=2 => 11,
+            3 => 12,
+            4 | 5 => 13,
+            6 => 14,
+            _ => 16,
+        };
         let mut letter = self.letter(kind);
         letter.target = self.entity();
         if self.random.one_in(8) {
             letter.target = ALL;
         }
         if self.is_wild && self.random.one_in(4) {
-            letter.request = (self.random.below(3) as u8).saturating_add(1);
+            letter.request = self.entity();
         }
         self.send(letter.from, letter)
     }
@@ -179,7 +194,7 @@ impl Scene {
     /// The answer to an order, able to comply or not.
     fn answer_to(&self, order: &Letter, able: bool) -> Letter {
         Letter {
-            kind: 15,
+            kind: if order.kind == 16 { 17 } else { 15 },
             from: order.to,
             to: order.from,
             origin: if order.target == ALL { 0 } else { order.target },
@@ -194,7 +209,7 @@ impl Scene {
     /// The answer that was sent to an order.
     fn sent_answer(&self, order: &Letter) -> Option<Letter> {
         for letter in &self.sent {
-            let is_answer = letter.kind == 15 && letter.from == order.to;
+            let is_answer = matches!(letter.kind, 15 | 17) && letter.from == order.to;
             if is_answer && letter.to == order.from && letter.request == order.request {
                 return Some(*letter);
             }
@@ -241,8 +256,8 @@ impl Scene {
         };
         let able = self.random.one_in(2);
         let mut letter = self.answer_to(&order, able);
-        match self.random.below(4) {
-            0 => letter.flag = letter.flag % 4 + 1,
+        match self.random.below(6) {
+            0 => letter.flag = (letter.flag % 4).saturating_add(1),
             1 => letter.origin = self.entity(),
             2 => letter.request = letter.request.wrapping_add(1),
             _ => {}
@@ -282,19 +297,20 @@ impl Scene {
 
     /// Something happens.
     pub(crate) fn go_on(&mut self) -> Result<(), AllocError> {
-        match self.random.below(20) {
-            0..=3 => self.ask(),
-            4..=9 => self.bring(),
-            10..=13 => self.answer(),
+        match self.random.below(24) {
+            0..=4 => self.ask(),
+            5..=8 => self.bring(),
+            9..=13 => self.answer(),
             14 => self.tell(),
             15 => self.copy(),
             16 => {
-                let letter = self.letter(22);
+                let kind = if self.random.one_in(2) { 22 } else { 99 };
+                let letter = self.letter(kind);
                 self.send(letter.from, letter)
             }
-            17 if self.is_wild => self.answer_badly(),
-            18 if self.is_wild => self.go_astray(),
-            19 if self.is_wild => self.tell_badly(),
+            17..=19 if self.is_wild => self.answer_badly(),
+            20 if self.is_wild => self.go_astray(),
+            21 if self.is_wild => self.tell_badly(),
             _ => self.bring(),
         }
     }

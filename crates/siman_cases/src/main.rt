@@ -23,12 +23,18 @@
 //! | `half-told` | what is told of faults can't be written whole |
 #![tactic(auto)]
 
+mod agreement;
 mod calls;
 mod case;
+mod generated;
+mod letter;
 mod lines;
+mod random;
+mod scene;
 mod shelf;
 mod trial;
 
+use crate::generated::try_generated;
 use crate::trial::{Tally, try_cases};
 use std::alloc::Global;
 use std::io::Write;
@@ -43,20 +49,40 @@ fn try_file(rt: &HostRuntime, alloc: Global, name: &str) -> io::Result<bool> {
     let Tally {
         tried,
         otherwise,
+        compared,
         ..
     } = tally;
     match tally.unread {
+        None if compared > 0 => {
+            writeln!(
+                out,
+                "{name}: {tried} tried, {otherwise} otherwise, {compared} compared"
+            )?;
+        }
         None => writeln!(out, "{name}: {tried} tried, {otherwise} otherwise")?,
         Some(line) => writeln!(out, "{name}: line {line} can't be read")?,
     }
     Ok(otherwise == 0 && tally.unread.is_none())
 }
 
-/// Tries the files that the words of the command line name.
+/// Tries recordings that are made up, and prints how often each answer came.
+fn try_made_up(rt: &HostRuntime, alloc: Global, count: u32) -> io::Result<bool> {
+    let answers = try_generated(alloc, count)?;
+    let mut out = rt.stdout();
+    writeln!(out, "{count} recordings made up")?;
+    answers.print(&mut out)?;
+    Ok(answers.are_good())
+}
+
+/// Tries the files that the words of the command line name; a number stands for so many recordings
+/// that are made up.
 fn try_files(rt: &HostRuntime, alloc: Global) -> io::Result<bool> {
     let mut good = true;
     for name in env::args(rt)?.skip(1) {
-        good = try_file(rt, alloc, &name)? && good;
+        good = match name.parse::<u32>() {
+            Ok(count) => try_made_up(rt, alloc, count)?,
+            Err(_) => try_file(rt, alloc, &name)?,
+        } && good;
     }
     Ok(good)
 }

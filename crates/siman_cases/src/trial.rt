@@ -1,5 +1,6 @@
 //! Runs cases, and tells what is otherwise.
 
+use crate::agreement::compare_case;
 use crate::calls::{Kept, read_from, write_to};
 use crate::case::{Case, first};
 use crate::lines::{Line, read_line};
@@ -9,12 +10,13 @@ use std::alloc::Global;
 use std::io;
 use std::io::Write;
 
-/// How many cases of a file were tried, how many went otherwise, and the first line that can't be
-/// read, from 1.
+/// How many cases of a file were tried, how many went otherwise, how many were compared with the
+/// plain checker or search, and the first line that can't be read, from 1.
 #[derive(Clone, Copy)]
 pub(crate) struct Tally {
     pub(crate) tried: u32,
     pub(crate) otherwise: u32,
+    pub(crate) compared: u32,
     pub(crate) unread: Option<usize>,
 }
 
@@ -129,15 +131,28 @@ fn try_case<W: Write>(
 }
 
 impl Tally {
+    /// Compares the answer to a case with the plain one, and prints where it is otherwise.
+    fn compare<W: Write>(&mut self, alloc: Global, case: &Case, out: &mut W) -> io::Result<bool> {
+        let Some(same) = compare_case(alloc, case)? else {
+            return Ok(true);
+        };
+        self.compared = self.compared.saturating_add(1);
+        if !same {
+            writeln!(out, "{}: the plain answer is otherwise", case.name)?;
+        }
+        Ok(same)
+    }
+
     /// Tries a case that is whole; before the first there is none.
     fn add<W: Write>(&mut self, alloc: Global, case: &mut Case, out: &mut W) -> io::Result<()> {
         if case.name.is_empty() {
             return Ok(());
         }
+        let same = self.compare(alloc, case, out)?;
         let (good, left) = try_case(alloc, case, out)?;
         case.keep_left(left)?;
         self.tried = self.tried.saturating_add(1);
-        if !good {
+        if !(good && same) {
             self.otherwise = self.otherwise.saturating_add(1);
         }
         Ok(())
@@ -166,6 +181,7 @@ pub(crate) fn try_cases<W: Write>(alloc: Global, text: &str, out: &mut W) -> io:
     let mut tally = Tally {
         tried: 0,
         otherwise: 0,
+        compared: 0,
         unread: None,
     };
     let mut case = first(alloc);

@@ -1,0 +1,58 @@
+//! What a station sent under one key before an entry, and what its answers change.
+
+use crate::entries::sent_by;
+use crate::exchange::request_taken_up;
+use exercise_model::{AcknowledgeKey, Change, ExerciseLog, key_of, responds, responds_under};
+use siman_pdus::{ABLE, PduView};
+
+/// Whether an entry of a station sends an Acknowledge with this response flag under this key.
+pub(crate) fn acknowledges<L: ExerciseLog>(
+    log: &L,
+    station: usize,
+    response: u16,
+    key: &AcknowledgeKey,
+    entry: usize,
+) -> bool {
+    match sent_by(log, station, entry) {
+        Some(pdu) => responds_under(response, key, &pdu),
+        None => false,
+    }
+}
+
+/// Whether a station sent, before an entry, an Acknowledge with this response flag under this key.
+pub(crate) fn was_acknowledged<L: ExerciseLog>(
+    log: &L,
+    station: usize,
+    before: usize,
+    response: u16,
+    key: &AcknowledgeKey,
+) -> bool {
+    for entry in 0..before {
+        if acknowledges(log, station, response, key, entry) {
+            return true;
+        }
+    }
+    false
+}
+
+/// What a PDU that a station sends at an entry changes: it is the first Able under its key, and
+/// answers the request that it takes up.
+pub(crate) fn change_by<L: ExerciseLog>(
+    log: &L,
+    station: usize,
+    before: usize,
+    pdu: &PduView<'_>,
+) -> Option<Change> {
+    let key = key_of(pdu)?;
+    if !responds(ABLE, pdu) || was_acknowledged(log, station, before, ABLE, &key) {
+        return None;
+    }
+    let (_, request) = request_taken_up(log, station, before, pdu)?;
+    Change::carried_out(pdu, &request)
+}
+
+/// What an entry of a station changes.
+pub(crate) fn change_made<L: ExerciseLog>(log: &L, station: usize, entry: usize) -> Option<Change> {
+    let pdu = sent_by(log, station, entry)?;
+    change_by(log, station, entry, &pdu)
+}

@@ -1,0 +1,96 @@
+//! The search.
+
+use crate::check::taken;
+use crate::entries::{entry_at, is_own};
+use crate::judge::judge;
+use exercise_audit::{Audit, Block};
+use exercise_check::{Certificate, NO_LINK, Step};
+use exercise_model::{Cause, ExerciseLog};
+use std::alloc::{AllocError, Global};
+
+/// The next entry of a station after these steps.
+fn next_entry<L: ExerciseLog>(log: &L, steps: &[Step], station: usize) -> Option<usize> {
+    let done = taken(log, steps, station);
+    let mut seen = 0usize;
+    for entry in 0..log.entry_count() {
+        if is_own(log, station, entry) {
+            if seen == done {
+                return Some(entry);
+            }
+            seen = seen.saturating_add(1);
+        }
+    }
+    None
+}
+
+/// The next entry of a station after these steps, with its step or the first cause against it.
+fn next_step<L: ExerciseLog>(
+    log: &L,
+    steps: &[Step],
+    station: usize,
+) -> Option<(usize, Result<Step, Cause>)> {
+    let place = next_entry(log, steps, station)?;
+    let number = u32::try_from(place).ok()?;
+    let step = match judge(log, steps, place, &entry_at(log, place)?) {
+        Err(cause) => Err(cause),
+        Ok(Some(link)) => Ok(Step {
+            place: number,
+            link: u32::try_from(link).ok()?,
+        }),
+        Ok(None) => Ok(Step {
+            place: number,
+            link: NO_LINK,
+        }),
+    };
+    Some((place, step))
+}
+
+/// Lets each station take one step, if it can.
+fn sweep<L: ExerciseLog>(log: &L, steps: &mut Vec<Step>) -> Result<(), AllocError> {
+    for station in 0..log.station_count() {
+        if let Some((_, Ok(step))) = next_step(log, steps, station) {
+            steps.push(step)?;
+        }
+    }
+    Ok(())
+}
+
+/// What stands in the way of each station that has entries left.
+fn blocks<L: ExerciseLog>(
+    alloc: Global,
+    log: &L,
+    steps: &[Step],
+) -> Result<Vec<Block>, AllocError> {
+    let mut blocks = Vec::new(alloc);
+    for station in 0..log.station_count() {
+        if let Some((entry, Err(cause))) = next_step(log, steps, station) {
+            blocks.push(Block {
+                station,
+                entry,
+                cause,
+            })?;
+        }
+    }
+    Ok(blocks)
+}
+
+/// The steps that the stations can take, one each in turn, until none can go on.
+pub fn plain_steps<L: ExerciseLog>(alloc: Global, log: &L) -> Result<Vec<Step>, AllocError> {
+    let mut steps = Vec::new(alloc);
+    // Each sweep adds a step at least, or no later one does.
+    for _sweep in 0..log.entry_count() {
+        sweep(log, &mut steps)?;
+    }
+    Ok(steps)
+}
+
+/// Looks for an order that explains a recording. It finds one exactly where there is one; which it
+/// finds is not said.
+pub fn plain_audit<L: ExerciseLog>(alloc: Global, log: &L) -> Result<Audit, AllocError> {
+    let steps = plain_steps(alloc, log)?;
+    if steps.len() == log.entry_count() {
+        Ok(Audit::Explained(Certificate { steps }))
+    } else {
+        Ok(Audit::Blocked(blocks(alloc, log, &steps)?))
+    }
+}

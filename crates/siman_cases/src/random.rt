@@ -1,0 +1,24 @@
+//! Numbers that seem to follow no rule, the same in each run: a linear congruence.
+
+/// Where the row of numbers stands.
+#[derive(Clone, Copy)]
+pub(crate) struct Random {
+    pub(crate) state: u64,
+}
+
+impl Random {
+    /// The next number below `end`; 0 where there is none.
+    pub(crate) fn below(&mut self, end: usize) -> usize {
+        let state = self.state;
+        self.state = state
+            .wrapping_mul(6364136223846793005)
+            .wrapping_add(1442695040888963407);
+        let high = (self.state >> 33) as usize;
+        if end == 0 { 0 } else { high % end }
+    }
+
+    /// Whether a die of so many sides shows its first.
+    pub(crate) fn one_in(&mut self, sides: usize) -> bool {
+        self.below(sides) == 0
+    }
+}

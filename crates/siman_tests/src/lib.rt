@@ -16,8 +16,6 @@ mod faults;
 #[cfg(test)]
 mod large;
 #[cfg(test)]
-mod lines;
-#[cfg(test)]
 mod managers;
 #[cfg(test)]
 mod pdus;

@@ -1,6 +1,7 @@
 //! The commands of the program as calls of the library. What they say stands in the cases of
 //! `siman_cases`.
 
+mod lives;
 mod worlds;
 
 use crate::scenes::files::{NO_STEPS, ONE_STATION};

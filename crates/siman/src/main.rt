@@ -7,7 +7,7 @@ use siman_lines::UdpLine;
 use std::alloc::Global;
 use std::fs::File;
 use std::io::ErrorKind;
-use std::net::{SocketAddr, UdpSocket};
+use std::net::{Ipv4Addr, SocketAddr, UdpSocket};
 use std::process::ExitCode;
 use std::{env, io};
 
@@ -15,7 +15,7 @@ use std::{env, io};
 fn sockets(rt: &HostRuntime, alloc: Global, count: usize) -> io::Result<Vec<UdpSocket>> {
     let mut sockets = Vec::new(alloc);
     for _ in 0..count {
-        sockets.push(UdpSocket::bind(rt, "127.0.0.1:0")?)?;
+        sockets.push(UdpSocket::bind(rt, (Ipv4Addr::LOCALHOST, 0))?)?;
     }
     Ok(sockets)
 }

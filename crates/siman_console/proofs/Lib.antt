@@ -14,3 +14,4 @@ pub mod Tellings
 pub mod LineReadings
 pub mod Programs
 pub mod Lives
+pub mod Judged

@@ -1,8 +1,8 @@
 //! Stations at their lines: what each does in a move, and the rounds in which they are served.
 
-ghost use Rattle.std.specs.Prelude.{◌≡◌, ◌⊎◌, ◌<◌, length, None, OnOk, IfErr};
+ghost use Rattle.std.specs.Prelude.{◌≡◌, ◌⊎◌, ◌<◌, length, None, OnOk, IfErr, option_map, slice_get};
 ghost use Rattle.siman_worlds.specs.Acts.{order_fault, tell_fault};
-ghost use Rattle.siman_console.specs.Posts.{live_fault, Gives, at_move};
+ghost use Rattle.siman_console.specs.Posts.{live_fault, judged, move_fault, Gives, at_move};
 
 use crate::fault::Fault;
 use exercise_model::{MOST_ENTRIES, is_entity};
@@ -216,11 +216,26 @@ pub(crate) fn make_move<L: Line + Drop, W: Write>(
     recorder: &mut RecordingWriter<'_, W>,
     step: Move,
 ) -> Result<(), Halt>
+    ensures made { OnOk result (move_fault recorder.old.entries (option_map (λ (p : Post L). p.node) (slice_get posts.old.items step.station)) step.now step.act ≡ None) }
+    ensures fault { IfErr result (Gives (move_fault recorder.old.entries (option_map (λ (p : Post L). p.node) (slice_get posts.old.items step.station)) step.now step.act)) }
 {
-    let Move { now, station, act } = step;
-    if let Act::Deliver(_) = act {
+    if let Act::Deliver(_) = &step.act {
         return Ok(());
     }
+    judge_and_make(alloc, posts, recorder, step)
+}
+
+/// As [`make_move`], of a move that is no delivery.
+fn judge_and_make<L: Line + Drop, W: Write>(
+    alloc: Global,
+    posts: &mut Vec<Post<L>>,
+    recorder: &mut RecordingWriter<'_, W>,
+    step: Move,
+) -> Result<(), Halt>
+    ensures made { OnOk result (judged recorder.old.entries (option_map (λ (p : Post L). p.node) (slice_get posts.old.items step.station)) step.now step.act ≡ None) }
+    ensures fault { IfErr result (Gives (judged recorder.old.entries (option_map (λ (p : Post L). p.node) (slice_get posts.old.items step.station)) step.now step.act)) }
+{
+    let Move { now, station, act } = step;
     if recorder.entry_count() as usize + 2 > MOST_ENTRIES {
         return Err(Halt::Move(MoveFault::Records));
     }

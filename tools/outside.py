@@ -3,8 +3,8 @@
 
 It runs every command on good and bad words, input and files, with streams that are full, closed or not read, and with
 memory refused at each allocation in turn, and compares the exit status and both streams with what the pages README.md,
-docs/TEXTS.md, docs/FORMATS.md, docs/LAYOUTS.md, docs/PROFILE.md, docs/MODEL.md and docs/SCRIPTS.md say. What they say
-is computed in pages/, which knows nothing of the program; the cases stand in cases/. The scripts of examples/ and
+docs/TEXTS.md, docs/FORMATS.md, docs/LAYOUTS.md, docs/PROFILE.md, docs/MODEL.md, docs/LINES.md and docs/SCRIPTS.md say.
+What they say is computed in pages/, which knows nothing of the program; the cases stand in cases/. The scripts of examples/ and
 tools/ that write recordings are tried with it. It is no part of the gate.
 
 Each wrong case is told in one line; the last line is `N tried, M wrong`, and the status is 1 if any is wrong.
@@ -19,7 +19,7 @@ from pathlib import Path
 
 sys.dont_write_bytecode = True
 
-from cases import audits, datagrams, files, histories, memory, scripts, streams, words, worlds
+from cases import audits, datagrams, files, histories, lives, memory, scripts, streams, words, worlds
 from cases.examples import TOP, made_examples
 from cases.trials import Trials, described
 
@@ -41,7 +41,7 @@ def try_program(program, folder):
     tried = wrong = 0
     trials = Trials(str(program), folder)
     examples = made_examples(folder)
-    for part in (words, datagrams, files, histories, audits, scripts, worlds, streams, memory):
+    for part in (words, datagrams, files, histories, audits, scripts, worlds, lives, streams, memory):
         part.try_all(trials, examples)
     for verdict in trials.verdicts():
         tried += 1

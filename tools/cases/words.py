@@ -19,6 +19,7 @@ def try_words(trials):
         ["show", recording, recording], ["check", recording, certificate, certificate], ["nothing"], [""],
         ["PDU", "07"], ["shows", recording], ["--pdu", "07"], ["--nothing"], ["-x"], ["pdu", "--nothing"], [recording],
         ["pd"], ["-"], ["--", "pdu"], ["world"], ["world", "a"], ["world", "a", "b", "c"], ["world", "-a", "b"],
+        ["live"], ["live", "a"], ["live", "a", "b", "c"], ["live", "-a", "b"],
         ["pdus", "07"], ["pdus", ""], ["pdus", "-x"], ["trial"], ["audit"], ["audit", recording], ["audit", recording, "a", "b"], ["audit", recording, "-a"],
     ]:  # fmt: skip
         trials.expect(words, usage)

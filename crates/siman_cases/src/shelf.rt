@@ -2,6 +2,7 @@
 
 use crate::calls::{Calls, Given, Kept, read_from, write_to};
 use siman_console::Outside;
+use siman_lines::MemoryLine;
 use std::alloc::Global;
 use std::io;
 use std::io::ErrorKind;
@@ -49,6 +50,8 @@ impl<'a> Outside for Shelf<'a> {
 
     type Made = Kept;
 
+    type Line = MemoryLine;
+
     fn open(&mut self, name: &str) -> io::Result<Given<'a>> {
         self.asked.push_str(name)?;
         self.asked.push('\n')?;
@@ -78,5 +81,14 @@ impl<'a> Outside for Shelf<'a> {
 
     fn close(&mut self, file: Kept) {
         self.left = Some(file.bytes);
+    }
+
+    // Over these lines nothing comes.
+    fn lines(&mut self, alloc: Global, stations: usize) -> io::Result<Vec<MemoryLine>> {
+        let mut lines = Vec::new(alloc);
+        for _ in 0..stations {
+            lines.push(MemoryLine::new(alloc, Vec::new(alloc), None))?;
+        }
+        Ok(lines)
     }
 }

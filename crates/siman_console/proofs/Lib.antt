@@ -13,3 +13,5 @@ pub mod Trials
 pub mod Tellings
 pub mod LineReadings
 pub mod Programs
+pub mod Lives
+pub mod Judged

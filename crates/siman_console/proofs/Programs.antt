@@ -43,6 +43,13 @@ adds_more (Some before) (Some mid) (Some after) x xs first second = second ∙ a
 pub adds_two : (a b c : Option (List Deed)) (x y : Deed) → Adds a b (x ∷ []) → Adds b c (y ∷ []) → Adds a c (x ∷ y ∷ [])
 adds_two a b c x y first second = adds_more a b c x (y ∷ []) first second
 
+-- nothing, and then others
+pub adds_after-none : (a b c : Option (List Deed)) (xs : List Deed) → Adds a b [] → Adds b c xs → Adds a c xs
+adds_after-none None b c xs first second = tt
+adds_after-none (Some before) None c xs first second = absurd first
+adds_after-none (Some before) (Some mid) None xs first second = absurd second
+adds_after-none (Some before) (Some mid) (Some after) xs first second = second ∙ ap (λ deeds. deeds ++ xs) (first ∙ append-nil before)
+
 pub all_none : {X : Type 0} (P : X → Type 0) → All P []
 all_none P k d within = absurd (omega arith)
 

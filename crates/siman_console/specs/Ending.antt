@@ -20,7 +20,7 @@ use Rattle.siman_console.specs.declared.place.Place.{Place}
 use Rattle.siman_console.specs.declared.place.Place.TheVariants.{Offset, Line, Move}
 use Rattle.siman_console.specs.declared.fault.Fault.{Fault}
 use Rattle.siman_console.specs.declared.fault.Ended.{Ended}
-use Rattle.siman_console.specs.declared.fault.Fault.TheVariants.{NotBytePairs, HexLine, Input, File, Words, Recording, Certificate, Script, ScriptRead, World, Output, Memory}
+use Rattle.siman_console.specs.declared.fault.Fault.TheVariants.{NotBytePairs, HexLine, Input, File, Words, Recording, Certificate, Script, ScriptRead, World, LineFailed, Output, Memory}
 use Rattle.siman_console.specs.declared.files_fault.FilesFault.{FilesFault}
 use Rattle.siman_console.specs.declared.files_fault.FilesFault.TheVariants as files
 use Rattle.siman_console.specs.declared.trial_fault.TrialFault.{TrialFault}
@@ -39,6 +39,7 @@ subject_of (Certificate fault) = codes "certificate: "
 subject_of (Script fault) = codes "script: "
 subject_of ScriptRead = codes "script: "
 subject_of (World fault) = codes "world: "
+subject_of LineFailed = codes "live: "
 subject_of Output = codes "output: "
 subject_of Memory = []
 
@@ -86,6 +87,7 @@ name_of (Certificate fault) = certificate_fault_name fault
 name_of (Script fault) = script_fault_name fault
 name_of ScriptRead = codes "read"
 name_of (World fault) = world_fault_name fault
+name_of LineFailed = codes "line"
 name_of Output = codes "write"
 name_of Memory = codes "memory"
 
@@ -121,6 +123,7 @@ place_of (Certificate fault) = certificate_place fault
 place_of (Script fault) = script_place fault
 place_of ScriptRead = None
 place_of (World fault) = world_place fault
+place_of LineFailed = None
 place_of Output = None
 place_of Memory = None
 
@@ -157,6 +160,7 @@ fault_status (Certificate fault) = 2
 fault_status (Script fault) = 2
 fault_status ScriptRead = 2
 fault_status (World fault) = 2
+fault_status LineFailed = 2
 fault_status Output = 2
 fault_status Memory = 3
 

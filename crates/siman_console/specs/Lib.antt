@@ -12,6 +12,8 @@ pub mod Words
 pub mod Outcome
 pub mod Search
 pub mod World
+pub mod Posts
+pub mod Live
 pub mod Trial
 pub mod Lines
 pub mod Program

@@ -1,5 +1,5 @@
 -- How the program ends, from the words of its command line to its status.
-use Rattle.std.specs.Prelude.{◌≡◌, ◌≢◌, ◌⊎◌, ℕ, List, [], ◌∷◌, ◌++◌, length, codes, Option, Some, None, Result, Ok, Err, map, string_bytes, Vec, String}
+use Rattle.std.specs.Prelude.{◌≡◌, ◌≢◌, true, ◌⊎◌, ℕ, List, [], ◌∷◌, ◌++◌, length, codes, Option, Some, None, Result, Ok, Err, map, string_bytes, Vec, String}
 use Rattle.std.specs.declared.alloc.Global.{Global}
 use Rattle.std.specs.Io.KnownBytes.{Keeps}
 use Rattle.std.specs.declared.io.ErrorKind.{ErrorKind}
@@ -12,13 +12,16 @@ use Rattle.exercise_check.specs.declared.certificate.Step.{Step}
 use Rattle.exercise_check.specs.Certificate.{certificate_at, certificate_text}
 use Rattle.exercise_model.specs.Recording.{PlainRecording}
 use Rattle.siman_worlds.specs.Script.{script_at}
+use Rattle.siman_worlds.specs.Script.{ScriptData}
 use Rattle.siman_worlds.specs.Text.{lines_of}
+use Rattle.siman_worlds.specs.World.{are_world_stations}
 use Rattle.siman_console.specs.declared.fault.Fault.{Fault}
-use Rattle.siman_console.specs.declared.fault.Fault.TheVariants.{Output, Memory}
+use Rattle.siman_console.specs.declared.fault.Fault.TheVariants.{LineFailed, Output, Memory}
 use Rattle.siman_console.specs.Answer.{said_of_hex, IsSaid}
 use Rattle.siman_console.specs.Check.{Recorded, Certified, TellsCheck}
 use Rattle.siman_console.specs.Ending.{Ends, fault_text}
 use Rattle.siman_console.specs.Lines.{EndsLines}
+use Rattle.siman_console.specs.Live.{BeginsNone, TellsMoves}
 use Rattle.siman_console.specs.Outside.{Deed, Opens, Makes, Leaves}
 use Rattle.siman_console.specs.Outcome.{Stream, Outcome, IsUnread, EndsUsage}
 use Rattle.siman_console.specs.declared.search.Finding.{Finding}
@@ -26,7 +29,7 @@ use Rattle.siman_console.specs.declared.search.Finding.TheVariants as findings
 use Rattle.siman_console.specs.Search.{explained_line, FindsOrder, FindsNone, IsUnsearched, PutsBoth, PutsBlocked}
 use Rattle.siman_console.specs.Show.{TellsShow}
 use Rattle.siman_console.specs.Trial.{TellsTrial}
-use Rattle.siman_console.specs.Words.{Asked, Trial, Pdu, Pdus, Show, Check, Audit, World, asked}
+use Rattle.siman_console.specs.Words.{Asked, Trial, Pdu, Pdus, Show, Check, Audit, World, Live, asked}
 use Rattle.siman_console.specs.World.{Scripted, Yields, YieldsNone, PutsWorld}
 
 -- what a command answered, its status, or the fault that it met
@@ -108,6 +111,41 @@ RunsFile script recording (Opens opened (Err kind) ∷ deeds) answered out = (op
 RunsFile script recording (Makes made found ∷ deeds) answered out = ⊥
 RunsFile script recording (Leaves left ∷ deeds) answered out = ⊥
 
+-- how it is told that the lines of stations could not be had: want of memory, or else `live: line`
+abbrev pub IsUnlined : Fault → Type 0
+IsUnlined fault = (fault ≡ Memory) ⊎ (fault ≡ LineFailed)
+
+-- A FILE IS MADE of what comes of so many moves, and left
+abbrev pub MakesMoves : (name : List ℕ) → (count : ℕ) → List Deed → Answered → Stream → Type 0
+MakesMoves name count (Makes made (Err kind) ∷ []) answered out = (made ≡ name) × TellsUnmade kind answered out
+MakesMoves name count (Makes made (Ok fresh) ∷ Leaves left ∷ []) answered out = (made ≡ name) × TellsMoves count answered out
+MakesMoves name count deeds answered out = ⊥
+
+-- None is made where the lines of the stations could not be had.
+abbrev pub LivesBegun : (name : List ℕ) → (count : ℕ) → List Deed → Answered → Stream → Type 0
+LivesBegun name count deeds answered out =
+    ((fault : Fault) × IsUnlined fault × (answered ≡ Err fault) × (deeds ≡ []) × Keeps out.old out.new)
+    ⊎ MakesMoves name count deeds answered out
+
+-- A file is made of what comes of the moves of a script, and none where its stations do not begin.
+abbrev pub LivesScript : Scripted → (recording : List ℕ) → List Deed → Answered → Stream → Type 0
+LivesScript scripted recording deeds answered out =
+    ((fault : Fault) × BeginsNone scripted fault × (answered ≡ Err fault) × (deeds ≡ []) × Keeps out.old out.new)
+    ⊎ ((s : ScriptData) × (scripted ≡ Ok s) × (are_world_stations s.stations ≡ true) × LivesBegun recording (length s.moves) deeds answered out)
+
+-- `live` had this script, where its bytes are known, or some
+abbrev pub LivesFound : Option (List ℕ) → (recording : List ℕ) → List Deed → Answered → Stream → Type 0
+LivesFound (Some text) recording deeds answered out = LivesScript (script_at text) recording deeds answered out
+LivesFound None recording deeds answered out = (scripted : Scripted) × LivesScript scripted recording deeds answered out
+
+-- A SCRIPT IS OPENED for `live`, and then the file of what comes of its moves is made
+abbrev pub LivesFile : (script recording : List ℕ) → List Deed → Answered → Stream → Type 0
+LivesFile script recording [] answered out = ⊥
+LivesFile script recording (Opens opened (Ok text) ∷ deeds) answered out = (opened ≡ script) × LivesFound text recording deeds answered out
+LivesFile script recording (Opens opened (Err kind) ∷ deeds) answered out = (opened ≡ script) × (deeds ≡ []) × TellsUnopened script kind answered out
+LivesFile script recording (Makes made found ∷ deeds) answered out = ⊥
+LivesFile script recording (Leaves left ∷ deeds) answered out = ⊥
+
 -- A FILE IS MADE of the first of two texts, and left with what was written of it; then the second is out
 abbrev pub MakesBoth : (name first second : List ℕ) → List Deed → Answered → Stream → Type 0
 MakesBoth name first second (Makes made (Err kind) ∷ []) answered out = (made ≡ name) × TellsUnmade kind answered out
@@ -154,6 +192,7 @@ EndsTask (Show recording) deeds input o = EndsAs (ShowsFile recording deeds) o
 EndsTask (Check recording certificate) deeds input o = EndsAs (ChecksFiles recording certificate deeds) o
 EndsTask (Audit recording certificate) deeds input o = EndsAs (AuditsFile recording certificate deeds) o
 EndsTask (World script recording) deeds input o = EndsAs (RunsFile script recording deeds) o
+EndsTask (Live script recording) deeds input o = EndsAs (LivesFile script recording deeds) o
 
 -- Words that ask for nothing of the table ask for help or break the usage, and no file is opened.
 abbrev pub EndsAsked : Option Asked → List Deed → Option (List ℕ) → Outcome → Type 0

@@ -15,7 +15,7 @@ use Rattle.exercise_model.specs.History.{station_at}
 use Rattle.exercise_model.specs.Meaning.{meaning}
 use Rattle.byte_files.specs.Writing.{WritesPart}
 use Rattle.siman_console.specs.declared.fault.Fault.{Fault}
-use Rattle.siman_console.specs.declared.fault.Fault.TheVariants.{NotBytePairs, HexLine, Input, File, Words, Recording, Certificate, Script, ScriptRead, World, Output, Memory}
+use Rattle.siman_console.specs.declared.fault.Fault.TheVariants.{NotBytePairs, HexLine, Input, File, Words, Recording, Certificate, Script, ScriptRead, World, LineFailed, Output, Memory}
 use Rattle.siman_console.specs.Ending.{EndsWith}
 use Rattle.siman_console.specs.Head.{head_text}
 use Rattle.siman_console.specs.Records.{line_end}
@@ -99,6 +99,7 @@ Shows recorded (Err (Certificate fault)) old new = ⊥
 Shows recorded (Err (Script fault)) old new = ⊥
 Shows recorded (Err ScriptRead) old new = ⊥
 Shows recorded (Err (World fault)) old new = ⊥
+Shows recorded (Err LineFailed) old new = ⊥
 Shows recorded (Err Output) old new = ShowsPart recorded old new
 Shows recorded (Err Memory) old new = Keeps old new ⊎ ShowsPart recorded old new
 

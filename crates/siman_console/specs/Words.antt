@@ -13,6 +13,7 @@ pub data Asked : Type 0 where
   Check : (recording certificate : List ℕ) → Asked
   Audit : (recording certificate : List ℕ) → Asked
   World : (script recording : List ℕ) → Asked
+  Live : (script recording : List ℕ) → Asked
 
 abbrev pub asked_by : Task → Asked
 asked_by tasks.Trial = Trial
@@ -22,6 +23,7 @@ asked_by (tasks.Show recording) = Show recording.now
 asked_by (tasks.Check recording certificate) = Check recording.now certificate.now
 asked_by (tasks.Audit recording certificate) = Audit recording.now certificate.now
 asked_by (tasks.World script recording) = World script.now recording.now
+asked_by (tasks.Live script recording) = Live script.now recording.now
 
 -- a word that begins with a hyphen, and has more, is an option
 abbrev pub is_option : List ℕ → Bool
@@ -52,6 +54,10 @@ abbrev pub world_asked : List (List ℕ) → Option Asked
 world_asked (script ∷ recording ∷ []) = if is_option script || is_option recording then None else Some (World script recording)
 world_asked words = None
 
+abbrev pub live_asked : List (List ℕ) → Option Asked
+live_asked (script ∷ recording ∷ []) = if is_option script || is_option recording then None else Some (Live script recording)
+live_asked words = None
+
 abbrev pub command_asked : List ℕ → List (List ℕ) → Option Asked
 command_asked command words =
     if bytes_eq command (codes "pdu") then pdu_asked words
@@ -60,6 +66,7 @@ command_asked command words =
     else if bytes_eq command (codes "check") then check_asked words
     else if bytes_eq command (codes "audit") then audit_asked words
     else if bytes_eq command (codes "world") then world_asked words
+    else if bytes_eq command (codes "live") then live_asked words
     else None
 
 -- THE TABLE OF COMMANDS: what words ask for, the program's name first; other words ask for help, or break the usage

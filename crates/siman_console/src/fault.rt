@@ -41,6 +41,8 @@ pub enum Fault<'a> {
     ScriptRead,
     /// The world of the script does not run; never for want of memory.
     World(WorldFault),
+    /// A line of a station could not be had, or a call of it failed.
+    LineFailed,
     /// The answer could not be written whole.
     Output,
     /// Memory ran out.
@@ -60,6 +62,7 @@ impl<'a> Fault<'a> {
             Fault::Certificate(_) => "certificate: ",
             Fault::Script(_) | Fault::ScriptRead => "script: ",
             Fault::World(_) => "world: ",
+            Fault::LineFailed => "live: ",
             Fault::Output => "output: ",
             Fault::Memory => "",
         }
@@ -83,6 +86,7 @@ impl<'a> Fault<'a> {
             Fault::Script(ScriptFault::UnknownStation(_)) => "unknown-station",
             Fault::World(WorldFault::Stations) => "stations",
             Fault::World(WorldFault::Move(_, fault)) => move_fault_name(fault),
+            Fault::LineFailed => "line",
             Fault::Output => "write",
             Fault::Recording(RecordingFault::Memory)
             | Fault::Certificate(CertificateFault::Memory)
@@ -126,6 +130,7 @@ impl<'a> Fault<'a> {
             | Fault::Script(_)
             | Fault::ScriptRead
             | Fault::World(_)
+            | Fault::LineFailed
             | Fault::Output => 2,
         }
     }

@@ -5,7 +5,8 @@
 //! [`read_words`] and [`usage_command`] for the words of a command line, [`pdu_command`] and
 //! [`pdus_command`] for datagrams in hex text, [`show_command`] for recordings, [`check_command`]
 //! for a recording and its certificate, [`audit_command`] for the search of a recording,
-//! [`world_command`] for a script and the recording of its world, [`trial`] for a script and the
+//! [`world_command`] for a script and the recording of its world, [`live_command`] for a script whose
+//! stations stand at lines, [`trial`] for a script and the
 //! report of its world. Their contracts give the status and the bytes on the writer of the answer;
 //! the writer of faults gets bytes only where the status is 2 or 3.
 #![tactic(auto)]
@@ -20,8 +21,10 @@ mod head;
 mod hex_text;
 mod input;
 mod lines;
+mod live;
 mod outside;
 mod place;
+mod posts;
 mod program;
 mod recording_file;
 mod records;
@@ -39,6 +42,7 @@ pub use datagram::pdu_command;
 pub use fault::Ended;
 pub use files_fault::FilesFault;
 pub use lines::pdus_command;
+pub use live::live_command;
 pub use outside::Outside;
 pub use program::run;
 pub use script_trial::{perform, trial};

@@ -1,9 +1,11 @@
 //! What a program may do outside.
 
+use siman_lines::Line;
+use std::alloc::Global;
 use std::io;
 use std::io::{Read, Write};
 
-/// The files that a program may open and make. In contracts it may tell what it holds and what it
+/// The files that a program may open and make, and the lines that it may have. In contracts it may tell what it holds and what it
 /// did; the files of the operating system tell neither.
 pub trait Outside {
     ghost use Rattle.std.specs.Prelude.{◌≡◌, ◌∷◌, [], ℕ, List, Option, None};
@@ -14,6 +16,9 @@ pub trait Outside {
 
     /// A file that was made to be written.
     type Made: Write + Drop;
+
+    /// The end of a network at one station.
+    type Line: Line + Drop;
 
     /// What was opened, made and closed so far, oldest first, where it is known.
     ghost deeds: { Self → Option (List Deed) } = { λ _. None };
@@ -35,4 +40,8 @@ pub trait Outside {
     /// Closes a file that was made, and leaves it as it is.
     fn close(&mut self, file: Self::Made)
         ensures done { Adds (deeds self.old) (deeds self.new) (Leaves (Self.Made.contents file) ∷ []) };
+
+    /// The lines of so many stations, each of which sends to all others. No file is opened or made.
+    fn lines(&mut self, alloc: Global, stations: usize) -> io::Result<Vec<Self::Line>>
+        ensures done { Adds (deeds self.old) (deeds self.new) [] };
 }

@@ -1,24 +1,27 @@
 //! The whole way from the words of a command line to the status.
 
-ghost use Rattle.std.specs.Prelude.{ℕ, List, Option};
+ghost use Rattle.std.specs.Prelude.{ℕ, List, Option, length};
 ghost use Rattle.std.specs.IoError.{error_kind};
 ghost use Rattle.std.specs.List.{All};
 ghost use Rattle.siman_console.specs.Outside.{Deed, Found, Adds, WasHeld};
 ghost use Rattle.siman_console.specs.Outcome.{Stream, Outcome};
-ghost use Rattle.siman_console.specs.Program.{IsUnopened, IsUnmade, ShowsFile, ChecksFiles, MakesFile, RunsFile, MakesBoth, MakesFinding, AuditsFile, EndsTask, EndsProgram, words_by};
+ghost use Rattle.siman_console.specs.Program.{IsUnopened, IsUnmade, ShowsFile, ChecksFiles, MakesFile, RunsFile, IsUnlined, MakesMoves, LivesBegun, LivesFile, MakesBoth, MakesFinding, AuditsFile, EndsTask, EndsProgram, words_by};
 ghost use Rattle.siman_console.specs.Words.{asked_by};
 
 use crate::check::check_recording;
 use crate::datagram::tell_word;
 use crate::fault::{Ended, Fault, end};
 use crate::lines::end_lines;
+use crate::live::{Begun, begin_script, put_moves};
 use crate::outside::Outside;
+use crate::posts::{Post, posts_of};
 use crate::script_trial::tell_trial;
 use crate::search::{Finding, put_order, put_stuck, search};
 use crate::show::show_recording;
 use crate::words::{Task, end_usage, read_words, unread};
 use crate::world::{put_world, run_script};
 use exercise_recording::Recording;
+use siman_worlds::Move;
 use std::alloc::Global;
 use std::io;
 use std::io::{ErrorKind, Read, Write};
@@ -184,6 +187,88 @@ fn audit_named<'a, O: Outside, W: Write>(
     }
 }
 
+/// How it is told that the lines of the stations could not be had.
+fn unlined(error: &io::Error) -> Fault<'static>
+    ensures { IsUnlined result }
+{
+    if error.kind() == ErrorKind::OutOfMemory {
+        return Fault::Memory;
+    }
+    Fault::LineFailed
+}
+
+/// Makes the file of a recording, in which the stations write what comes of their moves, and then
+/// the line.
+fn make_live<O: Outside, W: Write>(
+    alloc: Global,
+    head: &Recording,
+    posts: Vec<Post<O::Line>>,
+    moves: Vec<Move>,
+    name: &str,
+    outside: &mut O,
+    out: &mut W,
+) -> Result<u8, Fault<'static>>
+    ensures { let out : Stream = record { old = W.contents out.old; new = W.contents out.new } in
+        (deeds : List Deed) × Adds (O.deeds outside.old) (O.deeds outside.new) deeds × ((holds : List ℕ → Option Found) → All (WasHeld holds) deeds) × MakesMoves name.now (length moves.items) deeds result out }
+{
+    match outside.make(name) {
+        Ok(file) => {
+            let mut file = file;
+            let answered = put_moves(alloc, head, posts, moves, &mut file, out);
+            outside.close(file);
+            answered
+        }
+        Err(error) => Err(unmade(&error)),
+    }
+}
+
+/// Has the lines of stations, and then makes the file of what comes of their moves.
+fn live_begun<O: Outside, W: Write>(
+    alloc: Global,
+    begun: Begun,
+    name: &str,
+    outside: &mut O,
+    out: &mut W,
+) -> Result<u8, Fault<'static>>
+    ensures { let out : Stream = record { old = W.contents out.old; new = W.contents out.new } in
+        (deeds : List Deed) × Adds (O.deeds outside.old) (O.deeds outside.new) deeds × ((holds : List ℕ → Option Found) → All (WasHeld holds) deeds) × LivesBegun name.now (length begun.moves.items) deeds result out }
+{
+    let Begun {
+        recording,
+        nodes,
+        moves,
+    } = begun;
+    let lines = match outside.lines(alloc, nodes.len()) {
+        Ok(lines) => lines,
+        Err(error) => return Err(unlined(&error)),
+    };
+    match posts_of(alloc, nodes, lines) {
+        Ok(posts) => make_live(alloc, &recording, posts, moves, name, outside, out),
+        Err(fault) => Err(fault),
+    }
+}
+
+/// Opens a script and begins its stations; then has their lines, and makes the file in which they
+/// write what comes of their moves, and then the line.
+fn live_named<'a, O: Outside, W: Write>(
+    alloc: Global,
+    names: (&'a str, &'a str),
+    outside: &mut O,
+    out: &mut W,
+) -> Result<u8, Fault<'a>>
+    ensures { let out : Stream = record { old = W.contents out.old; new = W.contents out.new } in
+        (deeds : List Deed) × Adds (O.deeds outside.old) (O.deeds outside.new) deeds × All (WasHeld (O.holds outside.old)) deeds × LivesFile names.entry.0.now names.entry.1.now deeds result out }
+{
+    let (script, recording) = names;
+    match outside.open(script) {
+        Ok(file) => match begin_script(alloc, file) {
+            Ok(begun) => live_begun(alloc, begun, recording, outside, out),
+            Err(fault) => Err(fault),
+        },
+        Err(error) => Err(unopened(script, &error)),
+    }
+}
+
 /// Does what the words ask for, and ends as that asks for.
 fn end_task<'a, O: Outside, R: Read + Drop, W: Write, E: Write>(
     alloc: Global,
@@ -212,6 +297,10 @@ fn end_task<'a, O: Outside, R: Read + Drop, W: Write, E: Write>(
         Task::World(script, recording) => {
             let names = (script, recording);
             end(world_named(alloc, names, outside, out), errors)
+        }
+        Task::Live(script, recording) => {
+            let names = (script, recording);
+            end(live_named(alloc, names, outside, out), errors)
         }
     }
 }

@@ -6,7 +6,7 @@ ghost use Rattle.std.specs.IoError.{error_kind};
 ghost use Rattle.clap.specs.Values.{kind_of};
 ghost use Rattle.siman_console.specs.Ending.{Wrote};
 ghost use Rattle.siman_console.specs.Outcome.{Outcome, EndsUsage, IsUnread};
-ghost use Rattle.siman_console.specs.Words.{asked_by, is_option, pdu_asked, pdus_asked, show_asked, check_asked, audit_asked, world_asked, command_asked, asked};
+ghost use Rattle.siman_console.specs.Words.{asked_by, is_option, pdu_asked, pdus_asked, show_asked, check_asked, audit_asked, world_asked, live_asked, command_asked, asked};
 
 use crate::fault::{Ended, Fault, end};
 use byte_files::put_shown;
@@ -36,6 +36,9 @@ pub enum Task<'a> {
     Audit(&'a str, &'a str),
     /// `world SCRIPT REC`: run the script of the first file, and make the second of its recording.
     World(&'a str, &'a str),
+    /// `live SCRIPT REC`: make the moves of the script of the first file over sockets, and make the
+    /// second of their recording.
+    Live(&'a str, &'a str),
 }
 
 /// The version of the program.
@@ -45,7 +48,7 @@ const VERSION: &str = "0.1.0";
 const STATUSES: &str = "Exit status:
   0  the answer is on standard output; of `check` it is yes, of `audit` explained
   1  a datagram is refused, or the answer of `check` is no, of `audit` blocked
-  2  a fault of usage, hex text, files, scripts, worlds or writing, told on standard error
+  2  a fault of usage, hex text, files, scripts, worlds, lines or writing, told on standard error
   3  memory ran out
 
 Examples:
@@ -55,7 +58,8 @@ Examples:
   siman show exercise.dsrc
   siman check exercise.dsrc exercise.dsct
   siman audit exercise.dsrc exercise.dsct
-  siman world exercise.script exercise.dsrc";
+  siman world exercise.script exercise.dsrc
+  siman live exercise.script exercise.dsrc";
 
 fn pdu<'a>(alloc: Global) -> Result<Command<'a>, Error> {
     let hex = Arg::new(alloc, "HEX")
@@ -149,6 +153,26 @@ fn world<'a>(alloc: Global) -> Result<Command<'a>, Error> {
     )
 }
 
+fn live<'a>(alloc: Global) -> Result<Command<'a>, Error> {
+    let script = Arg::new(alloc, "SCRIPT")
+        .required(true)
+        .action(ArgAction::Set)
+        .help("The file of the script");
+    let recording = Arg::new(alloc, "REC")
+        .required(true)
+        .action(ArgAction::Set)
+        .help("The file of the recording, which is made anew");
+    Ok(
+        Command::new(alloc, "live")
+            .about(
+                "Makes the moves of a script over UDP sockets of the loopback, one a station, and writes their recording",
+            )
+            .after_help("Example:\n  siman live exercise.script exercise.dsrc")
+            .arg(script)?
+            .arg(recording)?,
+    )
+}
+
 fn siman<'a>(alloc: Global) -> Result<Command<'a>, Error> {
     Ok(
         Command::new(alloc, "siman")
@@ -162,7 +186,8 @@ fn siman<'a>(alloc: Global) -> Result<Command<'a>, Error> {
             .subcommand(show(alloc)?)?
             .subcommand(check(alloc)?)?
             .subcommand(audit(alloc)?)?
-            .subcommand(world(alloc)?)?,
+            .subcommand(world(alloc)?)?
+            .subcommand(live(alloc)?)?,
     )
 }
 
@@ -236,6 +261,17 @@ fn world_task<S: AsStr>(words: &[S]) -> Option<Task<'_>>
     }
 }
 
+fn live_task<S: AsStr>(words: &[S]) -> Option<Task<'_>>
+    ensures { option_map asked_by result ≡ live_asked (map S.text words.now) }
+{
+    match words {
+        [script, recording] if !is_option(script.as_str()) && !is_option(recording.as_str()) => {
+            Some(Task::Live(script.as_str(), recording.as_str()))
+        }
+        _ => None,
+    }
+}
+
 /// The task that the words of a command ask for.
 fn command_task<'a, S: AsStr>(command: &str, words: &'a [S]) -> Option<Task<'a>>
     ensures { option_map asked_by result ≡ command_asked command.now (map S.text words.now) }
@@ -247,6 +283,7 @@ fn command_task<'a, S: AsStr>(command: &str, words: &'a [S]) -> Option<Task<'a>>
         "check" => check_task(words),
         "audit" => audit_task(words),
         "world" => world_task(words),
+        "live" => live_task(words),
         _ => None,
     }
 }

@@ -44,6 +44,6 @@ pub use script::{LARGEST_SCRIPT, Script, read_script};
 pub use script_fault::ScriptFault;
 pub use sending::{OrderTextFault, order_text, repeat_text};
 pub use turn::{Node, TurnFault, stamp_of, take_turn};
-pub use world::run_world;
+pub use world::{Beginning, begin_world, run_world};
 pub use world_fault::{MoveFault, WorldFault};
 pub use world_station::WorldStation;

@@ -120,6 +120,34 @@ fn recording_of(
     }
 }
 
+/// The stations of a world before its first move.
+#[derive(Drop)]
+pub struct Beginning {
+    /// A recording of them with no entries.
+    pub recording: Recording,
+    /// The halves of each station.
+    pub nodes: Vec<Node>,
+}
+
+/// The stations of a world as they are begun: a recording of them with no entries, and the halves of
+/// each. Stations is answered where a world cannot have them: there is none or more than 256, the
+/// addresses do not strictly rise, an order would be sent 0 times, or a station opens with more than
+/// 4,096 entities.
+pub fn begin_world(
+    alloc: Global,
+    exercise: u8,
+    stations: Vec<WorldStation>,
+) -> Result<Beginning, WorldFault>
+    ensures recording { IfOk result (λ b. b.recording ≡ opened (record { exercise = exercise; stations = map (λ s. s.station) stations.items })) }
+    ensures nodes { IfOk result (λ b. AreNewNodes exercise stations.items b.nodes.items) }
+    ensures stations { OnOk result (are_world_stations stations.items ≡ true) }
+    ensures fault { IfErr result (λ fault. (fault ≡ WorldFault.Memory) ⊎ ((fault ≡ WorldFault.Stations) × (are_world_stations stations.items ≡ false))) }
+{
+    let nodes = nodes_of(alloc, exercise, &stations)?;
+    let recording = recording_of(alloc, exercise, stations)?;
+    Ok(Beginning { recording, nodes })
+}
+
 impl World {
     /// A world before its first move.
     fn begin(alloc: Global, exercise: u8, stations: Vec<WorldStation>) -> Result<World, WorldFault>
@@ -127,8 +155,7 @@ impl World {
         ensures stations { OnOk result (are_world_stations stations.items ≡ true) }
         ensures fault { IfErr result (λ fault. (fault ≡ WorldFault.Memory) ⊎ ((fault ≡ WorldFault.Stations) × (are_world_stations stations.items ≡ false))) }
     {
-        let nodes = nodes_of(alloc, exercise, &stations)?;
-        let recording = recording_of(alloc, exercise, stations)?;
+        let Beginning { recording, nodes } = begin_world(alloc, exercise, stations)?;
         Ok(World {
             journal: Journal::begin(alloc, recording),
             nodes,

@@ -1,26 +1,9 @@
-use Rattle.std.proofs.Common.{subst, ◌∙◌, map}
-use Rattle.std.specs.Prelude.{List}
-use Rattle.std.specs.List.{list_all}
-use Rattle.exercise_model.specs.Station.{are_stations}
-use Rattle.siman_worlds.specs.Holds.{AreNewNodes}
-use Rattle.siman_worlds.specs.World.{WorldData, is_world_station}
-use Rattle.siman_worlds.specs.Stations.{WorldStationData}
-use Rattle.siman_worlds.proofs.Begins.{begun, new_fit, and_true}
+use Rattle.std.proofs.Common.{◌∙◌}
+use Rattle.siman_worlds.specs.World.{WorldData}
+use Rattle.siman_worlds.proofs.Begins.{begun}
 use Rattle.siman_worlds.proofs.world.World.begin.Goals as goal
 
 pub returns-clause-begun : goal.returns-clause-begun
 returns-clause-begun c =
     let w : WorldData = record { exercise = c.args.exercise; stations = c.args.stations.items } in
-    let are : AreNewNodes c.args.exercise c.args.stations.items c.in_ok-nodes.nodes.items =
-    subst (λ (ss : List WorldStationData). AreNewNodes c.args.exercise ss c.in_ok-nodes.nodes.items) c.deref.ensures.value
-    c.in_ok-nodes.ensures.nodes in
-    begun w _ are (c.begin.ensures.recording ∙ c.in_ok-recording.ensures.opened) c.begin.ensures.sends
-
-pub returns-clause-stations : goal.returns-clause-stations
-returns-clause-stations c =
-    let are : AreNewNodes c.args.exercise c.args.stations.items c.in_ok-nodes.nodes.items =
-    subst (λ (ss : List WorldStationData). AreNewNodes c.args.exercise ss c.in_ok-nodes.nodes.items) c.deref.ensures.value
-    c.in_ok-nodes.ensures.nodes in
-    and_true (are_stations (map (λ s. s.station) c.args.stations.items))
-    (list_all is_world_station c.args.stations.items) c.in_ok-recording.ensures.stations
-    (new_fit c.args.exercise c.args.stations.items c.in_ok-nodes.nodes.items are)
+    begun w _ c.in_ok-recording.ensures.nodes (c.begin.ensures.recording ∙ c.in_ok-recording.ensures.recording) c.begin.ensures.sends

@@ -1,0 +1,99 @@
+-- What `live` does with the stations and moves of a script, and how it ends (profile).
+use Rattle.std.specs.Prelude.{◌≡◌, ◌⊎◌, ◌≤◌, ◌<◌, ⊤, ℕ, true, false, List, ◌++◌, length, codes, decimal, Option, Some, None, Result, Ok, Err}
+use Rattle.std.specs.Io.KnownBytes.{Appends, Keeps}
+use Rattle.byte_files.specs.Writing.{WritesPart}
+use Rattle.exercise_model.specs.declared.recording.TheConstants.{MOST_ENTRIES}
+use Rattle.siman_worlds.specs.declared.script_fault.ScriptFault.TheVariants as scripts
+use Rattle.siman_worlds.specs.declared.world_fault.WorldFault.TheVariants as worlds
+use Rattle.siman_worlds.specs.Script.{ScriptData}
+use Rattle.siman_worlds.specs.World.{are_world_stations}
+use Rattle.siman_console.specs.declared.fault.Fault.{Fault}
+use Rattle.siman_console.specs.declared.fault.Fault.TheVariants.{NotBytePairs, HexLine, Input, File, Words, Recording, Certificate, Script, ScriptRead, World, LineFailed, Output, Memory}
+use Rattle.siman_console.specs.declared.live.Begun.{Begun}
+use Rattle.siman_console.specs.Ending.{EndsWith}
+use Rattle.siman_console.specs.Outcome.{Stream}
+use Rattle.siman_console.specs.Records.{line_end}
+use Rattle.siman_console.specs.World.{Scripted}
+
+-- live records=N
+abbrev pub live_line : ℕ → List ℕ
+live_line entries = codes "live records=" ++ decimal entries ++ line_end
+
+-- WHAT COMES OF A SCRIPT BEFORE ITS MOVES: its stations begin and their lines stand, or it is told why not. The first line of the script that is refused, stations that a world cannot have, lines that cannot be had; a failed read may come in place of the script, want of memory at any time.
+abbrev pub BeginsNone : Scripted → Fault → Type 0
+BeginsNone scripted (Script (scripts.BadLine line)) = scripted ≡ Err (scripts.BadLine line)
+BeginsNone scripted (Script (scripts.UnknownStation line)) = scripted ≡ Err (scripts.UnknownStation line)
+BeginsNone scripted (Script scripts.Memory) = ⊥
+BeginsNone scripted ScriptRead = ⊤
+BeginsNone scripted (World worlds.Stations) = (s : ScriptData) × (scripted ≡ Ok s) × (are_world_stations s.stations ≡ false)
+BeginsNone scripted (World (worlds.Move number fault)) = ⊥
+BeginsNone scripted (World worlds.Memory) = ⊥
+BeginsNone scripted LineFailed = (s : ScriptData) × (scripted ≡ Ok s) × (are_world_stations s.stations ≡ true)
+BeginsNone scripted NotBytePairs = ⊥
+BeginsNone scripted (HexLine number) = ⊥
+BeginsNone scripted Input = ⊥
+BeginsNone scripted (File name) = ⊥
+BeginsNone scripted Words = ⊥
+BeginsNone scripted (Recording fault) = ⊥
+BeginsNone scripted (Certificate fault) = ⊥
+BeginsNone scripted Output = ⊥
+BeginsNone scripted Memory = ⊤
+
+-- WHAT IS TOLD OF SO MANY MOVES: with status 0 the line with the number of entries is out, whole. A move that is refused is one of these. After a failed write a prefix of the line is out, or nothing; after any other fault nothing.
+abbrev pub TellsMoves : (count : ℕ) → Result ℕ Fault → (out : Stream) → Type 0
+TellsMoves count (Ok status) out = (status ≡ 0) × ((n : ℕ) × (n ≤ MOST_ENTRIES) × Appends out.old out.new (live_line n))
+TellsMoves count (Err (World worlds.Stations)) out = ⊥
+TellsMoves count (Err (World (worlds.Move number fault))) out = (number < count) × Keeps out.old out.new
+TellsMoves count (Err (World worlds.Memory)) out = ⊥
+TellsMoves count (Err LineFailed) out = Keeps out.old out.new
+TellsMoves count (Err Output) out = Keeps out.old out.new ⊎ ((n : ℕ) × (n ≤ MOST_ENTRIES) × WritesPart out.old out.new (live_line n))
+TellsMoves count (Err Memory) out = Keeps out.old out.new
+TellsMoves count (Err NotBytePairs) out = ⊥
+TellsMoves count (Err (HexLine number)) out = ⊥
+TellsMoves count (Err Input) out = ⊥
+TellsMoves count (Err (File name)) out = ⊥
+TellsMoves count (Err Words) out = ⊥
+TellsMoves count (Err (Recording fault)) out = ⊥
+TellsMoves count (Err (Certificate fault)) out = ⊥
+TellsMoves count (Err (Script fault)) out = ⊥
+TellsMoves count (Err ScriptRead) out = ⊥
+
+-- why moves halt, of which there are so many: a move that is refused is one of them
+abbrev pub HaltsIn : (count : ℕ) → Fault → Type 0
+HaltsIn count (World (worlds.Move number fault)) = number < count
+HaltsIn count LineFailed = ⊤
+HaltsIn count Output = ⊤
+HaltsIn count Memory = ⊤
+HaltsIn count (World worlds.Stations) = ⊥
+HaltsIn count (World worlds.Memory) = ⊥
+HaltsIn count NotBytePairs = ⊥
+HaltsIn count (HexLine number) = ⊥
+HaltsIn count Input = ⊥
+HaltsIn count (File name) = ⊥
+HaltsIn count Words = ⊥
+HaltsIn count (Recording fault) = ⊥
+HaltsIn count (Certificate fault) = ⊥
+HaltsIn count (Script fault) = ⊥
+HaltsIn count ScriptRead = ⊥
+
+-- the stations of a script were begun, and its moves are these
+pub record IsBegun (scripted : Scripted) (begun : Begun) : Type 0 where
+  pub script : ScriptData
+  pub read : scripted ≡ Ok script
+  pub stations : are_world_stations script.stations ≡ true
+  pub moves : begun.moves.items ≡ script.moves
+
+abbrev pub Begins : Scripted → Result Begun Fault → Type 0
+Begins scripted (Ok begun) = IsBegun scripted begun
+Begins scripted (Err fault) = BeginsNone scripted fault
+
+-- What `live` tells: nothing comes of the script, and nothing is written; or its stations make its moves.
+abbrev pub TellsLive : Scripted → (answered : Result ℕ Fault) → (file out : Stream) → Type 0
+TellsLive scripted answered file out =
+    ((fault : Fault) × BeginsNone scripted fault × (answered ≡ Err fault) × Keeps file.old file.new × Keeps out.old out.new)
+    ⊎ ((s : ScriptData) × (scripted ≡ Ok s) × (are_world_stations s.stations ≡ true) × TellsMoves (length s.moves) answered out)
+
+-- HOW `live` ENDS: what it made of the script is in the file and out, and it ends as that asks for
+abbrev pub EndsLive : Scripted → (status : ℕ) → (file out errors : Stream) → Type 0
+EndsLive scripted status file out errors =
+    (answered : Result ℕ Fault) × TellsLive scripted answered file out × EndsWith answered status errors.old errors.new

@@ -19,12 +19,13 @@ use Rattle.exercise_check.specs.declared.cause.Judgement.TheVariants.{Allowed, F
 use Rattle.exercise_check.specs.Order.{order_of, first_sender, link_of}
 use Rattle.exercise_check.specs.Goodness.{IsReady}
 use Rattle.exercise_check.specs.Course.{Judges}
-use Rattle.exercise_check.specs.Tables.{JudgesOwn, is_never_sent, is_unsent}
+use Rattle.exercise_check.specs.Tables.{event_own_cause, is_never_sent, is_unsent}
 use Rattle.exercise_check.proofs.Courses.{received_sent, received_unsent, sender_tells}
 use Rattle.exercise_check.proofs.Orders.{sender_within}
 
 pub sent_judged : (r : PlainRecording) (before : List Step) (j s : ℕ) (b : List ℕ) (x : Judgement)
-    → IsReady r before j (Send s b) → JudgesOwn r j (Send s b) x
+    → IsReady r before j (Send s b)
+    → Judges (event_own_cause r j (Send s b)) (option_and_then (pair_of_sent r s j) (meaning r.setting.exercise b)) (length r.entries) x
     → Judges (cause_of r.setting (order_of r before) (Send s b)) (link_of r before j (Send s b)) (length r.entries) x
 unfolding cause_of link_of
 sent_judged r before j s b x ready judged =
@@ -32,7 +33,7 @@ sent_judged r before j s b x ready judged =
     (option_and_then (pair_of_sent r s j) (meaning r.setting.exercise b)) (length r.entries) x) (sym ready) judged
 
 pub told_judged : (r : PlainRecording) (before : List Step) (j s e : ℕ) (y : EntityState) (x : Judgement)
-    → IsReady r before j (Tell s e y) → JudgesOwn r j (Tell s e y) x
+    → IsReady r before j (Tell s e y) → Judges (event_own_cause r j (Tell s e y)) None (length r.entries) x
     → Judges (cause_of r.setting (order_of r before) (Tell s e y)) (link_of r before j (Tell s e y)) (length r.entries) x
 unfolding cause_of link_of
 told_judged r before j s e y x ready judged =

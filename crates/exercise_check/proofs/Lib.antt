@@ -1,5 +1,7 @@
 mod Keyed
 mod Columns
+mod Ables
+mod Recorded
 mod Changed
 mod EntityStates
 mod Tied

@@ -1,4 +1,7 @@
+pub mod Number
 pub mod Firsts
+pub mod Behind
+pub mod TakenUp
 pub mod Order
 pub mod Column
 pub mod Requests

@@ -1,5 +1,5 @@
 -- The order that a certificate names, and the links of its steps (profile).
-use Rattle.std.specs.Prelude.{ℕ, List, [], ◌∷◌, ◌++◌, length, slice_get, Option, Some, None, option_and_then, unwrap_or, ◌==◌, Bool, false, if◌then◌else◌}
+use Rattle.std.specs.Prelude.{ℕ, List, [], ◌∷◌, ◌++◌, length, slice_get, Option, Some, None, option_and_then, ◌==◌, Bool, false, if◌then◌else◌}
 use Rattle.std.specs.Option.{option_map_or, option_to_list}
 use Rattle.siman_pdus.specs.declared.pdu.Pdu.{Pdu}
 use Rattle.exercise_model.specs.Entry.{Entry}
@@ -10,6 +10,7 @@ use Rattle.exercise_model.specs.Cause.{sends}
 use Rattle.exercise_model.specs.Place.{log_before}
 use Rattle.exercise_model.specs.Account.{pair_of_sent}
 use Rattle.exercise_check.specs.declared.certificate.Step.{Step}
+pub use Rattle.exercise_check.specs.Number.{link_number}
 
 -- the entries that steps name, in the order of the steps
 unfoldable pub chosen : List Entry → List Step → List Entry
@@ -36,7 +37,3 @@ unfoldable pub link_of : PlainRecording → List Step → ℕ → Event → Opti
 link_of r before place (Send s b) = option_and_then (pair_of_sent r s place) (meaning r.setting.exercise b)
 link_of r before place (Get s b) = option_and_then (λ (p : Pdu). first_sender r.entries b before) (meaning r.setting.exercise b)
 link_of r before place (Tell s e y) = None
-
--- how a link is written: none as 0xFFFFFFFF
-abbrev pub link_number : Option ℕ → ℕ
-link_number link = unwrap_or link 0xFFFFFFFF

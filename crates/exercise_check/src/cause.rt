@@ -1,27 +1,30 @@
 //! Why the event of an entry may not happen next.
 
-ghost use Rattle.std.specs.Prelude.{◌≡◌, ◌<◌, ◌≤◌, ◌&&◌, ℕ, List, [], length, IsTrue, None};
+ghost use Rattle.std.specs.Prelude.{◌≡◌, ◌<◌, ◌≤◌, ◌&&◌, ℕ, List, [], length, option_map, IsTrue, None};
 ghost use Rattle.siman_pdus.specs.Answers.{is_answer_to};
 ghost use Rattle.siman_pdus.specs.Reading.{pdu_of};
 ghost use Rattle.siman_pdus.specs.Role.{is_request_body};
+ghost use Rattle.siman_pdus.specs.declared.pdu.Pdu.{Pdu};
 ghost use Rattle.exercise_model.specs.Recording.{PlainRecording};
 ghost use Rattle.exercise_model.specs.History.{Get, station_at};
-ghost use Rattle.exercise_model.specs.Setting.{is_recorded};
+ghost use Rattle.exercise_model.specs.Setting.{SettingData, is_recorded};
 ghost use Rattle.exercise_model.specs.State.{state_after};
 ghost use Rattle.exercise_model.specs.Cause.{is_reused, is_changed_answer, is_hopeless, is_hopeless_for, is_impossible, send_cause, get_cause, cause_of, tell_rows, first_cause};
 ghost use Rattle.exercise_model.specs.Place.{log_before};
-ghost use Rattle.exercise_model.specs.Account.{pair_of_sent};
+ghost use Rattle.exercise_model.specs.Account.{pair_of};
 ghost use Rattle.exercise_check.specs.declared.certificate.Step.{Step};
 ghost use Rattle.exercise_check.specs.Order.{order_of, link_of};
 ghost use Rattle.exercise_check.specs.Course.{Judges};
 ghost use Rattle.exercise_check.specs.Firsts.{AreFirsts};
 ghost use Rattle.exercise_check.specs.Senders.{AreSenders};
-ghost use Rattle.exercise_check.specs.Tables.{AreTied, IsColumn, JudgesAt, JudgesNext, IsReadyAt, is_unsent};
+ghost use Rattle.exercise_check.specs.Column.{IsColumn};
+ghost use Rattle.exercise_check.specs.Number.{IsNumberOf};
+ghost use Rattle.exercise_check.specs.TakenUp.{request_of_sent};
+ghost use Rattle.exercise_check.specs.Tables.{AreTied, IsOwnCause, judged, JudgesNext, IsReadyAt, is_unsent};
 
 use crate::change::{is_change, was_able, was_unable};
-use crate::exchange::request_taken_up;
 use crate::firsts::Firsts;
-use crate::found::number;
+use crate::number::entry_of;
 use crate::senders::{Senders, first_sender};
 use crate::state::state_before;
 use crate::tables::Tables;
@@ -120,19 +123,8 @@ fn is_impossible<L: ExerciseLog>(
         && is_hopeless(log, tables, station, before, Change::of(pdu, request))
 }
 
-/// Whether a PDU comes from a recorded station.
-#[tactic(auto, unfolding(exercise_model::specs::Setting::is_recorded))]
-fn is_recorded<L: ExerciseLog>(log: &L, pdu: &PduView<'_>) -> bool
-    ensures { result ≡ is_recorded (L.recording log.now).setting (pdu_of pdu.now) }
-{
-    let mut found = false;
-    for i in 0..log.station_count() {
-        found = found || is_from(log.station(i).address(), pdu);
-    }
-    found
-}
-
-/// Judges a PDU that a station sends at an entry, a request that reuses its identifier or not.
+/// The first cause against a PDU that a station sends at an entry: a request that reuses its
+/// identifier or not, or an answer that takes up this request, if there is one.
 #[tactic(auto, unfolding(exercise_model::specs::Cause::send_cause))]
 pub(crate) fn judge_sent<L: ExerciseLog>(
     log: &L,
@@ -141,51 +133,52 @@ pub(crate) fn judge_sent<L: ExerciseLog>(
     before: usize,
     pdu: &PduView<'_>,
     reused: bool,
-) -> Judgement
+    taken: &Option<(u32, PduView<'_>)>,
+) -> Option<Cause>
     requires at { station < length (L.recording log.now).setting.stations }
     requires within { before < length (L.recording log.now).entries }
     requires tied { AreTied (L.recording log.now) before tables.now }
     requires reused { let r = L.recording log.now in reused ≡ (is_request_body (pdu_of pdu.now).body && is_reused r.setting.exercise (pdu_of pdu.now) (log_before r station before)) }
-    ensures { let r = L.recording log.now in Judges (send_cause r.setting.exercise (station_at r station) (log_before r station before) (pdu_of pdu.now)) (pair_of_sent r station before (pdu_of pdu.now)) (length r.entries) result }
+    requires request { option_map (λ t. pdu_of t.1) taken.now ≡ request_of_sent (L.recording log.now) station before (pdu_of pdu.now) }
+    ensures { let r = L.recording log.now in result ≡ send_cause r.setting.exercise (station_at r station) (log_before r station before) (pdu_of pdu.now) }
 {
-    // To count the entries shows that the recording keeps its limits.
-    let _entries = log.entry_count();
     if !is_from(log.station(station).address(), pdu) {
-        return Judgement::Forbidden(Cause::WrongSender);
+        return Some(Cause::WrongSender);
     }
     if reused {
-        return Judgement::Forbidden(Cause::ReusedIdentifier);
+        return Some(Cause::ReusedIdentifier);
     }
     if !is_answer(pdu) {
-        return Judgement::Allowed(None);
+        return None;
     }
-    let Some((entry, request)) = request_taken_up(log, &tables.firsts, station, before, pdu) else {
-        return Judgement::Forbidden(Cause::NoRequest);
+    let Some((_, request)) = taken else {
+        return Some(Cause::NoRequest);
     };
-    if !answers(pdu, &request) {
-        Judgement::Forbidden(Cause::WrongAnswer)
+    if !answers(pdu, request) {
+        Some(Cause::WrongAnswer)
     } else if is_changed_answer(log, &tables.firsts, station, before, pdu) {
-        Judgement::Forbidden(Cause::ChangedAnswer)
-    } else if is_impossible(log, tables, station, before, pdu, &request) {
-        Judgement::Forbidden(Cause::Impossible)
+        Some(Cause::ChangedAnswer)
+    } else if is_impossible(log, tables, station, before, pdu, request) {
+        Some(Cause::Impossible)
     } else {
-        Judgement::Allowed(number(Some(entry)))
+        None
     }
 }
 
-/// Judges a PDU that a station receives as if nothing had been sent before.
+/// The first cause against a PDU that a station receives, from a recorded station or not, as if
+/// nothing had been sent before.
 #[tactic(auto, unfolding(exercise_model::specs::Cause::get_cause, exercise_model::specs::Cause::was_sent))]
-pub(crate) fn judge_unsent<L: ExerciseLog>(log: &L, pdu: &PduView<'_>) -> Judgement
-    ensures { let r = L.recording log.now in (b : List ℕ) → Judges (get_cause r.setting [] b (pdu_of pdu.now)) None (length r.entries) result }
+pub(crate) fn judge_unsent(recorded: bool) -> Option<Cause>
+    ensures { (w : SettingData) (b : List ℕ) (p : Pdu) → recorded ≡ is_recorded w p → result ≡ get_cause w [] b p }
 {
-    if is_recorded(log, pdu) {
-        Judgement::Forbidden(Cause::NeverSent)
+    if recorded {
+        Some(Cause::NeverSent)
     } else {
-        Judgement::Forbidden(Cause::Stranger)
+        Some(Cause::Stranger)
     }
 }
 
-/// Judges a state that a station tells at an entry.
+/// The first cause against a state that a station tells at an entry.
 pub(crate) fn judge_told<L: ExerciseLog>(
     log: &L,
     tables: &Tables,
@@ -193,16 +186,16 @@ pub(crate) fn judge_told<L: ExerciseLog>(
     before: usize,
     entity: u16,
     state: EntityState,
-) -> Judgement
+) -> Option<Cause>
     requires at { station < length (L.recording log.now).setting.stations }
     requires within { before ≤ length (L.recording log.now).entries }
     requires tied { AreTied (L.recording log.now) before tables.now }
-    ensures { let r = L.recording log.now in Judges (first_cause (tell_rows state (state_after r.setting.exercise (station_at r station) (log_before r station before) entity))) None (length r.entries) result }
+    ensures { let r = L.recording log.now in result ≡ first_cause (tell_rows state (state_after r.setting.exercise (station_at r station) (log_before r station before) entity)) }
 {
     if state == state_before(log, tables, station, before, entity) {
-        Judgement::Allowed(None)
+        None
     } else {
-        Judgement::Forbidden(Cause::WrongState)
+        Some(Cause::WrongState)
     }
 }
 
@@ -229,20 +222,34 @@ fn judge_received(senders: &Senders<'_>, datagram: &[u8], alone: Judgement) -> J
     }
 }
 
+/// What an event is judged to be that this cause speaks against, or none, with this link.
+fn judged(cause: Option<Cause>, link: Option<u32>) -> Judgement
+    ensures { result ≡ judged cause link }
+{
+    match cause {
+        Some(cause) => Judgement::Forbidden(cause),
+        None => Judgement::Allowed(link),
+    }
+}
+
 /// Judges the event of an entry, its station's next one, by what its station's log says of each
-/// entry, and by who sent each datagram first in the steps so far.
+/// entry: the first cause against it, and the entry of the request that it takes up; and by who sent
+/// each datagram first in the steps so far.
 pub(crate) fn judge<L: ExerciseLog>(
     log: &L,
-    own: &[Judgement],
+    causes: &[Option<Cause>],
+    pairs: &[u32],
     senders: &Senders<'_>,
     place: usize,
 ) -> Judgement
     requires within { place < length (L.recording log.now).entries }
-    requires own { let r = L.recording log.now in IsColumn (Judgement.Allowed None) (JudgesAt r) (length r.entries) own.now }
+    requires causes { let r = L.recording log.now in IsColumn None (IsOwnCause r) (length r.entries) causes.now }
+    requires pairs { let r = L.recording log.now in IsColumn 0 (IsNumberOf (pair_of r)) (length r.entries) pairs.now }
     ensures { let r = L.recording log.now in (steps : List Step) → AreSenders r steps senders.now → IsReadyAt r steps place → JudgesNext r steps place result }
 {
+    let alone = judged(causes[place], entry_of(pairs[place]));
     match log.entry(place) {
-        EntryView::Received { bytes, .. } => judge_received(senders, bytes, own[place]),
-        EntryView::Sent { .. } | EntryView::Told { .. } => own[place],
+        EntryView::Received { bytes, .. } => judge_received(senders, bytes, alone),
+        EntryView::Sent { .. } | EntryView::Told { .. } => alone,
     }
 }

@@ -1,5 +1,6 @@
 //! What a recording says, once a certificate explains it.
 
+use crate::number::entry_of;
 use dis_records::EntityState;
 use std::marker::Model;
 
@@ -8,32 +9,34 @@ use std::marker::Model;
 #[derive(Debug, Drop)]
 pub struct Checked {
     states: Vec<Vec<(u16, EntityState)>>,
-    pairs: Vec<Option<u32>>,
-    causes: Vec<Option<u32>>,
+    pairs: Vec<u32>,
+    causes: Vec<u32>,
     others: u32,
 }
 
 impl Model for Checked {
     ghost use Rattle.std.specs.Prelude.{map};
     ghost use Rattle.exercise_check.specs.Checked.{CheckedData};
+    ghost use Rattle.exercise_check.specs.Number.{entry_of};
 
     ghost Value = { CheckedData };
 
-    ghost view = { λ c. record { states = map (λ v. v.items) c.states.items; pairs = c.pairs.items; causes = c.causes.items; others = c.others } };
+    ghost view = { λ c. record { states = map (λ v. v.items) c.states.items; pairs = map entry_of c.pairs.items; causes = map entry_of c.causes.items; others = c.others } };
 }
 
 impl Checked {
     ghost use Rattle.std.specs.Prelude.{◌≡◌, map, slice_index_or, [], None};
     ghost use Rattle.exercise_check.specs.Checked.{CheckedData};
+    ghost use Rattle.exercise_check.specs.Number.{entry_of};
 
-    /// What these parts say.
+    /// What these parts say, entries as numbers.
     pub(crate) fn of(
         states: Vec<Vec<(u16, EntityState)>>,
-        pairs: Vec<Option<u32>>,
-        causes: Vec<Option<u32>>,
+        pairs: Vec<u32>,
+        causes: Vec<u32>,
         others: u32,
     ) -> Checked
-        ensures { let c : CheckedData = record { states = map (λ v. v.items) states.items; pairs = pairs.items; causes = causes.items; others = others } in result ≡ c }
+        ensures { let c : CheckedData = record { states = map (λ v. v.items) states.items; pairs = map entry_of pairs.items; causes = map entry_of causes.items; others = others } in result ≡ c }
     {
         Checked {
             states,
@@ -60,7 +63,7 @@ impl Checked {
         ensures { result ≡ slice_index_or self.now.pairs entry None }
     {
         match self.pairs.get(entry) {
-            Some(pair) => *pair,
+            Some(pair) => entry_of(*pair),
             None => None,
         }
     }
@@ -72,7 +75,7 @@ impl Checked {
         ensures { result ≡ slice_index_or self.now.causes entry None }
     {
         match self.causes.get(entry) {
-            Some(cause) => *cause,
+            Some(cause) => entry_of(*cause),
             None => None,
         }
     }

@@ -135,5 +135,5 @@ pub fn check<L: ExerciseLog>(
     }
     let mut course = Course::begin(alloc, log)?;
     take_steps(alloc, &mut course, entries, steps)?;
-    Ok(course.account(alloc)?)
+    Ok(course.into_account(alloc)?)
 }

@@ -3,17 +3,18 @@
 ghost use Rattle.std.specs.Prelude.{◌≡◌, ◌<◌, ◌==◌, length, slice_index_or, slice_get, IfOk, IfSome, IfNone, OnErr};
 ghost use Rattle.exercise_model.specs.Cause.{IsAllowed};
 ghost use Rattle.exercise_model.specs.History.{event_of, station_of, log_at, log_of};
-ghost use Rattle.exercise_check.specs.Order.{is_next, link_number};
+ghost use Rattle.exercise_check.specs.Order.{is_next};
 ghost use Rattle.exercise_check.specs.Checked.{TellsAccount};
 ghost use Rattle.exercise_check.specs.Course.{CourseData, IsCourse, begun, so_far, IsNext, GoesOn};
 ghost use Rattle.exercise_check.specs.Tables.{Keeps};
 
 use crate::account::account;
 use crate::cause::{Judgement, judge};
-use crate::certificate::{Certificate, NO_LINK, Step};
+use crate::certificate::{Certificate, Step};
 use crate::checked::Checked;
 use crate::cursors::{Cursors, first_cursors, is_at, next_entry, pass};
 use crate::findings::{Findings, find};
+use crate::number::link_number;
 use crate::order::station_of;
 use crate::senders::{Senders, no_senders, note_sender};
 use exercise_model::{Cause, ExerciseLog};
@@ -50,16 +51,6 @@ pub enum Progress {
     Taken(u32),
     /// Its event may not happen next: the first cause that holds.
     Barred(Cause),
-}
-
-/// The number that stands for a link in a certificate.
-fn link_number(link: Option<u32>) -> u32
-    ensures { result ≡ link_number link }
-{
-    match link {
-        Some(entry) => entry,
-        None => NO_LINK,
-    }
 }
 
 impl<'a, L: ExerciseLog> Course<'a, L> {
@@ -120,7 +111,8 @@ impl<'a, L: ExerciseLog> Course<'a, L> {
         // It lacks memory only where the event is allowed.
         ensures allowed { OnErr result (IfSome (slice_get self.old.recording.entries place) (λ e. IsAllowed self.old.recording.setting (so_far self.old) (event_of e))) }
     {
-        match judge(self.log, &self.found.judgements, &self.senders, place) {
+        let Findings { causes, pairs, .. } = &self.found;
+        match judge(self.log, causes, pairs, &self.senders, place) {
             Judgement::Forbidden(cause) => Ok(Progress::Barred(cause)),
             Judgement::Allowed(link) => {
                 let link = link_number(link);
@@ -137,10 +129,11 @@ impl<'a, L: ExerciseLog> Course<'a, L> {
     }
 
     /// What the recording says.
-    pub fn account(&self, alloc: Global) -> Result<Checked, AllocError>
-        ensures { IfOk result (λ checked. TellsAccount self.now.recording checked) }
+    pub fn into_account(self, alloc: Global) -> Result<Checked, AllocError>
+        ensures { IfOk result (λ checked. TellsAccount self.entry.recording checked) }
     {
-        account(alloc, self.log, &self.found)
+        let Course { log, found, .. } = self;
+        account(alloc, log, found)
     }
 
     /// The steps that were taken.

@@ -7,6 +7,7 @@ ghost use Rattle.exercise_check.specs.declared.certificate.Step.{Step};
 ghost use Rattle.exercise_check.specs.Order.{order_of, is_next};
 ghost use Rattle.exercise_check.specs.Cursors.{AreCursorsFrom, AreCursors};
 
+use crate::column::replace;
 use crate::order::station_of;
 use exercise_model::ExerciseLog;
 use std::alloc::{AllocError, Global};
@@ -21,15 +22,6 @@ pub(crate) struct Cursors {
     pub followers: Vec<u32>,
     /// For each station, its next entry.
     pub next: Vec<u32>,
-}
-
-/// Puts a number into a column in place of the one that stands there.
-fn replace(column: &mut Vec<u32>, place: usize, number: u32)
-    requires { place < length column.old.items }
-    ensures count { length column.new.items ≡ length column.old.items }
-    ensures each { (j : ℕ) → slice_index_or column.new.items j 0 ≡ (if j == place then number else slice_index_or column.old.items j 0) }
-{
-    column[place] = number;
 }
 
 /// Goes over the entry before those that were gone over.

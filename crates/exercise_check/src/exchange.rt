@@ -1,16 +1,18 @@
 //! Which request an answer takes up.
 
-ghost use Rattle.std.specs.Prelude.{◌≡◌, ◌<◌, ◌≤◌, length, option_map, option_and_then, IfSome};
+ghost use Rattle.std.specs.Prelude.{◌≡◌, ◌<◌, ◌≤◌, length, option_map, option_and_then, IfSome, None, if◌then◌else◌};
 ghost use Rattle.siman_pdus.specs.Reading.{pdu_of};
 ghost use Rattle.exercise_model.specs.History.{station_at};
+ghost use Rattle.exercise_model.specs.Account.{pair_of_sent};
 ghost use Rattle.exercise_model.specs.Exchange.{request_brought, request_taken_up};
 ghost use Rattle.exercise_model.specs.Place.{log_before, own_event, entry_taken_up};
+ghost use Rattle.exercise_check.specs.TakenUp.{request_of_sent};
 ghost use Rattle.exercise_check.specs.Firsts.{AreFirsts};
 
 use crate::firsts::{Firsts, first_under};
 use crate::key::answered_key;
 use dis_records::Address;
-use exercise_model::{EntryView, ExerciseLog, is_asked, meaning_view};
+use exercise_model::{EntryView, ExerciseLog, is_answer, is_asked, meaning_view};
 use siman_pdus::PduView;
 
 /// The request that an entry brings to a station for an answer.
@@ -40,13 +42,13 @@ fn request_brought<'a, L: ExerciseLog>(
 
 /// The entry of the request that an answer takes up: the first under the answer's key.
 #[tactic(auto, using(crate::proofs::Keyed::key_steps))]
-pub(crate) fn entry_taken_up<L: ExerciseLog>(
+fn entry_taken_up<L: ExerciseLog>(
     log: &L,
     firsts: &Firsts,
     station: usize,
     before: usize,
     answer: &PduView<'_>,
-) -> Option<usize>
+) -> Option<u32>
     requires at { station < length (L.recording log.now).setting.stations }
     requires tied { AreFirsts (L.recording log.now) before firsts.now }
     ensures entry { result ≡ entry_taken_up (L.recording log.now) station (pdu_of answer.now) before }
@@ -61,13 +63,13 @@ pub(crate) fn entry_taken_up<L: ExerciseLog>(
 }
 
 /// The request that an answer takes up, with its entry: the first that comes before an entry.
-pub(crate) fn request_taken_up<'a, L: ExerciseLog>(
+fn request_taken_up<'a, L: ExerciseLog>(
     log: &'a L,
     firsts: &Firsts,
     station: usize,
     before: usize,
     answer: &PduView<'_>,
-) -> Option<(usize, PduView<'a>)>
+) -> Option<(u32, PduView<'a>)>
     requires at { station < length (L.recording log.now).setting.stations }
     requires within { before ≤ length (L.recording log.now).entries }
     requires tied { AreFirsts (L.recording log.now) before firsts.now }
@@ -79,8 +81,30 @@ pub(crate) fn request_taken_up<'a, L: ExerciseLog>(
         return None;
     };
     let address = log.station(station).address();
-    match request_brought(log, station, address, answer, entry) {
+    match request_brought(log, station, address, answer, entry as usize) {
         Some(request) => Some((entry, request)),
         None => None,
+    }
+}
+
+/// The request that a PDU takes up which a station sends at an entry, with its entry, where the PDU
+/// is an answer. Whoever asks for the request is handed what was looked up here.
+pub(crate) fn taken_up<'a, L: ExerciseLog>(
+    log: &'a L,
+    firsts: &Firsts,
+    station: usize,
+    before: usize,
+    pdu: &PduView<'_>,
+) -> Option<(u32, PduView<'a>)>
+    requires at { station < length (L.recording log.now).setting.stations }
+    requires within { before ≤ length (L.recording log.now).entries }
+    requires tied { AreFirsts (L.recording log.now) before firsts.now }
+    ensures request { option_map (λ t. pdu_of t.1) result ≡ request_of_sent (L.recording log.now) station before (pdu_of pdu.now) }
+    ensures entry { option_map (λ t. t.0) result ≡ pair_of_sent (L.recording log.now) station before (pdu_of pdu.now) }
+{
+    if is_answer(pdu) {
+        request_taken_up(log, firsts, station, before, pdu)
+    } else {
+        None
     }
 }

@@ -1,13 +1,14 @@
 //! What the log of each station says of its own entries, found in one pass over the log.
 
-ghost use Rattle.std.specs.Prelude.{◌<◌, ◌+◌, length, OnOk, IfOk};
+ghost use Rattle.std.specs.Prelude.{◌≡◌, ◌<◌, ◌+◌, length, OnOk, IfOk, if◌then◌else◌};
 ghost use Rattle.exercise_check.specs.Tables.{AreFindings};
 
-use crate::cause::Judgement;
+use crate::behind::{Able, note_behind};
 use crate::found::find_at;
+use crate::number::link_number;
 use crate::requests::{Requests, no_requests};
 use crate::tables::{Tables, no_tables, note_tables};
-use exercise_model::ExerciseLog;
+use exercise_model::{Cause, ExerciseLog};
 use std::alloc::{AllocError, Global};
 
 /// What was found.
@@ -17,10 +18,14 @@ pub(crate) struct Findings {
     pub tables: Tables,
     /// What is kept under each request identifier.
     pub requests: Requests,
-    /// What each entry is judged to be by its station's log alone.
-    pub judgements: Vec<Judgement>,
-    /// The entry of the request that each answer takes up.
-    pub pairs: Vec<Option<u32>>,
+    /// The first cause that its station's log has against each entry.
+    pub causes: Vec<Option<Cause>>,
+    /// The number of the request that each answer takes up.
+    pub pairs: Vec<u32>,
+    /// What the changes behind the Ables that were received are looked up by.
+    pub ables: Vec<Able>,
+    /// How many datagrams are "other".
+    pub others: u32,
 }
 
 /// What was found before the first entry.
@@ -31,9 +36,18 @@ fn nothing_found<L: ExerciseLog>(alloc: Global, log: &L) -> Result<Findings, All
     Ok(Findings {
         tables,
         requests: no_requests(alloc),
-        judgements: Vec::new(alloc),
+        causes: Vec::new(alloc),
         pairs: Vec::new(alloc),
+        ables: Vec::new(alloc),
+        others: 0,
     })
+}
+
+/// 1 where it is so, else 0.
+fn one_if(so: bool) -> u32
+    ensures { result ≡ (if so then 1 else 0) }
+{
+    if so { 1 } else { 0 }
 }
 
 /// Finds what the next entry is.
@@ -42,9 +56,13 @@ fn find_entry<L: ExerciseLog>(found: &mut Findings, log: &L, entry: usize) -> Re
     requires found { AreFindings (L.recording log.now) entry found.old }
     ensures { OnOk result (AreFindings (L.recording log.now) (entry + 1) found.new) }
 {
+    // To count the entries shows that the recording keeps its limits.
+    let _entries = log.entry_count();
     let here = find_at(log, &found.tables, &mut found.requests, entry)?;
-    found.judgements.push(here.judgement)?;
-    found.pairs.push(here.pair)?;
+    found.causes.push(here.cause)?;
+    found.pairs.push(link_number(here.pair))?;
+    found.others += one_if(here.other);
+    note_behind(&mut found.ables, log, entry, here.behind)?;
     note_tables(&mut found.tables, log, entry, here.change, here.key)
 }
 

@@ -45,11 +45,11 @@ pub(crate) fn note_entry<L: ExerciseLog>(
 }
 
 /// The first entry under a key.
-pub(crate) fn first_under(firsts: &Firsts, key: &Key) -> Option<usize>
+pub(crate) fn first_under(firsts: &Firsts, key: &Key) -> Option<u32>
     ensures { result ≡ get same_key firsts.now key.now }
 {
     match firsts.get(key) {
-        Some(entry) => Some(*entry as usize),
+        Some(entry) => Some(*entry),
         None => None,
     }
 }

@@ -1,61 +1,78 @@
 //! What one entry is found to be, by one look at its datagram.
 
-ghost use Rattle.std.specs.Prelude.{◌≡◌, ◌<◌, ◌+◌, ◌&&◌, length, None, OnOk, IfOk, IfSome};
+ghost use Rattle.std.specs.Prelude.{◌≡◌, ◌<◌, ◌+◌, ◌&&◌, ℕ, List, [], length, option_map, None, true, false, OnOk, IfOk};
 ghost use Rattle.siman_pdus.specs.Reading.{pdu_of};
 ghost use Rattle.siman_pdus.specs.Role.{is_request_body};
+ghost use Rattle.exercise_model.specs.Account.{pair_of_sent, sender_of};
+ghost use Rattle.exercise_model.specs.Cause.{send_cause, get_cause, is_reused};
 ghost use Rattle.exercise_model.specs.History.{station_at};
-ghost use Rattle.exercise_model.specs.State.{change_by};
-ghost use Rattle.exercise_model.specs.Cause.{send_cause, is_reused};
 ghost use Rattle.exercise_model.specs.Place.{log_before};
-ghost use Rattle.exercise_model.specs.Account.{pair_of_sent};
-ghost use Rattle.exercise_check.specs.Course.{Judges};
-ghost use Rattle.exercise_check.specs.Firsts.{sent_key};
+ghost use Rattle.exercise_model.specs.State.{change_by};
+ghost use Rattle.exercise_check.specs.Firsts.{sent_key, received_key};
+ghost use Rattle.exercise_check.specs.Behind.{key_behind};
 ghost use Rattle.exercise_check.specs.Requests.{AreRequests};
 ghost use Rattle.exercise_check.specs.Tables.{AreTied, IsFound};
 
-use crate::cause::{Judgement, judge_sent, judge_told, judge_unsent};
+use crate::behind::key_behind;
+use crate::cause::{judge_sent, judge_told, judge_unsent};
+use crate::exchange::taken_up;
 use crate::key::{Key, received_key, sent_key};
-use crate::link::pair_of_sent;
 use crate::requests::{Requests, note_request};
+use crate::sender::sender_of;
 use crate::state::change_by;
 use crate::tables::Tables;
-use exercise_model::{Change, EntryView, ExerciseLog, meaning_view};
+use exercise_model::{Cause, Change, EntryView, ExerciseLog, meaning_view};
 use siman_pdus::PduView;
 use std::alloc::AllocError;
 
 /// What one entry is found to be.
 #[derive(Clone, Copy, Debug, PartialEq, Eq)]
 pub(crate) struct Found {
-    /// What its station's log says of it.
-    pub judgement: Judgement,
+    /// The first cause that its station's log has against it.
+    pub cause: Option<Cause>,
     /// The entry of the request that it takes up, where it is an answer that was sent.
     pub pair: Option<u32>,
     /// What it changes at its station.
     pub change: Option<Change>,
     /// What it is looked up by.
     pub key: Option<Key>,
+    /// What the change behind it is looked up by, where it is an Able Acknowledge that was received.
+    pub behind: Option<Key>,
+    /// Whether its datagram is "other".
+    pub other: bool,
 }
 
-/// The number of an entry, which every one is in 32 bits.
-pub(crate) fn number(entry: Option<usize>) -> Option<u32>
-    requires { IfSome entry (λ e. e < 4294967296) }
-    ensures { result ≡ entry }
-{
-    match entry {
-        Some(entry) => Some(entry as u32),
-        None => None,
-    }
-}
-
-/// An entry that is judged to be this, and is nothing that is looked up.
-fn judged(judgement: Judgement) -> Found
-    ensures { result ≡ record { judgement = judgement; pair = None; change = None; key = None } }
+/// An entry that this cause speaks against, or none, and of which nothing else is found.
+fn judged(cause: Option<Cause>) -> Found
+    ensures { result ≡ record { cause = cause; pair = None; change = None; key = None; behind = None; other = false } }
 {
     Found {
-        judgement,
+        cause,
         pair: None,
         change: None,
         key: None,
+        behind: None,
+        other: false,
+    }
+}
+
+/// An entry with a datagram that is "other".
+fn found_other() -> Found
+    ensures { result ≡ record { cause = None; pair = None; change = None; key = None; behind = None; other = true } }
+{
+    Found {
+        other: true,
+        ..judged(None)
+    }
+}
+
+/// The entry of a request that was taken up.
+fn pair_of(taken: &Option<(u32, PduView<'_>)>) -> Option<u32>
+    ensures { result ≡ option_map (λ t. t.0) taken.now }
+{
+    match taken {
+        Some((entry, _)) => Some(*entry),
+        None => None,
     }
 }
 
@@ -73,19 +90,41 @@ fn found_sent<L: ExerciseLog>(
     requires within { entry < length (L.recording log.now).entries }
     requires tied { AreTied (L.recording log.now) entry tables.now }
     requires reused { let r = L.recording log.now in reused ≡ (is_request_body (pdu_of pdu.now).body && is_reused r.setting.exercise (pdu_of pdu.now) (log_before r station entry)) }
-    ensures judgement { let r = L.recording log.now in Judges (send_cause r.setting.exercise (station_at r station) (log_before r station entry) (pdu_of pdu.now)) (pair_of_sent r station entry (pdu_of pdu.now)) (length r.entries) result.judgement }
+    ensures cause { let r = L.recording log.now in result.cause ≡ send_cause r.setting.exercise (station_at r station) (log_before r station entry) (pdu_of pdu.now) }
     ensures pair { result.pair ≡ pair_of_sent (L.recording log.now) station entry (pdu_of pdu.now) }
     ensures change { let r = L.recording log.now in result.change ≡ change_by r.setting.exercise (station_at r station) (log_before r station entry) (pdu_of pdu.now) }
     ensures key { result.key ≡ sent_key station (pdu_of pdu.now) }
+    ensures behind { result.behind ≡ None }
+    ensures other { result.other ≡ false }
 {
-    // To count the entries shows that the recording keeps its limits.
-    let _entries = log.entry_count();
     let index = usize::from(station);
+    let taken = taken_up(log, &tables.firsts, index, entry, pdu);
     Found {
-        judgement: judge_sent(log, tables, index, entry, pdu, reused),
-        pair: number(pair_of_sent(log, &tables.firsts, index, entry, pdu)),
-        change: change_by(log, &tables.firsts, index, entry, pdu),
+        cause: judge_sent(log, tables, index, entry, pdu, reused, &taken),
+        pair: pair_of(&taken),
+        change: change_by(log, &tables.firsts, index, entry, pdu, &taken),
         key: sent_key(station, pdu),
+        behind: None,
+        other: false,
+    }
+}
+
+/// What a PDU is found to be that a station receives.
+fn found_received<L: ExerciseLog>(log: &L, station: u16, pdu: &PduView<'_>) -> Found
+    requires { station < length (L.recording log.now).setting.stations }
+    ensures cause { (b : List ℕ) → result.cause ≡ get_cause (L.recording log.now).setting [] b (pdu_of pdu.now) }
+    ensures pair { result.pair ≡ None }
+    ensures change { result.change ≡ None }
+    ensures key { let r = L.recording log.now in result.key ≡ received_key station (station_at r station).address (pdu_of pdu.now) }
+    ensures behind { let p = pdu_of pdu.now in result.behind ≡ key_behind (sender_of (L.recording log.now) p) p }
+    ensures other { result.other ≡ false }
+{
+    let address = log.station(usize::from(station)).address();
+    let sender = sender_of(log, pdu);
+    Found {
+        key: received_key(station, address, pdu),
+        behind: key_behind(sender, pdu),
+        ..judged(judge_unsent(sender.is_some()))
     }
 }
 
@@ -108,25 +147,20 @@ pub(crate) fn find_at<L: ExerciseLog>(
                 let reused = note_request(requests, log, station, entry, &pdu)?;
                 Ok(found_sent(log, tables, station, entry, &pdu, reused))
             }
-            None => Ok(judged(Judgement::Allowed(None))),
+            None => Ok(found_other()),
         },
         EntryView::Received { station, bytes, .. } => match meaning_view(log.exercise(), bytes) {
-            Some(pdu) => {
-                let address = log.station(usize::from(station)).address();
-                Ok(Found {
-                    key: received_key(station, address, &pdu),
-                    ..judged(judge_unsent(log, &pdu))
-                })
-            }
-            None => Ok(judged(Judgement::Allowed(None))),
+            Some(pdu) => Ok(found_received(log, station, &pdu)),
+            None => Ok(found_other()),
         },
         EntryView::Told {
             station,
             entity,
             state,
         } => {
-            let told = judge_told(log, tables, usize::from(station), entry, entity, state);
-            Ok(judged(told))
+            let station = usize::from(station);
+            let cause = judge_told(log, tables, station, entry, entity, state);
+            Ok(judged(cause))
         }
     }
 }

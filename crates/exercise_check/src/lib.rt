@@ -11,6 +11,7 @@
 #![tactic(auto)]
 
 mod account;
+mod behind;
 mod cause;
 mod certificate;
 mod certificate_fault;
@@ -19,6 +20,7 @@ mod certificate_text;
 mod change;
 mod checked;
 mod checker;
+mod column;
 mod course;
 mod cursors;
 mod exchange;
@@ -27,9 +29,10 @@ mod firsts;
 mod found;
 mod key;
 mod laws;
-mod link;
+mod number;
 mod order;
 mod requests;
+mod sender;
 mod senders;
 mod state;
 mod states;

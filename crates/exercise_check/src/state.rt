@@ -1,6 +1,6 @@
 //! The state of an entity of a station before an entry, and after the whole of the logs.
 
-ghost use Rattle.std.specs.Prelude.{◌≡◌, ◌<◌, ◌≤◌, ◌+◌, ◌*◌, length, [], ◌∷◌, ◌++◌, if◌then◌else◌, IfOk, OnOk};
+ghost use Rattle.std.specs.Prelude.{◌≡◌, ◌<◌, ◌≤◌, ◌+◌, ◌*◌, length, [], ◌∷◌, ◌++◌, if◌then◌else◌, option_map, IfOk, OnOk};
 ghost use Rattle.siman_pdus.specs.Reading.{pdu_of};
 ghost use Rattle.exercise_model.specs.Station.{is_absent};
 ghost use Rattle.exercise_model.specs.History.{station_at};
@@ -8,11 +8,11 @@ ghost use Rattle.exercise_model.specs.State.{change_by, state_after, present_bel
 ghost use Rattle.exercise_model.specs.Place.{log_before};
 ghost use Rattle.exercise_model.specs.Account.{entities_of};
 ghost use Rattle.exercise_check.specs.Firsts.{AreFirsts};
+ghost use Rattle.exercise_check.specs.TakenUp.{request_of_sent};
 ghost use Rattle.exercise_check.specs.States.{has_page, known_in};
 ghost use Rattle.exercise_check.specs.Tables.{AreTied};
 
 use crate::change::is_change;
-use crate::exchange::request_taken_up;
 use crate::firsts::Firsts;
 use crate::states::{Held, PAGE, PAGES, States, known_in};
 use crate::tables::Tables;
@@ -21,7 +21,8 @@ use exercise_model::{Change, ExerciseLog};
 use siman_pdus::PduView;
 use std::alloc::{AllocError, Global};
 
-/// What a PDU changes that a station sends at an entry.
+/// What a PDU changes that a station sends at an entry, and that takes up this request, if there is
+/// one.
 #[tactic(auto, unfolding(exercise_model::specs::State::change_by))]
 pub(crate) fn change_by<L: ExerciseLog>(
     log: &L,
@@ -29,18 +30,18 @@ pub(crate) fn change_by<L: ExerciseLog>(
     station: usize,
     before: usize,
     pdu: &PduView<'_>,
+    taken: &Option<(u32, PduView<'_>)>,
 ) -> Option<Change>
     requires at { station < length (L.recording log.now).setting.stations }
-    requires within { before ≤ length (L.recording log.now).entries }
     requires tied { AreFirsts (L.recording log.now) before firsts.now }
+    requires request { option_map (λ t. pdu_of t.1) taken.now ≡ request_of_sent (L.recording log.now) station before (pdu_of pdu.now) }
     ensures { let r = L.recording log.now in result ≡ change_by r.setting.exercise (station_at r station) (log_before r station before) (pdu_of pdu.now) }
 {
-    if !is_change(log, firsts, station, before, pdu) {
-        return None;
-    }
-    match request_taken_up(log, firsts, station, before, pdu) {
-        Some((_, request)) => Change::carried_out(pdu, &request),
-        None => None,
+    match taken {
+        Some((_, request)) if is_change(log, firsts, station, before, pdu) => {
+            Change::carried_out(pdu, request)
+        }
+        _ => None,
     }
 }
 

@@ -30,7 +30,7 @@ returns-clause-knowledge g c =
     let r = g.L.ExerciseLog.recording c.args.log.now in
     let steps = c.args.certificate.now.steps.items in
     let good : IsGood r steps = first_of (search rules, grind (arith, common_steps)) in
-    let account : TellsAccount r c.in_ok-account.field-0 = first_of (search rules, grind (arith, common_steps)) in
+    let account : TellsAccount r c.in_ok-into_account.field-0 = first_of (search rules, grind (arith, common_steps)) in
     let limits = c.entry_count-entries.ensures.limits in
     account_known r (order_of r steps) _ limits (good_explains r limits steps good) account
 

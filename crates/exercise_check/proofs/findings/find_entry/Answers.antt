@@ -1,10 +1,11 @@
-use Rattle.std.proofs.Common.{◌+◌, ◌++◌, ◌∷◌, [], List, None, sym, ap, ◌∙◌, subst}
-use Rattle.exercise_model.specs.Account.{pair_of, values_below}
-use Rattle.exercise_model.proofs.Offered.{values_below-more}
-use Rattle.exercise_check.specs.declared.cause.Judgement.{Judgement}
-use Rattle.exercise_check.specs.declared.cause.Judgement.TheVariants.{Allowed}
-use Rattle.exercise_check.specs.Tables.{IsColumn, JudgesAt}
+use Rattle.std.proofs.Common.{◌≡◌, ◌+◌, ℕ, List, Option, None, cond, sym, ap, ◌∙◌, subst, arith}
+use Rattle.exercise_model.specs.declared.cause.Cause.{Cause}
+use Rattle.exercise_model.specs.Account.{pair_of}
+use Rattle.exercise_check.specs.Column.{IsColumn}
+use Rattle.exercise_check.specs.Number.{entry_of, link_number, IsNumberOf}
+use Rattle.exercise_check.specs.Tables.{IsOwnCause, other_at}
 use Rattle.exercise_check.proofs.Columns.{column_more, on_ok}
+use Rattle.exercise_check.proofs.Looks.{pair_number, at_most_one, others_next}
 use Rattle.exercise_check.proofs.findings.find_entry.Goals as goal
 
 pub returns : goal.returns
@@ -12,11 +13,17 @@ returns g c =
     let r = g.L.ExerciseLog.recording c.args.log.now in
     let n = c.args.entry in
     let here = c.in_ok-here.ensures.found in
+    let pair : entry_of c.link_number.result ≡ pair_of r n =
+    ap entry_of (c.link_number.ensures ∙ ap link_number here.pair) ∙ pair_number r n c.entry_count-entries.ensures.limits.count c.requires.within in
+    let one : c.one_if.result ≡ cond {A = ℕ} (other_at r n) 1 0 = c.one_if.ensures ∙ ap (λ b. cond {A = ℕ} b 1 0) here.other in
     on_ok c.note_tables.result (λ tied. record {
       tied = tied;
       requests = c.in_ok-here.ensures.requests;
-      judgements = subst (λ (xs : List Judgement). IsColumn (Allowed None) (JudgesAt r) (n + 1) xs) (sym c.in_ok-push.ensures.items)
-          (column_more (Allowed None) (JudgesAt r) n _ c.in_ok-here.here.judgement c.requires.found.judgements here.judgement);
-      pairs = c.in_ok-push-2.ensures.items ∙ ap (λ xs. xs ++ c.in_ok-here.here.pair ∷ []) c.requires.found.pairs
-          ∙ ap (λ x. values_below (pair_of r) n ++ x ∷ []) here.pair ∙ sym (values_below-more (pair_of r) n);
+      causes = subst (λ (xs : List (Option Cause)). IsColumn None (IsOwnCause r) (n + 1) xs) (sym c.in_ok-push.ensures.items)
+          (column_more None (IsOwnCause r) n _ c.in_ok-here.here.cause c.requires.found.causes here.cause);
+      pairs = subst (λ (xs : List ℕ). IsColumn 0 (IsNumberOf (pair_of r)) (n + 1) xs) (sym c.in_ok-push-2.ensures.items)
+          (column_more 0 (IsNumberOf (pair_of r)) n _ c.link_number.result c.requires.found.pairs pair);
+      ables = c.in_ok-note_behind.ensures;
+      others = omega (arith, one, others_next r n c.requires.within, c.requires.found.others);
+      few = omega (arith, one, at_most_one (other_at r n), c.requires.found.few);
     }) c.note_tables.ensures

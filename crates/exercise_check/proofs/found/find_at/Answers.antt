@@ -1,14 +1,11 @@
 use Rattle.std.proofs.Common.{Some, refl, sym, ap, ◌∙◌, subst}
 use Rattle.std.specs.Prelude.{option_map}
-use Rattle.dis_records.specs.Address.{Pair}
 use Rattle.siman_pdus.specs.declared.pdu.Pdu.{Pdu}
 use Rattle.siman_pdus.specs.Reading.{pdu_of}
 use Rattle.exercise_model.specs.Entry.{Sent, Received, Told}
 use Rattle.exercise_model.specs.Held.{shown}
-use Rattle.exercise_model.specs.History.{station_at}
 use Rattle.exercise_model.specs.Meaning.{meaning}
 use Rattle.exercise_check.specs.declared.found.Found.{Found}
-use Rattle.exercise_check.specs.Firsts.{received_key}
 use Rattle.exercise_check.specs.Tables.{IsFound}
 use Rattle.exercise_check.proofs.Looks.{sent_found, other_sent, received_found, other_received, told_found}
 use Rattle.exercise_check.proofs.Reused.{requests_pass, other_unasked}
@@ -26,13 +23,14 @@ returns-in_ok-reused-in-Some-clause-found g c =
       at = c.entry.ensures.entry ∙ ap (λ v. Some (shown v)) c.in-Sent.is;
       means = ap (λ x. meaning x b) (sym c.exercise.ensures) ∙ sym c.meaning_view.ensures ∙ ap (option_map pdu_of) c.in-Some.is;
     })
-    c.found_sent.ensures.judgement c.found_sent.ensures.pair c.found_sent.ensures.change c.found_sent.ensures.key
+    c.found_sent.ensures.cause c.found_sent.ensures.pair c.found_sent.ensures.change c.found_sent.ensures.key c.found_sent.ensures.behind
+    c.found_sent.ensures.other
 
 pub returns-in-None-clause-found : goal.returns-in-None-clause-found
 returns-in-None-clause-found g c =
     let r = g.L.ExerciseLog.recording c.args.log.now in
     let b = c.in-Sent.bytes.now in
-    subst (λ (f : Found). IsFound r c.args.entry f) (sym c.judged.ensures)
+    subst (λ (f : Found). IsFound r c.args.entry f) (sym c.found_other.ensures)
     (other_sent r c.args.entry c.in-Sent.station c.in-Sent.stamp b (c.entry.ensures.entry ∙ ap (λ v. Some (shown v)) c.in-Sent.is)
     (ap (λ x. meaning x b) (sym c.exercise.ensures) ∙ sym c.meaning_view.ensures ∙ ap (option_map pdu_of) c.in-None.is))
 
@@ -48,15 +46,12 @@ returns-in-None-clause-requests g c =
 pub returns-in-Some-meaning_view-clause-found : goal.returns-in-Some-meaning_view-clause-found
 returns-in-Some-meaning_view-clause-found g c =
     let r = g.L.ExerciseLog.recording c.args.log.now in
-    let p : Pdu = pdu_of c.in-Some-meaning_view.pdu in
     let b = c.in-Received.bytes.now in
-    subst (λ (f : Found). IsFound r c.args.entry (record f { key = c.received_key.result })) (sym c.judged-in-Some-meaning_view.ensures)
-    (received_found r c.args.entry c.in-Received.station c.in-Received.stamp b p c.judge_unsent.result c.received_key.result
+    let here = c.found_received.ensures in
+    received_found r c.args.entry c.in-Received.station c.in-Received.stamp b (pdu_of c.in-Some-meaning_view.pdu) c.found_received.result
     (c.entry.ensures.entry ∙ ap (λ v. Some (shown v)) c.in-Received.is)
     (ap (λ x. meaning x b) (sym c.exercise-in-Received.ensures) ∙ sym c.meaning_view-in-Received.ensures ∙ ap (option_map pdu_of) c.in-Some-meaning_view.is)
-    (c.judge_unsent.ensures b)
-    (c.received_key.ensures ∙ ap (λ (a : Pair). received_key c.in-Received.station a p)
-    (c.address-address.ensures.address ∙ ap (λ o. o.address) (c.station.ensures ∙ ap (station_at r) c.from.ensures))))
+    (here.cause b) here.pair here.change here.key here.behind here.other
 
 pub returns-in-Some-meaning_view-clause-requests : goal.returns-in-Some-meaning_view-clause-requests
 returns-in-Some-meaning_view-clause-requests g c =
@@ -68,7 +63,7 @@ pub returns-in-None-meaning_view-clause-found : goal.returns-in-None-meaning_vie
 returns-in-None-meaning_view-clause-found g c =
     let r = g.L.ExerciseLog.recording c.args.log.now in
     let b = c.in-Received.bytes.now in
-    subst (λ (f : Found). IsFound r c.args.entry f) (sym c.judged-in-None-meaning_view.ensures)
+    subst (λ (f : Found). IsFound r c.args.entry f) (sym c.found_other-in-None-meaning_view.ensures)
     (other_received r c.args.entry c.in-Received.station c.in-Received.stamp b (c.entry.ensures.entry ∙ ap (λ v. Some (shown v)) c.in-Received.is)
     (ap (λ x. meaning x b) (sym c.exercise-in-Received.ensures) ∙ sym c.meaning_view-in-Received.ensures ∙ ap (option_map pdu_of) c.in-None-meaning_view.is))
 
@@ -81,9 +76,9 @@ returns-in-None-meaning_view-clause-requests g c =
 pub returns-in-Told-clause-found : goal.returns-in-Told-clause-found
 returns-in-Told-clause-found g c =
     let r = g.L.ExerciseLog.recording c.args.log.now in
-    subst (λ (f : Found). IsFound r c.args.entry f) (sym c.judged-in-Told.ensures)
-    (told_found r c.args.entry c.in-Told.station c.from-in-Told.result c.in-Told.entity c.in-Told.state c.judge_told-told.result
-    (c.entry.ensures.entry ∙ ap (λ v. Some (shown v)) c.in-Told.is) c.from-in-Told.ensures c.judge_told-told.ensures)
+    subst (λ (f : Found). IsFound r c.args.entry f) (sym c.judged.ensures)
+    (told_found r c.args.entry c.in-Told.station c.from-station.result c.in-Told.entity c.in-Told.state c.judge_told-cause.result
+    (c.entry.ensures.entry ∙ ap (λ v. Some (shown v)) c.in-Told.is) c.from-station.ensures c.judge_told-cause.ensures)
 
 pub returns-in-Told-clause-requests : goal.returns-in-Told-clause-requests
 returns-in-Told-clause-requests g c =

@@ -15,6 +15,7 @@ mod cause;
 mod entry;
 mod exchange;
 mod fault;
+mod form;
 mod laws;
 mod log;
 mod meaning;
@@ -29,6 +30,7 @@ pub use dis_records::LARGEST_DATAGRAM;
 pub use entry::{EntryView, LogEntry};
 pub use exchange::{is_answer, is_asked, is_from};
 pub use fault::LogFault;
+pub use form::Form;
 pub use laws::{
     accounts_are_whole, allowed_stays_allowed, changes_are_known, ends_are_one,
     first_answers_change_states, logs_suffice, what_explains_holds,

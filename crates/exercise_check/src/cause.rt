@@ -27,7 +27,7 @@ use crate::state::state_before;
 use crate::tables::Tables;
 use dis_records::{EntityState, Kind, Scope};
 use exercise_model::{
-    Cause, Change, EntryView, ExerciseLog, is_answer, is_entity, is_from, key_of, responds,
+    Cause, Change, EntryView, ExerciseLog, Form, is_answer, is_entity, is_from, key_of, responds,
 };
 use siman_pdus::{ABLE, PduView, UNABLE, answers};
 
@@ -174,12 +174,14 @@ pub(crate) fn judge_sent<L: ExerciseLog>(
 }
 
 /// Judges a PDU that a station receives as if nothing had been sent before.
-#[tactic(auto, unfolding(exercise_model::specs::Cause::get_cause, exercise_model::specs::Cause::was_sent))]
+#[tactic(auto, unfolding(exercise_model::specs::Cause::get_cause, exercise_model::specs::Cause::was_sent, exercise_model::specs::Setting::may_be_heard))]
 pub(crate) fn judge_unsent<L: ExerciseLog>(log: &L, pdu: &PduView<'_>) -> Judgement
     ensures { let r = L.recording log.now in (b : List ℕ) → Judges (get_cause r.setting [] b (pdu_of pdu.now)) None (length r.entries) result }
 {
     if is_recorded(log, pdu) {
         Judgement::Forbidden(Cause::NeverSent)
+    } else if log.form() == Form::Open {
+        Judgement::Allowed(None)
     } else {
         Judgement::Forbidden(Cause::Stranger)
     }

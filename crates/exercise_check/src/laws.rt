@@ -20,6 +20,8 @@ ghost use Rattle.exercise_check.specs.Order.{order_of};
 ghost use Rattle.exercise_check.specs.Goodness.{step_cause, IsGoodStep, GoodBelow, IsGood, Refuses};
 ghost use Rattle.exercise_check.specs.Checked.{CheckedData, TellsAccount};
 ghost use Rattle.exercise_check.specs.declared.checker.CheckFault.{CheckFault};
+ghost use Rattle.exercise_check.specs.declared.checker.CheckFault.TheVariants.{Bad};
+ghost use Rattle.exercise_model.specs.declared.cause.Cause.{Cause};
 
 /// Laws of steps: a step is good exactly where no cause speaks against it; after good steps a good
 /// step links an answer with the request that it takes up in their order; and the order that a good
@@ -44,6 +46,10 @@ pub fn conversion_keeps_checks()
     ensures causes { (r : PlainRecording) (before : List Step) (step : Step) → r.setting.form ≡ First → step_cause r before step ≡ step_cause (converted r) before step }
     ensures good { (r : PlainRecording) (steps : List Step) → r.setting.form ≡ First → IsGood r steps ↔ IsGood (converted r) steps }
     ensures bad { (r : PlainRecording) (steps : List Step) (fault : CheckFault) → r.setting.form ≡ First → Refuses r steps fault ↔ Refuses (converted r) steps fault }
+    // A certificate that is refused of the one is refused of the other, with the same step and cause.
+    ensures one { (r : PlainRecording) (steps : List Step) (k j : ℕ) (cause other : Cause) → r.setting.form ≡ First → Refuses r steps (Bad k cause) → Refuses (converted r) steps (Bad j other)
+        → (k ≡ j) × (cause ≡ other) }
+    ensures never { (r : PlainRecording) (steps : List Step) (k : ℕ) (cause : Cause) → r.setting.form ≡ First → IsGood r steps → Refuses (converted r) steps (Bad k cause) → ⊥ }
     ensures account { (r : PlainRecording) (c : CheckedData) → TellsAccount r c ↔ TellsAccount (converted r) c }
 {}
 

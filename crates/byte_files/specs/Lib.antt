@@ -2,3 +2,4 @@ pub mod Fields
 pub mod Repeats
 pub mod Rows
 pub mod Writing
+pub mod Fetching

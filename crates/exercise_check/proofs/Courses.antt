@@ -12,7 +12,7 @@ use Rattle.exercise_model.specs.Setting.{SettingData, is_recorded}
 use Rattle.exercise_model.specs.History.{Event, History, event_of, station_of, log_at, log_of}
 use Rattle.exercise_model.specs.Cause.{cause_of, get_cause, was_sent, IsAllowed}
 use Rattle.exercise_model.specs.Place.{log_before, own_event}
-use Rattle.exercise_model.proofs.Offered.{same_beginnings, beginning_length, log_before-all}
+use Rattle.exercise_model.proofs.Offered.{same_beginnings, beginning_length, log_before-all, recorded_heard}
 use Rattle.exercise_check.specs.declared.certificate.Step.{Step}
 use Rattle.exercise_check.specs.Order.{order_of, is_next, first_sender, link_of, link_number}
 use Rattle.exercise_check.specs.Goodness.{link_cause, event_cause, step_cause, GoodBelow, IsReady}
@@ -24,15 +24,11 @@ use Rattle.exercise_check.specs.Tables.{JudgesNext}
 use Rattle.exercise_check.proofs.Goodness.{is_ready, cause_none, good_logs}
 use Rattle.exercise_check.proofs.Orders.{is_some-first_sender}
 
--- a datagram of a recorded station that was sent has no cause against it, and one that was not sent has this one
-pub received_sent : (w : SettingData) (h : History) (b : List ℕ) (p : Pdu) → is_recorded w p ≡ true → was_sent b h ≡ true → get_cause w h b p ≡ None
-unfolding get_cause
-received_sent w h b p known sent = rw (known, sent) refl
-
+-- a datagram of a recorded station that was not sent has this cause against it
 pub received_unsent : (w : SettingData) (h : History) (b : List ℕ) (p : Pdu) → is_recorded w p ≡ true → was_sent b h ≡ false
     → get_cause w h b p ≡ Some NeverSent
 unfolding get_cause
-received_unsent w h b p known sent = rw (known, sent) refl
+received_unsent w h b p known sent = rw (recorded_heard w p known, known, sent) refl
 
 -- there is a first sender exactly where the datagram was sent
 pub sender_tells : (r : PlainRecording) (b : List ℕ) (steps : List Step) (found : Option ℕ) → found ≡ first_sender r.entries b steps

@@ -1,14 +1,15 @@
 -- What a station's log says of its next entry is what the order so far says.
-use Rattle.std.proofs.Common.{◌≡◌, ◌≢◌, ℕ, ◌<◌, List, [], ◌∷◌, length, Option, Some, None, true, false, refl, sym, ap, ◌∙◌, subst}
+use Rattle.std.proofs.Common.{◌≡◌, ◌≢◌, ℕ, ◌<◌, List, [], ◌∷◌, length, cond, Option, Some, None, Bool, true, false, refl, sym, ap, ◌∙◌, subst}
 use Rattle.std.specs.Prelude.{option_and_then, IfSome, not, ◌&&◌}
+use Rattle.std.specs.List.{list_any}
 use Rattle.std.proofs.lemmas.Option.{same_Some}
 use Rattle.siman_pdus.specs.declared.pdu.Pdu.{Pdu}
 use Rattle.exercise_model.specs.Recording.{PlainRecording}
-use Rattle.exercise_model.specs.Setting.{SettingData, is_recorded}
+use Rattle.exercise_model.specs.Setting.{SettingData, is_recorded, may_be_heard}
 use Rattle.exercise_model.specs.History.{Send, Get, Tell, History, station_at}
 use Rattle.exercise_model.specs.Meaning.{meaning}
 use Rattle.exercise_model.specs.State.{state_after}
-use Rattle.exercise_model.specs.Cause.{send_cause, get_cause, was_sent, tell_rows, first_cause, cause_of}
+use Rattle.exercise_model.specs.Cause.{send_cause, get_cause, sends, was_sent, tell_rows, first_cause, cause_of}
 use Rattle.exercise_model.specs.Account.{pair_of_sent}
 use Rattle.exercise_model.specs.declared.cause.Cause.{Cause}
 use Rattle.exercise_model.specs.declared.cause.Cause.TheVariants.{Stranger, NeverSent}
@@ -16,11 +17,12 @@ use Rattle.dis_records.specs.declared.entity_state.EntityState.{EntityState}
 use Rattle.exercise_check.specs.declared.certificate.Step.{Step}
 use Rattle.exercise_check.specs.declared.cause.Judgement.{Judgement}
 use Rattle.exercise_check.specs.declared.cause.Judgement.TheVariants.{Allowed, Forbidden}
-use Rattle.exercise_check.specs.Order.{order_of, first_sender, link_of}
+use Rattle.exercise_check.specs.Order.{order_of, first_sender, sender_link, link_of}
 use Rattle.exercise_check.specs.Goodness.{IsReady}
 use Rattle.exercise_check.specs.Course.{Judges}
 use Rattle.exercise_check.specs.Tables.{event_own_cause, is_never_sent, is_unsent}
-use Rattle.exercise_check.proofs.Courses.{received_sent, received_unsent, sender_tells}
+use Rattle.exercise_model.proofs.Offered.{get_where_sent}
+use Rattle.exercise_check.proofs.Courses.{received_unsent, sender_tells}
 use Rattle.exercise_check.proofs.Orders.{sender_within}
 
 pub sent_judged : (r : PlainRecording) (before : List Step) (j s : ℕ) (b : List ℕ) (x : Judgement)
@@ -41,9 +43,9 @@ told_judged r before j s e y x ready judged =
 
 -- ---- datagrams that were received
 
-link_other : (r : PlainRecording) (steps : List Step) (place s : ℕ) (b : List ℕ) → meaning r.setting.exercise b ≡ None → link_of r steps place (Get s b) ≡ None
-unfolding link_of
-link_other r steps place s b other = ap (option_and_then (λ (p : Pdu). first_sender r.entries b steps)) other
+-- the causes on receiving, by who may be heard, who must have sent it, and whether it was sent
+abbrev rows : Bool → Bool → Bool → Option Cause
+rows heard must sent = first_cause ((not heard, Stranger) ∷ (must && not sent, NeverSent) ∷ [])
 
 -- what was never sent, as if nothing had been, means a PDU of a recorded station
 record Unsent (w : SettingData) (b : List ℕ) : Type 0 where
@@ -56,11 +58,13 @@ unfolding cause_of get_cause was_sent
 unsent w b s =
     elim (meaning w.exercise b) as (λ o. meaning w.exercise b ≡ o → option_and_then (get_cause w [] b) o ≡ Some NeverSent → Unsent w b) [
       | None ↦ λ _ h. absurd (cc)
-      | Some p ↦ λ means. elim (is_recorded w p) as (λ k. is_recorded w p ≡ k
-          → first_cause ((not k, Stranger) ∷ (k && not (was_sent b []), NeverSent) ∷ []) ≡ Some NeverSent → Unsent w b) [
-            | false ↦ λ _ h. absurd (cc)
-            | true ↦ λ known _. record { pdu = p; means = means; known = known }
-          ] refl
+      | Some p ↦ λ means. elim (may_be_heard w p) as (λ heard. rows heard (is_recorded w p) false ≡ Some NeverSent → Unsent w b) [
+        | false ↦ λ h. absurd (cc)
+        | true ↦ elim (is_recorded w p) as (λ k. is_recorded w p ≡ k → rows true k false ≡ Some NeverSent → Unsent w b) [
+          | false ↦ λ _ h. absurd (cc)
+          | true ↦ λ known _. record { pdu = p; means = means; known = known }
+        ] refl
+      ]
     ] refl
 
 -- else what was sent before changes nothing
@@ -71,25 +75,31 @@ received_else w h b s =
     elim (meaning w.exercise b) as (λ o. option_and_then (get_cause w [] b) o ≢ Some NeverSent
     → option_and_then (get_cause w h b) o ≡ option_and_then (get_cause w [] b) o) [
       | None ↦ λ _. refl
-      | Some p ↦ elim (is_recorded w p) as (λ k. first_cause ((not k, Stranger) ∷ (k && not (was_sent b []), NeverSent) ∷ []) ≢ Some NeverSent
-          → first_cause ((not k, Stranger) ∷ (k && not (was_sent b h), NeverSent) ∷ [])
-          ≡ first_cause ((not k, Stranger) ∷ (k && not (was_sent b []), NeverSent) ∷ [])) [
+      | Some p ↦ elim (may_be_heard w p) as (λ heard. rows heard (is_recorded w p) false ≢ Some NeverSent
+          → rows heard (is_recorded w p) (list_any (sends b) h) ≡ rows heard (is_recorded w p) false) [
             | false ↦ λ _. refl
-            | true ↦ λ n. absurd (n refl)
+            | true ↦ elim (is_recorded w p) as (λ k. rows true k false ≢ Some NeverSent → rows true k (list_any (sends b) h) ≡ rows true k false) [
+              | false ↦ λ _. refl
+              | true ↦ λ n. absurd (n refl)
+            ]
           ]
     ]
 
--- where nothing speaks against it, it is "other"
-received_other : (w : SettingData) (b : List ℕ) (s : ℕ) → cause_of w [] (Get s b) ≡ None → meaning w.exercise b ≡ None
-unfolding cause_of get_cause was_sent
-received_other w b s =
-    elim (meaning w.exercise b) as (λ o. option_and_then (get_cause w [] b) o ≡ None → o ≡ None) [
+-- where nothing speaks against it, it is "other" or from outside, and is linked with no entry
+received_unlinked : (r : PlainRecording) (steps : List Step) (place s : ℕ) (b : List ℕ) → cause_of r.setting [] (Get s b) ≡ None
+    → link_of r steps place (Get s b) ≡ None
+unfolding cause_of get_cause was_sent link_of
+received_unlinked r steps place s b =
+    let w : SettingData = r.setting in
+    elim (meaning w.exercise b) as (λ o. option_and_then (get_cause w [] b) o ≡ None → option_and_then (sender_link r b steps) o ≡ None) [
       | None ↦ λ _. refl
-      | Some p ↦ elim (is_recorded w p) as (λ k. first_cause ((not k, Stranger) ∷ (k && not (was_sent b []), NeverSent) ∷ []) ≡ None
-          → Some p ≡ None) [
-            | false ↦ λ h. absurd (cc)
-            | true ↦ λ h. absurd (cc)
-          ]
+      | Some p ↦ elim (may_be_heard w p) as (λ heard. rows heard (is_recorded w p) false ≡ None → sender_link r b steps p ≡ None) [
+        | false ↦ λ h. absurd (cc)
+        | true ↦ elim (is_recorded w p) as (λ k. rows true k false ≡ None → cond k (first_sender r.entries b steps) None ≡ None) [
+          | false ↦ λ _. refl
+          | true ↦ λ h. absurd (cc)
+        ]
+      ]
     ]
 
 told_unsent : (cause : Option Cause) (entries : ℕ) (alone : Judgement) → is_unsent alone ≡ true → Judges cause None entries alone → cause ≡ Some NeverSent
@@ -111,8 +121,8 @@ unfolding cause_of link_of
 received_from r steps place s b alone e is so judged =
     let u = unsent r.setting b s (told_unsent _ _ alone so judged) in (
       ap (option_and_then (get_cause r.setting (order_of r steps) b)) u.means
-          ∙ received_sent r.setting (order_of r steps) b u.pdu u.known (sender_tells r b steps (Some e) is),
-      is ∙ sym (ap (option_and_then (λ (p : Pdu). first_sender r.entries b steps)) u.means),
+          ∙ get_where_sent r.setting (order_of r steps) b u.pdu u.known (sender_tells r b steps (Some e) is),
+      is ∙ sym (ap (option_and_then (sender_link r b steps)) u.means ∙ ap (λ k. cond k (first_sender r.entries b steps) None) u.known),
       subst (λ o. IfSome o (λ e. e < length r.entries)) (sym is) (sender_within r.entries b steps),
     )
 
@@ -135,6 +145,6 @@ received_alone r steps place s b (Forbidden cause) so judged =
     (λ never. not_unsent (Forbidden cause) so (ap (λ (c : Cause). Forbidden c) (same_Some cause NeverSent (sym judged ∙ never)))) ∙ judged
 received_alone r steps place s b (Allowed link) so judged = (
   received_else r.setting (order_of r steps) b s (λ never. absurd (cc (sym never ∙ judged.0))) ∙ judged.0,
-  judged.1 ∙ sym (link_other r steps place s b (received_other r.setting b s judged.0)),
+  judged.1 ∙ sym (received_unlinked r steps place s b judged.0),
   judged.2,
 )

@@ -19,6 +19,7 @@ mod Links
 mod Explained
 mod Known
 mod Causes
+mod Conversions
 mod Agreement
 mod Refusals
 pub mod Offered

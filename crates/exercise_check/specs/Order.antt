@@ -6,6 +6,7 @@ use Rattle.exercise_model.specs.Entry.{Entry}
 use Rattle.exercise_model.specs.Recording.{PlainRecording}
 use Rattle.exercise_model.specs.History.{Event, Send, Get, Tell, History, event_of, station_of, past, log_at}
 use Rattle.exercise_model.specs.Meaning.{meaning}
+use Rattle.exercise_model.specs.Setting.{must_have_sent}
 use Rattle.exercise_model.specs.Cause.{sends}
 use Rattle.exercise_model.specs.Place.{log_before}
 use Rattle.exercise_model.specs.Account.{pair_of_sent}
@@ -31,9 +32,13 @@ first_sender entries b [] = None
 first_sender entries b (step ∷ steps) =
     if option_map_or (λ e. sends b (event_of e)) (slice_get entries step.place) false then Some step.place else first_sender entries b steps
 
--- THE LINK OF A STEP: for an answer that is sent the entry of the request that it takes up, for a datagram that is received and
--- means something the entry of the first Send before with the same bytes, for all else none
+-- the entry that brought a datagram of these bytes, which means p: that of the first step before that sends it, where it comes from who must have sent it
+abbrev pub sender_link : PlainRecording → List ℕ → List Step → Pdu → Option ℕ
+sender_link r b before p = if must_have_sent r.setting p then first_sender r.entries b before else None
+
+-- THE LINK OF A STEP: for an answer that is sent the entry of the request that it takes up, for a datagram that is received from a recorded
+-- station and means something the entry of the first Send before with the same bytes, for all else none
 unfoldable pub link_of : PlainRecording → List Step → ℕ → Event → Option ℕ
 link_of r before place (Send s b) = option_and_then (pair_of_sent r s place) (meaning r.setting.exercise b)
-link_of r before place (Get s b) = option_and_then (λ (p : Pdu). first_sender r.entries b before) (meaning r.setting.exercise b)
+link_of r before place (Get s b) = option_and_then (sender_link r b before) (meaning r.setting.exercise b)
 link_of r before place (Tell s e y) = None

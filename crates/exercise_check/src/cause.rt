@@ -30,7 +30,7 @@ use crate::state::state_before;
 use crate::tables::Tables;
 use dis_records::{EntityState, Kind, Scope};
 use exercise_model::{
-    Cause, Change, EntryView, ExerciseLog, is_answer, is_entity, is_from, key_of, responds,
+    Cause, Change, EntryView, ExerciseLog, Form, is_answer, is_entity, is_from, key_of, responds,
 };
 use siman_pdus::{ABLE, PduView, UNABLE, answers};
 
@@ -165,14 +165,16 @@ pub(crate) fn judge_sent<L: ExerciseLog>(
     }
 }
 
-/// The first cause against a PDU that a station receives, from a recorded station or not, as if
-/// nothing had been sent before.
-#[tactic(auto, unfolding(exercise_model::specs::Cause::get_cause, exercise_model::specs::Cause::was_sent))]
-pub(crate) fn judge_unsent(recorded: bool) -> Option<Cause>
-    ensures { (w : SettingData) (b : List ℕ) (p : Pdu) → recorded ≡ is_recorded w p → result ≡ get_cause w [] b p }
+/// The first cause against a PDU that a station receives in a recording of this form, from a
+/// recorded station or not, as if nothing had been sent before.
+#[tactic(auto, unfolding(exercise_model::specs::Cause::get_cause, exercise_model::specs::Cause::was_sent, exercise_model::specs::Setting::may_be_heard))]
+pub(crate) fn judge_unsent(form: Form, recorded: bool) -> Option<Cause>
+    ensures { (w : SettingData) (b : List ℕ) (p : Pdu) → form ≡ w.form → recorded ≡ is_recorded w p → result ≡ get_cause w [] b p }
 {
     if recorded {
         Some(Cause::NeverSent)
+    } else if form == Form::Open {
+        None
     } else {
         Some(Cause::Stranger)
     }

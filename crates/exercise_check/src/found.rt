@@ -124,7 +124,7 @@ fn found_received<L: ExerciseLog>(log: &L, station: u16, pdu: &PduView<'_>) -> F
     Found {
         key: received_key(station, address, pdu),
         behind: key_behind(sender, pdu),
-        ..judged(judge_unsent(sender.is_some()))
+        ..judged(judge_unsent(log.form(), sender.is_some()))
     }
 }
 

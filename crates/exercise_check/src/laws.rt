@@ -1,7 +1,7 @@
 //! Laws of steps, and of the format of certificates. Each function is a theorem: it has no body, and
 //! its contract is the law.
 
-ghost use Rattle.std.specs.Prelude.{◌≡◌, ◌≤◌, ◌<◌, ℕ, List, length, slice_index, Ok, Err, true, Some, None};
+ghost use Rattle.std.specs.Prelude.{◌≡◌, ◌↔◌, ◌≤◌, ◌<◌, ℕ, List, length, slice_index, Ok, Err, true, Some, None};
 ghost use Rattle.std.specs.List.{list_all};
 ghost use Rattle.exercise_check.specs.declared.certificate.Step.{Step};
 ghost use Rattle.exercise_check.specs.declared.certificate_fault.CertificateFormatFault.{CertificateFormatFault};
@@ -14,8 +14,14 @@ ghost use Rattle.exercise_model.specs.Meaning.{meaning};
 ghost use Rattle.exercise_model.specs.Exchange.{is_answer_body};
 ghost use Rattle.exercise_model.specs.Pairing.{IsTakenUp};
 ghost use Rattle.exercise_model.specs.Run.{Explains};
+ghost use Rattle.exercise_model.specs.declared.form.Form.TheVariants.{First};
+ghost use Rattle.exercise_model.specs.Conversion.{converted};
 ghost use Rattle.exercise_check.specs.Order.{order_of};
-ghost use Rattle.exercise_check.specs.Goodness.{step_cause, IsGoodStep, GoodBelow, IsGood};
+ghost use Rattle.exercise_check.specs.Goodness.{step_cause, IsGoodStep, GoodBelow, IsGood, Refuses};
+ghost use Rattle.exercise_check.specs.Checked.{CheckedData, TellsAccount};
+ghost use Rattle.exercise_check.specs.declared.checker.CheckFault.{CheckFault};
+ghost use Rattle.exercise_check.specs.declared.checker.CheckFault.TheVariants.{Bad};
+ghost use Rattle.exercise_model.specs.declared.cause.Cause.{Cause};
 
 /// Laws of steps: a step is good exactly where no cause speaks against it; after good steps a good
 /// step links an answer with the request that it takes up in their order; and the order that a good
@@ -27,6 +33,24 @@ pub fn good_steps_have_no_cause()
     ensures links { (r : PlainRecording) (before : List Step) (step : Step) (e : Entry) (s : ℕ) (b : List ℕ) (p : Pdu) → GoodBelow r before (length before) → IsGoodStep r before step e
         → event_of e ≡ Send s b → meaning r.setting.exercise b ≡ Some p → is_answer_body p.body ≡ true → IsTakenUp r (order_of r before) s p step.link }
     ensures explains { (r : PlainRecording) (steps : List Step) → IsRecording r → IsGood r steps → Explains r (order_of r steps) }
+{}
+
+/// The law of conversion: a recording of the first form and the one that is equal to it in all but
+/// the form, which is Closed, have the same first cause against each step after each steps
+/// (`causes`), the same good certificates (`good`), and the same refusals of the others (`bad`); and
+/// what a yes tells of the one it tells of the other (`account`). So [`check`] gives both the same
+/// answer, want of memory aside.
+///
+/// [`check`]: crate::check
+pub fn conversion_keeps_checks()
+    ensures causes { (r : PlainRecording) (before : List Step) (step : Step) → r.setting.form ≡ First → step_cause r before step ≡ step_cause (converted r) before step }
+    ensures good { (r : PlainRecording) (steps : List Step) → r.setting.form ≡ First → IsGood r steps ↔ IsGood (converted r) steps }
+    ensures bad { (r : PlainRecording) (steps : List Step) (fault : CheckFault) → r.setting.form ≡ First → Refuses r steps fault ↔ Refuses (converted r) steps fault }
+    // A certificate that is refused of the one is refused of the other, with the same step and cause.
+    ensures one { (r : PlainRecording) (steps : List Step) (k j : ℕ) (cause other : Cause) → r.setting.form ≡ First → Refuses r steps (Bad k cause) → Refuses (converted r) steps (Bad j other)
+        → (k ≡ j) × (cause ≡ other) }
+    ensures never { (r : PlainRecording) (steps : List Step) (k : ℕ) (cause : Cause) → r.setting.form ≡ First → IsGood r steps → Refuses (converted r) steps (Bad k cause) → ⊥ }
+    ensures account { (r : PlainRecording) (c : CheckedData) → TellsAccount r c ↔ TellsAccount (converted r) c }
 {}
 
 /// Laws of the format: what is read as a certificate is its text, whole and within the limit; and

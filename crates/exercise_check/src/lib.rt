@@ -3,7 +3,8 @@
 //!
 //! [`check`] trusts nothing but a log and a certificate: a yes is a run that explains the recording,
 //! and a no names the first bad step and the first cause that holds there;
-//! [`good_steps_have_no_cause`] ties the causes to good steps. It folds a [`Course`]: the steps taken
+//! [`good_steps_have_no_cause`] ties the causes to good steps, and [`conversion_keeps_checks`] is the
+//! law of a recording that is carried over to the second format. It folds a [`Course`]: the steps taken
 //! so far over a log, which judges the next event of a station by them; the search of the crate
 //! above sweeps with it. [`read_certificate`] answers the certificate whose text was read or the
 //! first field that is bad, missing or past the limit, [`write_certificate`] writes that text, and
@@ -46,4 +47,6 @@ pub use certificate_text::write_certificate;
 pub use checked::Checked;
 pub use checker::{CheckFault, check};
 pub use course::{Course, Progress};
-pub use laws::{good_steps_have_no_cause, refusals_hold, text_and_reading_agree};
+pub use laws::{
+    conversion_keeps_checks, good_steps_have_no_cause, refusals_hold, text_and_reading_agree,
+};

@@ -15,4 +15,5 @@ mod Confluence
 mod FirstAnswers
 mod Carrying
 mod Knowledge
+mod Conversions
 pub mod Offered

@@ -3,7 +3,8 @@ pub use Rattle.exercise_model.proofs.Accounts.{account_steps, changes-all, other
 pub use Rattle.exercise_model.proofs.Beginnings.{beginning_length, log_at-append, log_before-beginning, log_before-next, same_beginnings}
 pub use Rattle.exercise_model.proofs.Changes.{change_steps, log_before-all, present_below-all}
 pub use Rattle.exercise_model.proofs.Checks.{all_at, all_pushed, holds_at}
-pub use Rattle.exercise_model.proofs.Confluence.{same_causes, same_prefixes, stuck_explains}
+pub use Rattle.exercise_model.proofs.Confluence.{get_where_sent, recorded_heard, same_causes, same_prefixes, stuck_explains}
+pub use Rattle.exercise_model.proofs.Conversions.{read_alike, same_when_closed, stuck_alike, explained_alike}
 pub use Rattle.exercise_model.proofs.Counting.{all_events, entry_station, fewer_events, length-past, no_log, past_within, same_count, within}
 pub use Rattle.exercise_model.proofs.FirstAnswers.{able_changes, first_able_changes, no_change_keeps, others_keep, received_keeps, told_keeps}
 pub use Rattle.exercise_model.proofs.Knowledge.{entries_known}

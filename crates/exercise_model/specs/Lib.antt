@@ -17,3 +17,4 @@ pub mod Headline
 pub mod Pairing
 pub mod Answered
 pub mod Knowledge
+pub mod Conversion

@@ -7,7 +7,8 @@
 //! takes up, changes and states, why an event may not happen, and runs. The laws of runs are
 //! [`what_explains_holds`], [`logs_suffice`], [`accounts_are_whole`], [`changes_are_known`],
 //! [`allowed_stays_allowed`] and [`ends_are_one`]; that of a first answer is
-//! [`first_answers_change_states`]. Only [`Recording::push`] and [`meaning_of`] take memory.
+//! [`first_answers_change_states`], and that of a recording that is carried over to the second format
+//! [`conversion_keeps_runs`]. Only [`Recording::push`] and [`meaning_of`] take memory.
 #![tactic(auto)]
 
 mod acknowledge;
@@ -15,6 +16,7 @@ mod cause;
 mod entry;
 mod exchange;
 mod fault;
+mod form;
 mod laws;
 mod log;
 mod meaning;
@@ -29,9 +31,10 @@ pub use dis_records::LARGEST_DATAGRAM;
 pub use entry::{EntryView, LogEntry};
 pub use exchange::{is_answer, is_asked, is_from};
 pub use fault::LogFault;
+pub use form::Form;
 pub use laws::{
-    accounts_are_whole, allowed_stays_allowed, changes_are_known, ends_are_one,
-    first_answers_change_states, logs_suffice, what_explains_holds,
+    accounts_are_whole, allowed_stays_allowed, changes_are_known, conversion_keeps_runs,
+    ends_are_one, first_answers_change_states, logs_suffice, what_explains_holds,
 };
 pub use log::ExerciseLog;
 pub use meaning::{meaning_of, meaning_view};

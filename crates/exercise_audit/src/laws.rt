@@ -1,0 +1,26 @@
+//! Laws of searches. Each function is a theorem: it has no body, and its contract is the law.
+
+ghost use Rattle.std.specs.Prelude.{◌≡◌, ◌↔◌, List};
+ghost use Rattle.exercise_model.specs.declared.form.Form.TheVariants.{First};
+ghost use Rattle.exercise_model.specs.Recording.{PlainRecording, IsRecording};
+ghost use Rattle.exercise_model.specs.Conversion.{converted};
+ghost use Rattle.exercise_check.specs.declared.certificate.Step.{Step};
+ghost use Rattle.exercise_check.specs.Goodness.{IsGood};
+ghost use Rattle.exercise_audit.specs.declared.blocks.Block.{Block};
+ghost use Rattle.exercise_audit.specs.declared.blocks.Audit.{Audit};
+ghost use Rattle.exercise_audit.specs.Audit.{IsBlocked, IsAuditOf};
+
+/// The law of conversion: a recording of the first form and the one that is equal to it in all but
+/// the form, which is Closed, are blocked alike (`blocked`), and what a search may answer of the one it
+/// may answer of the other (`answers`); so [`audit`] explains the one exactly where it explains the
+/// other (`one`, `other`), want of memory aside.
+///
+/// [`audit`]: crate::audit
+pub fn conversion_keeps_searches()
+    ensures blocked { (r : PlainRecording) (blocks : List Block) → r.setting.form ≡ First → IsBlocked r blocks ↔ IsBlocked (converted r) blocks }
+    ensures answers { (r : PlainRecording) (answer : Audit) → r.setting.form ≡ First → IsAuditOf r answer ↔ IsAuditOf (converted r) answer }
+    ensures one { (r : PlainRecording) (blocks : List Block) (steps : List Step) → IsRecording r → r.setting.form ≡ First
+        → IsBlocked (converted r) blocks → IsGood r steps → ⊥ }
+    ensures other { (r : PlainRecording) (blocks : List Block) (steps : List Step) → IsRecording r → r.setting.form ≡ First
+        → IsBlocked r blocks → IsGood (converted r) steps → ⊥ }
+{}

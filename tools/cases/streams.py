@@ -60,6 +60,7 @@ def answers(trials, examples):
         (["check", wrong, certificate], b"", Outcome(1, b"no step=8 cause=13 wrong-state\n", b"")),
         (["world", WORKED_SCRIPT, "made.dsrc"], b"", Outcome(0, WORKED_LINE, b"")),
         (["live", WORKED_SCRIPT, "lived.here.dsrc"], b"", Outcome(0, b"live records=13\n", b"")),
+        (["convert", good, "converted.here.dsrc"], b"", Outcome(0, b"converted records=9\n", b"")),
     ]
 
 

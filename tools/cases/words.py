@@ -20,6 +20,7 @@ def try_words(trials):
         ["PDU", "07"], ["shows", recording], ["--pdu", "07"], ["--nothing"], ["-x"], ["pdu", "--nothing"], [recording],
         ["pd"], ["-"], ["--", "pdu"], ["world"], ["world", "a"], ["world", "a", "b", "c"], ["world", "-a", "b"],
         ["live"], ["live", "a"], ["live", "a", "b", "c"], ["live", "-a", "b"],
+        ["convert"], ["convert", "a"], ["convert", "a", "b", "c"], ["convert", "-a", "b"], ["convert", recording, "-a"],
         ["pdus", "07"], ["pdus", ""], ["pdus", "-x"], ["trial"], ["audit"], ["audit", recording], ["audit", recording, "a", "b"], ["audit", recording, "-a"],
     ]:  # fmt: skip
         trials.expect(words, usage)

@@ -9,8 +9,8 @@ pub struct Step {
     /// The number of an entry of the recording, from 0.
     pub place: u32,
     /// For an answer that was sent, the number of the entry of the request that it takes up; for a
-    /// datagram that was received and means something, that of the first earlier entry in this
-    /// order that sent the same bytes; for all else [`NO_LINK`].
+    /// datagram that was received from a recorded station and means something, that of the first
+    /// earlier entry in this order that sent the same bytes; for all else [`NO_LINK`].
     pub link: u32,
 }
 

@@ -12,6 +12,7 @@ mod Places
 mod Distinct
 mod Wholes
 mod Confluence
+mod Heard
 mod FirstAnswers
 mod Carrying
 mod Knowledge

@@ -7,7 +7,7 @@ use crate::state::state_before;
 use dis_records::{EntityState, Kind, Scope};
 use exercise_check::Step;
 use exercise_model::{
-    Cause, Change, EntryView, ExerciseLog, is_answer, is_entity, is_from, is_under_identifier,
+    Cause, Change, EntryView, ExerciseLog, Form, is_answer, is_entity, is_from, is_under_identifier,
     key_of, meaning_view, responds,
 };
 use siman_pdus::{ABLE, PduView, UNABLE, answers, is_request, same_order};
@@ -144,7 +144,10 @@ fn judge_received<L: ExerciseLog>(
     pdu: &PduView<'_>,
 ) -> Judgement {
     if sender_of(log, pdu).is_none() {
-        return Err(Cause::Stranger);
+        return match log.form() {
+            Form::Open => Ok(None),
+            Form::First | Form::Closed => Err(Cause::Stranger),
+        };
     }
     match first_sender(log, before, bytes) {
         Some(entry) => Ok(Some(entry)),

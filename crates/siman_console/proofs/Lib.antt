@@ -6,6 +6,7 @@ pub mod Passings
 pub mod Readings
 pub mod Shown
 pub mod Searches
+mod Carryings
 pub mod Texts
 pub mod Verdicts
 pub mod Worlds

@@ -42,7 +42,7 @@ blocks_within r blocks blocked =
     are_within r blocked.some_end.0 (length r.setting.stations) blocks (blocked.blocks_are blocked.some_end.0 blocked.some_end.1)
 
 -- a recording that could not be read
-unsearched : (recorded : Recorded) (fault : RecordingFault) → Fails (format_of fault) recorded → IsUnsearched recorded (of_recording fault)
+pub unsearched : (recorded : Recorded) (fault : RecordingFault) → Fails (format_of fault) recorded → IsUnsearched recorded (of_recording fault)
 unsearched recorded (recordings.Format f) why = inl (f, why, refl)
 unsearched recorded recordings.Read why = inr (inl refl)
 unsearched recorded recordings.Memory why = inr (inr refl)

@@ -16,7 +16,7 @@ use Rattle.siman_console.specs.declared.hex_text.TheConstants.{LONGEST_HEX}
 use Rattle.siman_console.specs.declared.fault.Ended.{Ended}
 use Rattle.siman_console.specs.declared.fault.Fault.{Fault}
 use Rattle.siman_console.specs.Ending.{Wrote}
-use Rattle.siman_console.specs.declared.fault.Fault.TheVariants.{NotBytePairs, HexLine, Input, File, Words, Recording, Certificate, Script, ScriptRead, World, LineFailed, Output, Memory}
+use Rattle.siman_console.specs.declared.fault.Fault.TheVariants.{NotBytePairs, HexLine, Input, File, Words, Recording, Already, Certificate, Script, ScriptRead, World, LineFailed, Output, Memory}
 use Rattle.siman_console.specs.declared.lines.Stop.{Stop}
 use Rattle.siman_console.specs.declared.lines.Stop.TheVariants as stops
 use Rattle.siman_console.specs.Answer.{not_byte_pairs, said_of_reading, said_of_bytes, said_of_hex, IsSaid}
@@ -176,6 +176,7 @@ line-stopped number line (File name) o p e some said other = absurd said
 line-stopped number line Words o p e some said other = absurd said
 line-stopped number line (Recording f) o p e some said other = absurd said
 line-stopped number line (Certificate f) o p e some said other = absurd said
+line-stopped number line Already o p e some said other = absurd said
 line-stopped number line (Script f) o p e some said other = absurd said
 line-stopped number line ScriptRead o p e some said other = absurd said
 line-stopped number line (World f) o p e some said other = absurd said

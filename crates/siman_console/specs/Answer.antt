@@ -7,7 +7,7 @@ use Rattle.siman_pdus.specs.declared.pdu.Pdu.{Pdu}
 use Rattle.siman_pdus.specs.Reading.{pdu_from, refusal_of}
 use Rattle.siman_pdus.specs.Texts.{refusal_number, pdu_fault_text}
 use Rattle.siman_console.specs.declared.fault.Fault.{Fault}
-use Rattle.siman_console.specs.declared.fault.Fault.TheVariants.{NotBytePairs, HexLine, Input, File, Words, Recording, Certificate, Script, ScriptRead, World, LineFailed, Output, Memory}
+use Rattle.siman_console.specs.declared.fault.Fault.TheVariants.{NotBytePairs, HexLine, Input, File, Words, Recording, Already, Certificate, Script, ScriptRead, World, LineFailed, Output, Memory}
 use Rattle.siman_console.specs.Ending.{EndsWith}
 use Rattle.siman_console.specs.HexText.{bytes_of}
 use Rattle.siman_console.specs.Records.{pdu_lines, line_end}
@@ -56,6 +56,7 @@ IsSaid said (Err (File name)) old new = ⊥
 IsSaid said (Err Words) old new = ⊥
 IsSaid said (Err (Recording fault)) old new = ⊥
 IsSaid said (Err (Certificate fault)) old new = ⊥
+IsSaid said (Err Already) old new = ⊥
 IsSaid said (Err (Script fault)) old new = ⊥
 IsSaid said (Err ScriptRead) old new = ⊥
 IsSaid said (Err (World fault)) old new = ⊥

@@ -6,6 +6,8 @@ use Rattle.byte_files.specs.declared.output.WriteFailed.{WriteFailed}
 use Rattle.exercise_recording.specs.declared.format_fault.RecordingFault.{RecordingFault}
 use Rattle.exercise_recording.specs.declared.format_fault.RecordingFault.TheVariants as recordings
 use Rattle.exercise_recording.specs.FaultText as recording_texts
+use Rattle.exercise_recording.specs.declared.conversion.ConvertFault.{ConvertFault}
+use Rattle.exercise_recording.specs.declared.conversion.ConvertFault.TheVariants as converts
 use Rattle.exercise_check.specs.declared.certificate_fault.CertificateFault.{CertificateFault}
 use Rattle.exercise_check.specs.declared.certificate_fault.CertificateFault.TheVariants as certificates
 use Rattle.exercise_check.specs.FaultText as certificate_texts
@@ -20,7 +22,7 @@ use Rattle.siman_console.specs.declared.place.Place.{Place}
 use Rattle.siman_console.specs.declared.place.Place.TheVariants.{Offset, Line, Move}
 use Rattle.siman_console.specs.declared.fault.Fault.{Fault}
 use Rattle.siman_console.specs.declared.fault.Ended.{Ended}
-use Rattle.siman_console.specs.declared.fault.Fault.TheVariants.{NotBytePairs, HexLine, Input, File, Words, Recording, Certificate, Script, ScriptRead, World, LineFailed, Output, Memory}
+use Rattle.siman_console.specs.declared.fault.Fault.TheVariants.{NotBytePairs, HexLine, Input, File, Words, Recording, Already, Certificate, Script, ScriptRead, World, LineFailed, Output, Memory}
 use Rattle.siman_console.specs.declared.files_fault.FilesFault.{FilesFault}
 use Rattle.siman_console.specs.declared.files_fault.FilesFault.TheVariants as files
 use Rattle.siman_console.specs.declared.trial_fault.TrialFault.{TrialFault}
@@ -35,6 +37,7 @@ subject_of Input = codes "file: "
 subject_of (File name) = codes "file: "
 subject_of Words = codes "words: "
 subject_of (Recording fault) = codes "recording: "
+subject_of Already = codes "recording: "
 subject_of (Certificate fault) = codes "certificate: "
 subject_of (Script fault) = codes "script: "
 subject_of ScriptRead = codes "script: "
@@ -83,6 +86,7 @@ name_of Input = codes "-"
 name_of (File name) = name.now
 name_of Words = codes "not UTF-8"
 name_of (Recording fault) = recording_fault_name fault
+name_of Already = codes "already"
 name_of (Certificate fault) = certificate_fault_name fault
 name_of (Script fault) = script_fault_name fault
 name_of ScriptRead = codes "read"
@@ -119,6 +123,7 @@ place_of Input = None
 place_of (File name) = None
 place_of Words = None
 place_of (Recording fault) = recording_place fault
+place_of Already = None
 place_of (Certificate fault) = certificate_place fault
 place_of (Script fault) = script_place fault
 place_of ScriptRead = None
@@ -156,6 +161,7 @@ fault_status Input = 2
 fault_status (File name) = 2
 fault_status Words = 2
 fault_status (Recording fault) = 2
+fault_status Already = 2
 fault_status (Certificate fault) = 2
 fault_status (Script fault) = 2
 fault_status ScriptRead = 2
@@ -169,6 +175,13 @@ abbrev pub of_recording : RecordingFault → Fault
 of_recording (recordings.Format fault) = Recording (recordings.Format fault)
 of_recording recordings.Read = Recording recordings.Read
 of_recording recordings.Memory = Memory
+
+-- how it is told that a recording was not carried over to the second format
+abbrev pub of_convert : ConvertFault → Fault
+of_convert (converts.Recording fault) = of_recording fault
+of_convert converts.Already = Already
+of_convert converts.Write = Output
+of_convert converts.Memory = Memory
 
 -- how the fault of a script, and that of its world, is told
 abbrev pub of_script : ScriptFault → Fault

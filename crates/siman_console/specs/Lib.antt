@@ -11,6 +11,7 @@ pub mod Outside
 pub mod Words
 pub mod Outcome
 pub mod Search
+pub mod Convert
 pub mod World
 pub mod Posts
 pub mod Live

@@ -8,7 +8,7 @@ use Rattle.siman_worlds.specs.declared.world_fault.WorldFault.TheVariants as wor
 use Rattle.siman_worlds.specs.Script.{ScriptData}
 use Rattle.siman_worlds.specs.World.{are_world_stations}
 use Rattle.siman_console.specs.declared.fault.Fault.{Fault}
-use Rattle.siman_console.specs.declared.fault.Fault.TheVariants.{NotBytePairs, HexLine, Input, File, Words, Recording, Certificate, Script, ScriptRead, World, LineFailed, Output, Memory}
+use Rattle.siman_console.specs.declared.fault.Fault.TheVariants.{NotBytePairs, HexLine, Input, File, Words, Recording, Already, Certificate, Script, ScriptRead, World, LineFailed, Output, Memory}
 use Rattle.siman_console.specs.declared.live.Begun.{Begun}
 use Rattle.siman_console.specs.Ending.{EndsWith}
 use Rattle.siman_console.specs.Outcome.{Stream}
@@ -36,6 +36,7 @@ BeginsNone scripted (File name) = ⊥
 BeginsNone scripted Words = ⊥
 BeginsNone scripted (Recording fault) = ⊥
 BeginsNone scripted (Certificate fault) = ⊥
+BeginsNone scripted Already = ⊥
 BeginsNone scripted Output = ⊥
 BeginsNone scripted Memory = ⊤
 
@@ -55,6 +56,7 @@ TellsMoves count (Err (File name)) out = ⊥
 TellsMoves count (Err Words) out = ⊥
 TellsMoves count (Err (Recording fault)) out = ⊥
 TellsMoves count (Err (Certificate fault)) out = ⊥
+TellsMoves count (Err Already) out = ⊥
 TellsMoves count (Err (Script fault)) out = ⊥
 TellsMoves count (Err ScriptRead) out = ⊥
 
@@ -73,6 +75,7 @@ HaltsIn count (File name) = ⊥
 HaltsIn count Words = ⊥
 HaltsIn count (Recording fault) = ⊥
 HaltsIn count (Certificate fault) = ⊥
+HaltsIn count Already = ⊥
 HaltsIn count (Script fault) = ⊥
 HaltsIn count ScriptRead = ⊥
 

@@ -6,11 +6,15 @@ use Rattle.std.specs.declared.io.ErrorKind.{ErrorKind}
 use Rattle.std.specs.declared.io.ErrorKind.TheVariants.{OutOfMemory}
 use Rattle.siman_console.specs.declared.check.TheConstants.{LARGEST_CERTIFICATE}
 use Rattle.siman_console.specs.declared.show.TheConstants.{LARGEST_RECORDING}
+use Rattle.siman_console.specs.declared.convert.TheConstants.{LARGEST_OLD_RECORDING}
 use Rattle.clap.specs.declared.error.kind.ErrorKind.{ErrorKind as UsageKind}
 use Rattle.exercise_recording.specs.Reading.{recording_at}
 use Rattle.exercise_check.specs.declared.certificate.Step.{Step}
 use Rattle.exercise_check.specs.Certificate.{certificate_at, certificate_text}
 use Rattle.exercise_model.specs.Recording.{PlainRecording}
+use Rattle.exercise_model.specs.Conversion.{converted}
+use Rattle.exercise_recording.specs.Conversion.{IsOld}
+use Rattle.exercise_recording.specs.Text.{recording_text}
 use Rattle.siman_worlds.specs.Script.{script_at}
 use Rattle.siman_worlds.specs.Script.{ScriptData}
 use Rattle.siman_worlds.specs.Text.{lines_of}
@@ -19,6 +23,7 @@ use Rattle.siman_console.specs.declared.fault.Fault.{Fault}
 use Rattle.siman_console.specs.declared.fault.Fault.TheVariants.{LineFailed, Output, Memory}
 use Rattle.siman_console.specs.Answer.{said_of_hex, IsSaid}
 use Rattle.siman_console.specs.Check.{Recorded, Certified, TellsCheck}
+use Rattle.siman_console.specs.Convert.{IsUncarried, converted_line}
 use Rattle.siman_console.specs.Ending.{Ends, fault_text}
 use Rattle.siman_console.specs.Lines.{EndsLines}
 use Rattle.siman_console.specs.Live.{BeginsNone, TellsMoves}
@@ -29,7 +34,7 @@ use Rattle.siman_console.specs.declared.search.Finding.TheVariants as findings
 use Rattle.siman_console.specs.Search.{explained_line, FindsOrder, FindsNone, IsUnsearched, PutsBoth, PutsBlocked}
 use Rattle.siman_console.specs.Show.{TellsShow}
 use Rattle.siman_console.specs.Trial.{TellsTrial}
-use Rattle.siman_console.specs.Words.{Asked, Trial, Pdu, Pdus, Show, Check, Audit, World, Live, asked}
+use Rattle.siman_console.specs.Words.{Asked, Trial, Pdu, Pdus, Show, Check, Audit, World, Live, Convert, asked}
 use Rattle.siman_console.specs.World.{Scripted, Yields, YieldsNone, PutsWorld}
 
 -- what a command answered, its status, or the fault that it met
@@ -179,6 +184,25 @@ AuditsFile recording certificate (Opens opened (Err kind) ∷ deeds) answered ou
 AuditsFile recording certificate (Makes made found ∷ deeds) answered out = ⊥
 AuditsFile recording certificate (Leaves left ∷ deeds) answered out = ⊥
 
+-- A file is made of the conversion of a recording, and none where nothing is carried over.
+abbrev pub ConvertsRecorded : Recorded → (new : List ℕ) → List Deed → Answered → Stream → Type 0
+ConvertsRecorded recorded new deeds answered out =
+    ((fault : Fault) × IsUncarried recorded fault × (answered ≡ Err fault) × (deeds ≡ []) × Keeps out.old out.new)
+    ⊎ ((r : PlainRecording) × IsOld recorded r × MakesBoth new (recording_text (converted r)) (converted_line (length r.entries)) deeds answered out)
+
+-- `convert` had this recording to carry over, where its bytes are known, or some
+abbrev pub ConvertsFound : Option (List ℕ) → (new : List ℕ) → List Deed → Answered → Stream → Type 0
+ConvertsFound (Some bytes) new deeds answered out = ConvertsRecorded (recording_at LARGEST_OLD_RECORDING bytes) new deeds answered out
+ConvertsFound None new deeds answered out = (recorded : Recorded) × ConvertsRecorded recorded new deeds answered out
+
+-- A RECORDING IS OPENED for `convert`, and then the file of its conversion is made
+abbrev pub ConvertsFile : (old new : List ℕ) → List Deed → Answered → Stream → Type 0
+ConvertsFile old new [] answered out = ⊥
+ConvertsFile old new (Opens opened (Ok bytes) ∷ deeds) answered out = (opened ≡ old) × ConvertsFound bytes new deeds answered out
+ConvertsFile old new (Opens opened (Err kind) ∷ deeds) answered out = (opened ≡ old) × (deeds ≡ []) × TellsUnopened old kind answered out
+ConvertsFile old new (Makes made found ∷ deeds) answered out = ⊥
+ConvertsFile old new (Leaves left ∷ deeds) answered out = ⊥
+
 -- with the status of what was answered, or with that of the fault that was met, which is then told
 abbrev pub EndsAs : (Answered → Stream → Type 0) → Outcome → Type 0
 EndsAs Tells o = (answered : Answered) × Tells answered o.out × Ends answered o.ended o.errors.old o.errors.new
@@ -193,6 +217,7 @@ EndsTask (Check recording certificate) deeds input o = EndsAs (ChecksFiles recor
 EndsTask (Audit recording certificate) deeds input o = EndsAs (AuditsFile recording certificate deeds) o
 EndsTask (World script recording) deeds input o = EndsAs (RunsFile script recording deeds) o
 EndsTask (Live script recording) deeds input o = EndsAs (LivesFile script recording deeds) o
+EndsTask (Convert old new) deeds input o = EndsAs (ConvertsFile old new deeds) o
 
 -- Words that ask for nothing of the table ask for help or break the usage, and no file is opened.
 abbrev pub EndsAsked : Option Asked → List Deed → Option (List ℕ) → Outcome → Type 0

@@ -8,6 +8,8 @@ use Rattle.dis_records.specs.Texts.{state_text}
 use Rattle.siman_pdus.specs.declared.pdu.Pdu.{Pdu}
 use Rattle.exercise_recording.specs.declared.format_fault.FormatFault.{FormatFault}
 use Rattle.exercise_recording.specs.declared.format_fault.RecordingFault.TheVariants as recordings
+use Rattle.exercise_model.specs.declared.form.Form.{Form}
+use Rattle.exercise_model.specs.declared.form.Form.TheVariants.{First, Closed, Open}
 use Rattle.exercise_model.specs.Station.{StationData}
 use Rattle.exercise_model.specs.Entry.{Entry, Sent, Received, Told}
 use Rattle.exercise_model.specs.Recording.{PlainRecording}
@@ -15,16 +17,23 @@ use Rattle.exercise_model.specs.History.{station_at}
 use Rattle.exercise_model.specs.Meaning.{meaning}
 use Rattle.byte_files.specs.Writing.{WritesPart}
 use Rattle.siman_console.specs.declared.fault.Fault.{Fault}
-use Rattle.siman_console.specs.declared.fault.Fault.TheVariants.{NotBytePairs, HexLine, Input, File, Words, Recording, Certificate, Script, ScriptRead, World, LineFailed, Output, Memory}
+use Rattle.siman_console.specs.declared.fault.Fault.TheVariants.{NotBytePairs, HexLine, Input, File, Words, Recording, Already, Certificate, Script, ScriptRead, World, LineFailed, Output, Memory}
 use Rattle.siman_console.specs.Ending.{EndsWith}
 use Rattle.siman_console.specs.Head.{head_text}
 use Rattle.siman_console.specs.Records.{line_end}
 use Rattle.siman_console.specs.Report.{texts_below}
 
--- exercise=X stations=N records=N
+-- what is said of the form: nothing of the first, and of the second format whether it is closed or open
+abbrev pub form_note : Form → List ℕ
+form_note First = []
+form_note Closed = codes " form=closed"
+form_note Open = codes " form=open"
+
+-- exercise=X stations=N records=N, and behind it what is said of the form
 abbrev pub counts_line : PlainRecording → List ℕ
 counts_line r =
-    codes "exercise=" ++ decimal r.setting.exercise ++ codes " stations=" ++ decimal (length r.setting.stations) ++ codes " records=" ++ decimal (length r.entries) ++ line_end
+    codes "exercise=" ++ decimal r.setting.exercise ++ codes " stations=" ++ decimal (length r.setting.stations) ++ codes " records=" ++ decimal (length r.entries)
+    ++ form_note r.setting.form ++ line_end
 
 -- station INDEX ADDRESS
 abbrev pub station_line : ℕ → StationData → List ℕ
@@ -96,6 +105,7 @@ Shows recorded (Err Input) old new = ⊥
 Shows recorded (Err (File name)) old new = ⊥
 Shows recorded (Err Words) old new = ⊥
 Shows recorded (Err (Certificate fault)) old new = ⊥
+Shows recorded (Err Already) old new = ⊥
 Shows recorded (Err (Script fault)) old new = ⊥
 Shows recorded (Err ScriptRead) old new = ⊥
 Shows recorded (Err (World fault)) old new = ⊥

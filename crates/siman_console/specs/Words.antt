@@ -14,6 +14,7 @@ pub data Asked : Type 0 where
   Audit : (recording certificate : List ℕ) → Asked
   World : (script recording : List ℕ) → Asked
   Live : (script recording : List ℕ) → Asked
+  Convert : (old new : List ℕ) → Asked
 
 abbrev pub asked_by : Task → Asked
 asked_by tasks.Trial = Trial
@@ -24,6 +25,7 @@ asked_by (tasks.Check recording certificate) = Check recording.now certificate.n
 asked_by (tasks.Audit recording certificate) = Audit recording.now certificate.now
 asked_by (tasks.World script recording) = World script.now recording.now
 asked_by (tasks.Live script recording) = Live script.now recording.now
+asked_by (tasks.Convert old new) = Convert old.now new.now
 
 -- a word that begins with a hyphen, and has more, is an option
 abbrev pub is_option : List ℕ → Bool
@@ -58,6 +60,10 @@ abbrev pub live_asked : List (List ℕ) → Option Asked
 live_asked (script ∷ recording ∷ []) = if is_option script || is_option recording then None else Some (Live script recording)
 live_asked words = None
 
+abbrev pub convert_asked : List (List ℕ) → Option Asked
+convert_asked (old ∷ new ∷ []) = if is_option old || is_option new then None else Some (Convert old new)
+convert_asked words = None
+
 abbrev pub command_asked : List ℕ → List (List ℕ) → Option Asked
 command_asked command words =
     if bytes_eq command (codes "pdu") then pdu_asked words
@@ -67,6 +73,7 @@ command_asked command words =
     else if bytes_eq command (codes "audit") then audit_asked words
     else if bytes_eq command (codes "world") then world_asked words
     else if bytes_eq command (codes "live") then live_asked words
+    else if bytes_eq command (codes "convert") then convert_asked words
     else None
 
 -- THE TABLE OF COMMANDS: what words ask for, the program's name first; other words ask for help, or break the usage

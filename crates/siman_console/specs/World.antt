@@ -15,7 +15,7 @@ use Rattle.siman_worlds.specs.declared.world_fault.WorldFault.TheVariants as wor
 use Rattle.siman_worlds.specs.Script.{ScriptData}
 use Rattle.siman_worlds.specs.World.{WorldData, sent_in, world_recording, world_refusal}
 use Rattle.siman_console.specs.declared.fault.Fault.{Fault}
-use Rattle.siman_console.specs.declared.fault.Fault.TheVariants.{NotBytePairs, HexLine, Input, File, Words, Recording, Certificate, Script, ScriptRead, World, LineFailed, Output, Memory}
+use Rattle.siman_console.specs.declared.fault.Fault.TheVariants.{NotBytePairs, HexLine, Input, File, Words, Recording, Already, Certificate, Script, ScriptRead, World, LineFailed, Output, Memory}
 use Rattle.siman_console.specs.Ending.{EndsWith}
 use Rattle.siman_console.specs.Outcome.{Stream}
 use Rattle.siman_console.specs.Records.{line_end}
@@ -62,6 +62,7 @@ YieldsNone scripted (File name) = ⊥
 YieldsNone scripted Words = ⊥
 YieldsNone scripted (Recording fault) = ⊥
 YieldsNone scripted (Certificate fault) = ⊥
+YieldsNone scripted Already = ⊥
 YieldsNone scripted LineFailed = ⊥
 YieldsNone scripted Output = ⊥
 YieldsNone scripted Memory = ⊤
@@ -103,6 +104,7 @@ PutsWorld r (Err (File name)) file out = ⊥
 PutsWorld r (Err Words) file out = ⊥
 PutsWorld r (Err (Recording fault)) file out = ⊥
 PutsWorld r (Err (Certificate fault)) file out = ⊥
+PutsWorld r (Err Already) file out = ⊥
 PutsWorld r (Err (Script fault)) file out = ⊥
 PutsWorld r (Err ScriptRead) file out = ⊥
 PutsWorld r (Err (World fault)) file out = ⊥

@@ -3,14 +3,14 @@
 ghost use Rattle.std.specs.Prelude.{◌≡◌, Some};
 ghost use Rattle.byte_files.specs.Writing.{Writes};
 ghost use Rattle.siman_console.specs.declared.fault.Fault.TheVariants.{Memory};
-ghost use Rattle.siman_console.specs.Ending.{subject_of, name_of, move_fault_name, place_of, place_text, fault_text, fault_line, fault_status, of_recording, of_files, of_script, of_world, of_trial, Ends};
+ghost use Rattle.siman_console.specs.Ending.{subject_of, name_of, move_fault_name, place_of, place_text, fault_text, fault_line, fault_status, of_recording, of_convert, of_files, of_script, of_world, of_trial, Ends};
 
 use crate::files_fault::FilesFault;
 use crate::place::Place;
 use crate::trial_fault::TrialFault;
 use byte_files::{WriteFailed, put, put_both};
 use exercise_check::CertificateFault;
-use exercise_recording::RecordingFault;
+use exercise_recording::{ConvertFault, RecordingFault};
 use itoa::Buffer;
 use siman_manager::OrderFault;
 use siman_worlds::{MoveFault, ScriptFault, WorldFault};
@@ -33,6 +33,8 @@ pub enum Fault<'a> {
     Words,
     /// The recording could not be read; never for want of memory.
     Recording(RecordingFault),
+    /// The recording that was to be carried over to the second format is one of it.
+    Already,
     /// The certificate could not be read; never for want of memory.
     Certificate(CertificateFault),
     /// The text is no script; never for want of memory.
@@ -58,7 +60,7 @@ impl<'a> Fault<'a> {
             Fault::NotBytePairs | Fault::HexLine(_) => "hex: ",
             Fault::Input | Fault::File(_) => "file: ",
             Fault::Words => "words: ",
-            Fault::Recording(_) => "recording: ",
+            Fault::Recording(_) | Fault::Already => "recording: ",
             Fault::Certificate(_) => "certificate: ",
             Fault::Script(_) | Fault::ScriptRead => "script: ",
             Fault::World(_) => "world: ",
@@ -82,6 +84,7 @@ impl<'a> Fault<'a> {
             Fault::Recording(RecordingFault::Read)
             | Fault::Certificate(CertificateFault::Read)
             | Fault::ScriptRead => "read",
+            Fault::Already => "already",
             Fault::Script(ScriptFault::BadLine(_)) => "bad-line",
             Fault::Script(ScriptFault::UnknownStation(_)) => "unknown-station",
             Fault::World(WorldFault::Stations) => "stations",
@@ -126,6 +129,7 @@ impl<'a> Fault<'a> {
             | Fault::File(_)
             | Fault::Words
             | Fault::Recording(_)
+            | Fault::Already
             | Fault::Certificate(_)
             | Fault::Script(_)
             | Fault::ScriptRead
@@ -183,6 +187,19 @@ impl From<RecordingFault> for Fault<'_> {
         match fault {
             RecordingFault::Memory => Fault::Memory,
             RecordingFault::Format(_) | RecordingFault::Read => Fault::Recording(fault),
+        }
+    }
+}
+
+impl From<ConvertFault> for Fault<'_> {
+    ghost from_gives = { λ fault e. e ≡ of_convert fault };
+
+    fn from(fault: ConvertFault) -> Self {
+        match fault {
+            ConvertFault::Recording(fault) => Fault::from(fault),
+            ConvertFault::Already => Fault::Already,
+            ConvertFault::Write => Fault::Output,
+            ConvertFault::Memory => Fault::Memory,
         }
     }
 }

@@ -5,6 +5,7 @@
 //! [`read_words`] and [`usage_command`] for the words of a command line, [`pdu_command`] and
 //! [`pdus_command`] for datagrams in hex text, [`show_command`] for recordings, [`check_command`]
 //! for a recording and its certificate, [`audit_command`] for the search of a recording,
+//! [`convert_command`] for a recording of the first format that is carried over to the second,
 //! [`world_command`] for a script and the recording of its world, [`live_command`] for a script whose
 //! stations stand at lines, [`trial`] for a script and the
 //! report of its world. Their contracts give the status and the bytes on the writer of the answer;
@@ -13,6 +14,7 @@
 
 mod answer;
 mod check;
+mod convert;
 mod datagram;
 mod entry_lines;
 mod fault;
@@ -38,6 +40,7 @@ mod world;
 
 pub use answer::answers_follow_the_grammar;
 pub use check::{LARGEST_CERTIFICATE, check_command, check_files};
+pub use convert::{LARGEST_OLD_RECORDING, convert_command};
 pub use datagram::pdu_command;
 pub use fault::Ended;
 pub use files_fault::FilesFault;

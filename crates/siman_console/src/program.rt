@@ -1,14 +1,15 @@
 //! The whole way from the words of a command line to the status.
 
-ghost use Rattle.std.specs.Prelude.{ℕ, List, Option, length};
+ghost use Rattle.std.specs.Prelude.{ℕ, List, Option, length, string_bytes};
 ghost use Rattle.std.specs.IoError.{error_kind};
 ghost use Rattle.std.specs.List.{All};
 ghost use Rattle.siman_console.specs.Outside.{Deed, Found, Adds, WasHeld};
 ghost use Rattle.siman_console.specs.Outcome.{Stream, Outcome};
-ghost use Rattle.siman_console.specs.Program.{IsUnopened, IsUnmade, ShowsFile, ChecksFiles, MakesFile, RunsFile, IsUnlined, MakesMoves, LivesBegun, LivesFile, MakesBoth, MakesFinding, AuditsFile, EndsTask, EndsProgram, words_by};
+ghost use Rattle.siman_console.specs.Program.{IsUnopened, IsUnmade, ShowsFile, ChecksFiles, MakesFile, RunsFile, IsUnlined, MakesMoves, LivesBegun, LivesFile, MakesBoth, MakesFinding, AuditsFile, ConvertsFile, EndsTask, EndsProgram, words_by};
 ghost use Rattle.siman_console.specs.Words.{asked_by};
 
 use crate::check::check_recording;
+use crate::convert::{Carried, carry, put_carried};
 use crate::datagram::tell_word;
 use crate::fault::{Ended, Fault, end};
 use crate::lines::end_lines;
@@ -187,6 +188,47 @@ fn audit_named<'a, O: Outside, W: Write>(
     }
 }
 
+/// Makes the file of a recording in the second format, writes it whole, and then its line.
+fn make_converted<O: Outside, W: Write>(
+    carried: &Carried,
+    name: &str,
+    outside: &mut O,
+    out: &mut W,
+) -> Result<u8, Fault<'static>>
+    ensures { let out : Stream = record { old = W.contents out.old; new = W.contents out.new } in
+        (deeds : List Deed) × Adds (O.deeds outside.old) (O.deeds outside.new) deeds × ((holds : List ℕ → Option Found) → All (WasHeld holds) deeds) × MakesBoth name.now carried.now.conversion.text (string_bytes carried.now.line) deeds result out }
+{
+    match outside.make(name) {
+        Ok(file) => {
+            let mut file = file;
+            let answered = put_carried(carried, &mut file, out);
+            outside.close(file);
+            answered
+        }
+        Err(error) => Err(unmade(&error)),
+    }
+}
+
+/// Opens a recording and reads it whole; then makes the file of its conversion, if it has one.
+fn convert_named<'a, O: Outside, W: Write>(
+    alloc: Global,
+    names: (&'a str, &'a str),
+    outside: &mut O,
+    out: &mut W,
+) -> Result<u8, Fault<'a>>
+    ensures { let out : Stream = record { old = W.contents out.old; new = W.contents out.new } in
+        (deeds : List Deed) × Adds (O.deeds outside.old) (O.deeds outside.new) deeds × All (WasHeld (O.holds outside.old)) deeds × ConvertsFile names.entry.0.now names.entry.1.now deeds result out }
+{
+    let (old, new) = names;
+    match outside.open(old) {
+        Ok(file) => match carry(alloc, file) {
+            Ok(carried) => make_converted(&carried, new, outside, out),
+            Err(fault) => Err(fault),
+        },
+        Err(error) => Err(unopened(old, &error)),
+    }
+}
+
 /// How it is told that the lines of the stations could not be had.
 fn unlined(error: &io::Error) -> Fault<'static>
     ensures { IsUnlined result }
@@ -301,6 +343,10 @@ fn end_task<'a, O: Outside, R: Read + Drop, W: Write, E: Write>(
         Task::Live(script, recording) => {
             let names = (script, recording);
             end(live_named(alloc, names, outside, out), errors)
+        }
+        Task::Convert(old, new) => {
+            let names = (old, new);
+            end(convert_named(alloc, names, outside, out), errors)
         }
     }
 }

@@ -6,7 +6,7 @@ ghost use Rattle.std.specs.IoError.{error_kind};
 ghost use Rattle.clap.specs.Values.{kind_of};
 ghost use Rattle.siman_console.specs.Ending.{Wrote};
 ghost use Rattle.siman_console.specs.Outcome.{Outcome, EndsUsage, IsUnread};
-ghost use Rattle.siman_console.specs.Words.{asked_by, is_option, pdu_asked, pdus_asked, show_asked, check_asked, audit_asked, world_asked, live_asked, command_asked, asked};
+ghost use Rattle.siman_console.specs.Words.{asked_by, is_option, pdu_asked, pdus_asked, show_asked, check_asked, audit_asked, world_asked, live_asked, convert_asked, command_asked, asked};
 
 use crate::fault::{Ended, Fault, end};
 use byte_files::put_shown;
@@ -39,6 +39,9 @@ pub enum Task<'a> {
     /// `live SCRIPT REC`: make the moves of the script of the first file over sockets, and make the
     /// second of their recording.
     Live(&'a str, &'a str),
+    /// `convert OLD NEW`: carry the recording of the first file over to the second format, and make
+    /// the second of it.
+    Convert(&'a str, &'a str),
 }
 
 /// The version of the program.
@@ -59,7 +62,8 @@ Examples:
   siman check exercise.dsrc exercise.dsct
   siman audit exercise.dsrc exercise.dsct
   siman world exercise.script exercise.dsrc
-  siman live exercise.script exercise.dsrc";
+  siman live exercise.script exercise.dsrc
+  siman convert old.dsrc new.dsrc";
 
 fn pdu<'a>(alloc: Global) -> Result<Command<'a>, Error> {
     let hex = Arg::new(alloc, "HEX")
@@ -173,6 +177,24 @@ fn live<'a>(alloc: Global) -> Result<Command<'a>, Error> {
     )
 }
 
+fn convert<'a>(alloc: Global) -> Result<Command<'a>, Error> {
+    let old = Arg::new(alloc, "OLD")
+        .required(true)
+        .action(ArgAction::Set)
+        .help("The file of the recording, of the first format");
+    let new = Arg::new(alloc, "NEW")
+        .required(true)
+        .action(ArgAction::Set)
+        .help("The file of the same recording in the second format, which is made anew");
+    Ok(
+        Command::new(alloc, "convert")
+            .about("Carries a recording of the first format over to the second, closed")
+            .after_help("Example:\n  siman convert old.dsrc new.dsrc")
+            .arg(old)?
+            .arg(new)?,
+    )
+}
+
 fn siman<'a>(alloc: Global) -> Result<Command<'a>, Error> {
     Ok(
         Command::new(alloc, "siman")
@@ -187,7 +209,8 @@ fn siman<'a>(alloc: Global) -> Result<Command<'a>, Error> {
             .subcommand(check(alloc)?)?
             .subcommand(audit(alloc)?)?
             .subcommand(world(alloc)?)?
-            .subcommand(live(alloc)?)?,
+            .subcommand(live(alloc)?)?
+            .subcommand(convert(alloc)?)?,
     )
 }
 
@@ -272,6 +295,17 @@ fn live_task<S: AsStr>(words: &[S]) -> Option<Task<'_>>
     }
 }
 
+fn convert_task<S: AsStr>(words: &[S]) -> Option<Task<'_>>
+    ensures { option_map asked_by result ≡ convert_asked (map S.text words.now) }
+{
+    match words {
+        [old, new] if !is_option(old.as_str()) && !is_option(new.as_str()) => {
+            Some(Task::Convert(old.as_str(), new.as_str()))
+        }
+        _ => None,
+    }
+}
+
 /// The task that the words of a command ask for.
 fn command_task<'a, S: AsStr>(command: &str, words: &'a [S]) -> Option<Task<'a>>
     ensures { option_map asked_by result ≡ command_asked command.now (map S.text words.now) }
@@ -284,6 +318,7 @@ fn command_task<'a, S: AsStr>(command: &str, words: &'a [S]) -> Option<Task<'a>>
         "audit" => audit_task(words),
         "world" => world_task(words),
         "live" => live_task(words),
+        "convert" => convert_task(words),
         _ => None,
     }
 }

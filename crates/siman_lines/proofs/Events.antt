@@ -13,7 +13,7 @@ use Rattle.siman_pdus.specs.Role.{is_request_body}
 use Rattle.siman_pdus.specs.Spelling.{HasCarriedStatus, carried, pdu_size, pdu_text}
 use Rattle.siman_pdus.proofs.Offered.{text_is_read, text_is_carried, zero_is_carried, read_in_range}
 use Rattle.exercise_model.specs.declared.cause.Cause.{Cause}
-use Rattle.exercise_model.specs.declared.cause.Cause.TheVariants.{WrongSender, Stranger, NeverSent}
+use Rattle.exercise_model.specs.declared.cause.Cause.TheVariants.{WrongSender}
 use Rattle.exercise_model.specs.Cause.{first_cause, send_rows, send_cause, sends, was_sent, get_cause, cause_of, IsAllowed}
 use Rattle.exercise_model.specs.Exchange.{is_answer_body}
 use Rattle.exercise_model.specs.History.{Event, Send, Get, Tell, History, station_of, past, log_at}
@@ -21,6 +21,7 @@ use Rattle.exercise_model.specs.Meaning.{meaning}
 use Rattle.exercise_model.specs.Run.{IsRun}
 use Rattle.exercise_model.specs.Setting.{SettingData, nowhere, station_in, is_from, is_recorded}
 use Rattle.exercise_model.specs.Station.{StationData}
+use Rattle.exercise_model.proofs.Offered.{get_where_sent}
 use Rattle.exercise_recording.specs.Writer.{WriterState}
 use Rattle.siman_application.specs.Answer.{answer}
 use Rattle.siman_application.specs.Outfit.{Outfit}
@@ -214,16 +215,6 @@ was_recorded : (w : SettingData) (b : List ℕ) (p : Pdu) (h : History) → AllS
 unfolding was_sent
 was_recorded w b p h all within e sent = sent_recorded w b p h all within e sent
 
-two_rows : (recorded sent : Bool) → recorded ≡ true → sent ≡ true
-    → first_cause ((not recorded, Stranger) ∷ (recorded && not sent, NeverSent) ∷ []) ≡ None
-two_rows true true p q = refl
-two_rows true false p q = absurd cc
-two_rows false sent p q = absurd cc
-
-get_none : (w : SettingData) (h : History) (b : List ℕ) (p : Pdu) → is_recorded w p ≡ true → was_sent b h ≡ true → get_cause w h b p ≡ None
-unfolding get_cause
-get_none w h b p recorded sent = two_rows (is_recorded w p) (was_sent b h) recorded sent
-
 none_of : {X : Type 0} (f : X → Option Cause) (o : Option X) → ((x : X) → o ≡ Some x → f x ≡ None) → option_and_then f o ≡ None
 none_of f None each = refl
 none_of f (Some x) each = each x refl
@@ -235,7 +226,7 @@ event_allowed w (Send s b) h all within received =
     none_of (send_cause w.exercise (station_in w s) (log_at s h)) (meaning w.exercise b) (first_stands w s b h all within.0)
 event_allowed w (Get s b) h all within received =
     none_of (get_cause w h b) (meaning w.exercise b)
-    (λ p e. get_none w h b p (was_recorded w b p h (all_tail w (Get s b) h all) within.1 e (received.0 p e)) (received.0 p e))
+    (λ p e. get_where_sent w h b p (was_recorded w b p h (all_tail w (Get s b) h all) within.1 e (received.0 p e)) (received.0 p e))
 event_allowed w (Tell s e y) h all within received = received.0
 
 received_tail : (w : SettingData) (v : Event) (h : History) → ReceivesSent w (v ∷ h) → ReceivesSent w h

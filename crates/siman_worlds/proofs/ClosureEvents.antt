@@ -13,7 +13,7 @@ use Rattle.siman_pdus.specs.declared.pdu.Pdu.{Pdu}
 use Rattle.siman_pdus.specs.Answers.{is_answer_to}
 use Rattle.siman_pdus.specs.Role.{is_request_body}
 use Rattle.siman_pdus.specs.Spelling.{pdu_text}
-use Rattle.exercise_model.specs.declared.cause.Cause.TheVariants.{WrongSender, ReusedIdentifier, NoRequest, WrongAnswer, ChangedAnswer, Impossible, Stranger, NeverSent}
+use Rattle.exercise_model.specs.declared.cause.Cause.TheVariants.{WrongSender, ReusedIdentifier, NoRequest, WrongAnswer, ChangedAnswer, Impossible}
 use Rattle.exercise_model.specs.Entry.{Entry, Sent, Received, Told}
 use Rattle.exercise_model.specs.Station.{StationData}
 use Rattle.exercise_model.specs.Setting.{station_in, is_from, is_recorded}
@@ -22,6 +22,7 @@ use Rattle.exercise_model.specs.Exchange.{is_answer_body, request_taken_up}
 use Rattle.exercise_model.specs.State.{state_after}
 use Rattle.exercise_model.specs.Cause.{first_cause, is_reused, is_changed_answer, is_impossible, send_cause, sends, was_sent, get_cause, tell_rows, cause_of, IsAllowed}
 use Rattle.exercise_model.specs.History.{Send, Get, Tell, History, past, log_at}
+use Rattle.exercise_model.proofs.Offered.{get_where_sent}
 use Rattle.siman_application.specs.OwnLog.{AnswersStand}
 use Rattle.siman_application.proofs.Offered.{read_meant}
 use Rattle.siman_manager.specs.Calls.{Call}
@@ -131,22 +132,11 @@ pub was_sent_before : (c : Course) (k : ℕ) (b : List ℕ) → datagram c k ≡
 unfolding was_sent
 was_sent_before c k b e = sent_before c.entries k b e
 
-two_rows : (recorded sent : Bool) → recorded ≡ true → sent ≡ true
-    → first_cause ((not recorded, Stranger) ∷ (recorded && not sent, NeverSent) ∷ []) ≡ None
-two_rows true true p q = refl
-two_rows true false p q = absurd cc
-two_rows false sent p q = absurd cc
-
-get_by : (w : WorldData) (h : History) (b : List ℕ) (p : Pdu) → is_recorded (setting_of w) p ≡ true → was_sent b h ≡ true
-    → get_cause (setting_of w) h b p ≡ None
-unfolding get_cause
-get_by w h b p recorded sent = two_rows (is_recorded (setting_of w) p) (was_sent b h) recorded sent
-
 get_meant : (w : WorldData) (h : History) (b : List ℕ) (is : IsSent w b) → was_sent b h ≡ true → (o : Option Pdu) → meaning w.exercise b ≡ o
     → option_and_then (get_cause (setting_of w) h b) o ≡ None
 get_meant w h b is sent None e = refl
 get_meant w h b is sent (Some p) e =
-    get_by w h b p (subst (λ (r : Pdu). is_recorded (setting_of w) r ≡ true) (read_meant w.exercise b is.pdu p (sent_read w b is) e)
+    get_where_sent (setting_of w) h b p (subst (λ (r : Pdu). is_recorded (setting_of w) r ≡ true) (read_meant w.exercise b is.pdu p (sent_read w b is) e)
     (sent_recorded w b is)) sent
 
 pub get_allowed : (w : WorldData) (h : History) (s : ℕ) (b : List ℕ) → IsSent w b → was_sent b h ≡ true → IsAllowed (setting_of w) h (Get s b)

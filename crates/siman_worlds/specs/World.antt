@@ -12,6 +12,7 @@ use Rattle.exercise_model.specs.Entry.{Entry, Sent, Received, Told}
 use Rattle.exercise_model.specs.History.{log_at, past}
 use Rattle.exercise_model.specs.Place.{first_below}
 use Rattle.exercise_model.specs.Recording.{PlainRecording}
+use Rattle.exercise_model.specs.declared.form.Form.TheVariants.{First}
 use Rattle.exercise_model.specs.Setting.{SettingData, nowhere}
 use Rattle.exercise_model.specs.Station.{is_entity, are_stations}
 use Rattle.exercise_model.specs.State.{state_after}
@@ -36,9 +37,9 @@ pub record WorldData : Type 0 where
   pub exercise : ℕ
   pub stations : List WorldStationData
 
--- its setting, as a recording has it
+-- its setting, as a recording of the first form has it
 abbrev pub setting_of : WorldData → SettingData
-setting_of w = record { exercise = w.exercise; stations = map (λ s. s.station) w.stations }
+setting_of w = record { form = First; exercise = w.exercise; stations = map (λ s. s.station) w.stations }
 
 -- no station at all
 abbrev pub no_station : WorldStationData

@@ -2,6 +2,7 @@
 
 ghost use Rattle.std.specs.Prelude.{◌≡◌, ◌⊎◌, [], map, reverse, true, false, Some, None, OnOk, IfOk, IfErr};
 ghost use Rattle.std.specs.List.{list_all};
+ghost use Rattle.exercise_model.specs.declared.form.Form.TheVariants.{First};
 ghost use Rattle.exercise_model.specs.History.{past};
 ghost use Rattle.exercise_model.specs.Recording.{opened};
 ghost use Rattle.exercise_model.specs.Run.{IsRun};
@@ -100,13 +101,13 @@ fn nodes_of(alloc: Global, exercise: u8, stations: &[WorldStation]) -> Result<Ve
     Ok(nodes)
 }
 
-/// A recording of the stations with no entries.
+/// A recording of the first form, of the stations, with no entries.
 fn recording_of(
     alloc: Global,
     exercise: u8,
     stations: Vec<WorldStation>,
 ) -> Result<Recording, WorldFault>
-    ensures opened { IfOk result (λ r. r ≡ opened (record { exercise = exercise; stations = map (λ s. s.station) stations.items })) }
+    ensures opened { IfOk result (λ r. r ≡ opened (record { form = First; exercise = exercise; stations = map (λ s. s.station) stations.items })) }
     ensures stations { OnOk result (are_stations (map (λ s. s.station) stations.items) ≡ true) }
     ensures fault { IfErr result (λ fault. (fault ≡ WorldFault.Memory) ⊎ ((fault ≡ WorldFault.Stations) × (are_stations (map (λ s. s.station) stations.items) ≡ false))) }
 {
@@ -138,7 +139,7 @@ pub fn begin_world(
     exercise: u8,
     stations: Vec<WorldStation>,
 ) -> Result<Beginning, WorldFault>
-    ensures recording { IfOk result (λ b. b.recording ≡ opened (record { exercise = exercise; stations = map (λ s. s.station) stations.items })) }
+    ensures recording { IfOk result (λ b. b.recording ≡ opened (record { form = First; exercise = exercise; stations = map (λ s. s.station) stations.items })) }
     ensures nodes { IfOk result (λ b. AreNewNodes exercise stations.items b.nodes.items) }
     ensures stations { OnOk result (are_world_stations stations.items ≡ true) }
     ensures fault { IfErr result (λ fault. (fault ≡ WorldFault.Memory) ⊎ ((fault ≡ WorldFault.Stations) × (are_world_stations stations.items ≡ false))) }
@@ -209,7 +210,7 @@ pub fn run_world(
     stations: Vec<WorldStation>,
     moves: Vec<Move>,
 ) -> Result<Recording, WorldFault>
-    ensures setting { IfOk result (λ r. r.setting ≡ record { exercise = exercise; stations = map (λ s. s.station) stations.items }) }
+    ensures setting { IfOk result (λ r. r.setting ≡ record { form = First; exercise = exercise; stations = map (λ s. s.station) stations.items }) }
     ensures entries { let w : WorldData = record { exercise = exercise; stations = stations.items } in
         IfOk result (λ r. r ≡ world_recording w moves.items) }
     ensures sound { let w : WorldData = record { exercise = exercise; stations = stations.items } in

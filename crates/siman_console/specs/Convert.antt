@@ -1,0 +1,48 @@
+-- What `convert` does with a recording, and how it ends.
+use Rattle.std.specs.Prelude.{◌≡◌, ◌⊎◌, ℕ, List, ◌++◌, length, codes, decimal, Result, Ok, Err, string_bytes}
+use Rattle.std.specs.Io.KnownBytes.{Keeps}
+use Rattle.exercise_model.specs.Recording.{PlainRecording}
+use Rattle.exercise_model.specs.Conversion.{converted}
+use Rattle.exercise_recording.specs.Text.{recording_text}
+use Rattle.exercise_recording.specs.Conversion.{IsOld, IsAlready}
+use Rattle.siman_console.specs.declared.convert.Carried.{Carried}
+use Rattle.siman_console.specs.declared.fault.Fault.{Fault}
+use Rattle.siman_console.specs.declared.fault.Fault.TheVariants.{Already}
+use Rattle.siman_console.specs.Check.{Recorded}
+use Rattle.siman_console.specs.Ending.{EndsWith}
+use Rattle.siman_console.specs.Outcome.{Stream}
+use Rattle.siman_console.specs.Records.{line_end}
+use Rattle.siman_console.specs.Search.{IsUnsearched, PutsBoth}
+
+-- converted records=N
+abbrev pub converted_line : (entries : ℕ) → List ℕ
+converted_line entries = codes "converted records=" ++ decimal entries ++ line_end
+
+-- NOTHING IS CARRIED OVER: the file has a bad field, a read failed, memory ran out, or it is a recording of the second format already
+abbrev pub IsUncarried : Recorded → Fault → Type 0
+IsUncarried recorded fault = IsUnsearched recorded fault ⊎ (IsAlready recorded × (fault ≡ Already))
+
+-- the texts of a recording that is carried over: that of its conversion, and its line
+pub record CarriesTexts (r : PlainRecording) (text line : List ℕ) : Type 0 where
+  pub text_is : text ≡ recording_text (converted r)
+  pub line_is : line ≡ converted_line (length r.entries)
+
+-- what is carried over, with its texts
+abbrev pub Carries : Recorded → Result Carried Fault → Type 0
+Carries recorded (Ok carried) = (r : PlainRecording) × IsOld recorded r × CarriesTexts r carried.conversion.text (string_bytes carried.line)
+Carries recorded (Err fault) = IsUncarried recorded fault
+
+-- WHAT IS WRITTEN OF A RECORDING of the first format: the text of its conversion to the file, whole, and then its line, with status 0
+abbrev pub PutsConverted : PlainRecording → Result ℕ Fault → (file out : Stream) → Type 0
+PutsConverted r answered file out = PutsBoth (recording_text (converted r)) (converted_line (length r.entries)) answered file out
+
+-- What `convert` tells: nothing is carried over, and nothing is written; or the recording is one of the first format, and its conversion and its line are written.
+abbrev pub TellsConvert : Recorded → (answered : Result ℕ Fault) → (file out : Stream) → Type 0
+TellsConvert recorded answered file out =
+    ((fault : Fault) × IsUncarried recorded fault × (answered ≡ Err fault) × Keeps file.old file.new × Keeps out.old out.new)
+    ⊎ ((r : PlainRecording) × IsOld recorded r × PutsConverted r answered file out)
+
+-- HOW `convert` ENDS: what it made of the recording is in the file and out, and it ends as that asks for
+abbrev pub EndsConvert : Recorded → (status : ℕ) → (file out errors : Stream) → Type 0
+EndsConvert recorded status file out errors =
+    (answered : Result ℕ Fault) × TellsConvert recorded answered file out × EndsWith answered status errors.old errors.new

@@ -1,5 +1,6 @@
-use Rattle.std.proofs.Common.{◌≡◌, ◌+◌, ℕ, List, Option, None, cond, sym, ap, ◌∙◌, subst, arith}
+use Rattle.std.proofs.Common.{◌≡◌, ◌+◌, ℕ, List, Option, Some, None, cond, sym, ap, ◌∙◌, subst, arith}
 use Rattle.exercise_model.specs.declared.cause.Cause.{Cause}
+use Rattle.exercise_model.specs.Held.{shown}
 use Rattle.exercise_model.specs.Account.{pair_of}
 use Rattle.exercise_check.specs.Column.{IsColumn}
 use Rattle.exercise_check.specs.Number.{entry_of, link_number, IsNumberOf}
@@ -7,6 +8,9 @@ use Rattle.exercise_check.specs.Tables.{IsOwnCause, other_at}
 use Rattle.exercise_check.proofs.Columns.{column_more, on_ok}
 use Rattle.exercise_check.proofs.Looks.{pair_number, at_most_one, others_next}
 use Rattle.exercise_check.proofs.findings.find_entry.Goals as goal
+
+pub find_told-requires-clause-told : goal.find_told-requires-clause-told
+find_told-requires-clause-told g c = c.entry.ensures.entry ∙ ap (λ v. Some (shown v)) c.in-Told.is
 
 pub returns : goal.returns
 returns g c =

@@ -8,6 +8,8 @@ use Rattle.dis_records.specs.Texts.{state_text}
 use Rattle.siman_pdus.specs.declared.pdu.Pdu.{Pdu}
 use Rattle.exercise_recording.specs.declared.format_fault.FormatFault.{FormatFault}
 use Rattle.exercise_recording.specs.declared.format_fault.RecordingFault.TheVariants as recordings
+use Rattle.exercise_model.specs.declared.form.Form.{Form}
+use Rattle.exercise_model.specs.declared.form.Form.TheVariants.{First, Closed, Open}
 use Rattle.exercise_model.specs.Station.{StationData}
 use Rattle.exercise_model.specs.Entry.{Entry, Sent, Received, Told}
 use Rattle.exercise_model.specs.Recording.{PlainRecording}
@@ -21,10 +23,17 @@ use Rattle.siman_console.specs.Head.{head_text}
 use Rattle.siman_console.specs.Records.{line_end}
 use Rattle.siman_console.specs.Report.{texts_below}
 
--- exercise=X stations=N records=N
+-- what is said of the form: nothing of the first, and of the second format whether it is closed or open
+abbrev pub form_note : Form → List ℕ
+form_note First = []
+form_note Closed = codes " form=closed"
+form_note Open = codes " form=open"
+
+-- exercise=X stations=N records=N, and behind it what is said of the form
 abbrev pub counts_line : PlainRecording → List ℕ
 counts_line r =
-    codes "exercise=" ++ decimal r.setting.exercise ++ codes " stations=" ++ decimal (length r.setting.stations) ++ codes " records=" ++ decimal (length r.entries) ++ line_end
+    codes "exercise=" ++ decimal r.setting.exercise ++ codes " stations=" ++ decimal (length r.setting.stations) ++ codes " records=" ++ decimal (length r.entries)
+    ++ form_note r.setting.form ++ line_end
 
 -- station INDEX ADDRESS
 abbrev pub station_line : ℕ → StationData → List ℕ

@@ -15,6 +15,8 @@ JOINED_REPORT = (
     b"yes records=7 others=0\nanswer 1 request 0\nanswer 4 request 0\nknown 6 change 1\nentity 2:3:7 stopped\n"
 )
 JOINED_NO = b"no step=3 cause=13 wrong-state\n"
+# What check says of open.dsrc with open.dsct.
+OPEN_REPORT = b"yes records=3 others=0\nanswer 1 request 0\nentity 2:3:7 stopped\n"
 WORKED_SCRIPT = "examples/lost_copied_swapped.script"
 WORKED_LINE = b"world records=16 sent=8\n"
 WORKED_ANSWER = (
@@ -26,6 +28,7 @@ FORMATS_RECORDING = bytes.fromhex(
     "4453524330303031 01 0001 0002 0003 0001 0007 01 02 0000 0000000000000005 0002 ABCD"
     "01 0000 0000000000000100 0001 EF 03 0000 0007 02 00 00000003"
 )
+FORMATS_CLOSED = bytes.fromhex("4453524330303032 01 00 0001 0002 0003 0001 0007 01 00 00000000")
 FORMATS_SHOWN = (
     b"exercise=1 stations=1 records=3\nstation 0 2:3\nopening 0 7 stopped\n0 received 0 stamp=5 other bytes=2\n"
     b"1 sent 0 stamp=256 other bytes=1\n2 told 0 7 running\n"

@@ -3,12 +3,14 @@ import struct
 
 import pages
 from cases import texts
-from cases.examples import EMPTY_CERTIFICATE, FORMATS_CERTIFICATE, FORMATS_RECORDING, FORMATS_SHOWN, TEXTS_REPORT
+from cases.examples import (
+    EMPTY_CERTIFICATE, FORMATS_CERTIFICATE, FORMATS_CLOSED, FORMATS_RECORDING, FORMATS_SHOWN, TEXTS_REPORT,
+)  # fmt: skip
 from pages import Outcome
 
 # What to put at an offset of the example of FORMATS.md, and the fault that it makes.
 BAD_FIELDS = [
-    (0, b"DSRC0002", "magic at 0"), (0, b"DSCT0001", "magic at 0"), (0, b"dsrc0001", "magic at 0"),
+    (0, b"DSRC0003", "magic at 0"), (0, b"DSCT0001", "magic at 0"), (0, b"dsrc0001", "magic at 0"),
     (9, b"\0\0", "stations at 9"), (9, b"\1\1", "stations at 9"), (9, b"\xff\xff", "stations at 9"),
     (11, b"\0\0", "stations at 11"), (11, b"\xff\xff", "stations at 11"), (13, b"\0\0", "stations at 13"),
     (13, b"\xff\xff", "stations at 13"), (17, b"\0\0", "opening at 17"), (17, b"\xff\xfe", "opening at 17"),
@@ -20,6 +22,14 @@ BAD_FIELDS = [
     (55, b"\4", "record-kind at 55"), (56, b"\0\0\0\2", "count at 56"), (56, b"\0\0\0\4", "count at 56"),
     (56, b"\xff\0\0\3", "count at 56"), (20, b"\0", "trailing at 25"), (20, b"\0\0\0\0\1", "count at 21"),
     (31, b"\x20\0", "truncated at 60"),
+]  # fmt: skip
+
+# The same of the example of the second format.
+BAD_FIELDS_OF_CLOSED = [
+    (0, b"DSRC0000", "magic at 0"), (0, b"DSRC0003", "magic at 0"), (9, b"\2", "flag at 9"), (9, b"\xff", "flag at 9"),
+    (9, b"\2\0\0", "flag at 9"), (10, b"\0\0", "stations at 10"), (10, b"\1\1", "stations at 10"),
+    (12, b"\0\0", "stations at 12"), (14, b"\xff\xff", "stations at 14"), (18, b"\0\0", "opening at 18"),
+    (20, b"\0", "opening at 20"), (21, b"\4", "record-kind at 21"), (22, b"\0\0\0\1", "count at 22"),
 ]  # fmt: skip
 
 
@@ -44,7 +54,9 @@ def try_examples(trials, examples):
     try_cuts(trials, read[good], read[certificate])
     try_cuts(trials, read[wrong], FORMATS_CERTIFICATE)
     try_cuts(trials, FORMATS_RECORDING, EMPTY_CERTIFICATE)
+    try_cuts(trials, FORMATS_CLOSED, EMPTY_CERTIFICATE)
     try_changes(trials, read[good], read[certificate])
+    try_changes(trials, FORMATS_CLOSED, EMPTY_CERTIFICATE)
 
 
 def try_cuts(trials, recording, certificate):
@@ -78,10 +90,12 @@ def try_changes(trials, recording, certificate):
 
 
 def try_fields(trials):
-    """Each field of the two formats bad once and more."""
+    """Each field of the formats bad once and more."""
     steps = trials.file(FORMATS_CERTIFICATE)
-    for offset, new, line in BAD_FIELDS:
-        text = FORMATS_RECORDING[:offset] + new + FORMATS_RECORDING[offset + len(new) :]
+    edits = [(FORMATS_RECORDING, *edit) for edit in BAD_FIELDS]
+    edits += [(FORMATS_CLOSED, *edit) for edit in BAD_FIELDS_OF_CLOSED]
+    for good, offset, new, line in edits:
+        text = good[:offset] + new + good[offset + len(new) :]
         name = trials.file(text)
         trials.state(f"the fault {line}", pages.fault(f"recording: {line}"), pages.answer_to_show(text))
         trials.expect(["show", name], pages.fault(f"recording: {line}"))

@@ -3,7 +3,7 @@ import random
 
 import pages
 from cases import texts
-from cases.examples import JOINED_NO, JOINED_REPORT
+from cases.examples import JOINED_NO, JOINED_REPORT, OPEN_REPORT
 from cases.scenes import scenes
 from cases.wandering import wandering
 from pages import Outcome
@@ -25,14 +25,15 @@ def try_scenes(trials):
     trials.state("the causes of the scenes", set(pages.CAUSES), causes)
 
 
-def try_joined_logs(trials):
-    """The examples whose certificate takes the entries in another order than the file."""
-    certificate = "examples/logs_joined.dsct"
-    steps = (trials.folder / certificate).read_bytes()
-    for name, stated in [
-        ("examples/logs_joined.dsrc", Outcome(0, JOINED_REPORT, b"")),
-        ("examples/logs_joined_wrong_state.dsrc", Outcome(1, JOINED_NO, b"")),
+def try_examples(trials):
+    """The examples whose certificate takes the entries in another order than the file, and the open one."""
+    joined = "examples/logs_joined.dsct"
+    for name, certificate, stated in [
+        ("examples/logs_joined.dsrc", joined, Outcome(0, JOINED_REPORT, b"")),
+        ("examples/logs_joined_wrong_state.dsrc", joined, Outcome(1, JOINED_NO, b"")),
+        ("examples/open.dsrc", "examples/open.dsct", Outcome(0, OPEN_REPORT, b"")),
     ]:
+        steps = (trials.folder / certificate).read_bytes()
         recording = (trials.folder / name).read_bytes()
         trials.state(f"the verdict on {name}", stated, pages.answer_to_check(recording, steps))
         trials.expect(["check", name, certificate], stated)
@@ -48,5 +49,5 @@ def try_wandering(trials):
 
 def try_all(trials, _):
     try_scenes(trials)
-    try_joined_logs(trials)
+    try_examples(trials)
     try_wandering(trials)

@@ -5,8 +5,8 @@ from collections import namedtuple
 
 from cases.texts import DIRECTOR, SEVEN, pdu, received, sent, told
 from pages import (
-    ABLE, ABSENT, ACKNOWLEDGE, ACTION_REQUEST, ACTION_RESPONSE, CAUSES, CREATE, DATA, DATA_QUERY, NO_LINK, REMOVE,
-    RUNNING, SET_DATA, START, STOP, STOPPED, UNABLE, Recording, Station,
+    ABLE, ABSENT, ACKNOWLEDGE, ACTION_REQUEST, ACTION_RESPONSE, CAUSES, CLOSED, CREATE, DATA, DATA_QUERY, FIRST, NO_LINK,
+    OPEN, REMOVE, RUNNING, SET_DATA, START, STOP, STOPPED, UNABLE, Recording, Station,
 )
 
 Scene = namedtuple("Scene", "name recording steps stated")
@@ -47,15 +47,19 @@ def worked_history(answer=acknowledge(), state=STOPPED, repeat=None):
     return entries, [(5, NO_LINK), (0, 5), (1, 0), (2, NO_LINK), (3, 5), (4, 0), (6, 1)]
 
 
-def scene(name, entries, steps, stated, opening=()):
+def scene(name, entries, steps, stated, opening=(), form=FIRST):
     stations = [STATIONS[0], STATIONS[1]._replace(opening=list(opening))]
-    return Scene(name, Recording(1, stations, entries), steps, stated)
+    return Scene(name, Recording(1, stations, entries, form), steps, stated)
+
+
+def worked_report():
+    return "yes records=7 others=0\nanswer 1 request 0\nanswer 4 request 0\nknown 6 change 1\nentity 2:3:7 stopped\n"
 
 
 def worked_scenes():
     """The worked history of MODEL.md, and what the page says of its variants."""
     entries, steps = worked_history()
-    report = "yes records=7 others=0\nanswer 1 request 0\nanswer 4 request 0\nknown 6 change 1\nentity 2:3:7 stopped\n"
+    report = worked_report()
     without = [(4, NO_LINK), (0, 2), (1, NO_LINK), (2, 4), (3, 2), (5, 0)]
     later = [*steps[:3], steps[6], *steps[3:6]]
     return [
@@ -192,9 +196,31 @@ def receiving_scenes():
     ]
 
 
+def open_scenes():
+    """Stations that nobody recorded, in recordings of each form."""
+    none = [(0, NO_LINK), (1, NO_LINK)]
+    order, there = request(origin=(9, 9, 0)), (9, 9, 0)
+    answer = acknowledge(target=there)
+    able = acknowledge(origin=(9, 9, 4), identifier=5)
+    answered = [received(APPLICATION, order), sent(APPLICATION, answer)]
+    report = "yes records=2 others=0\nanswer 1 request 0\nentity 2:3:7 stopped\n"
+    unsent = [received(APPLICATION, request())]
+    return [
+        scene("an order from outside", answered, [(0, NO_LINK), (1, 0)], report, form=OPEN),
+        scene("the same in a closed recording", answered, [(0, NO_LINK), (1, 0)], no(0, 11), form=CLOSED),
+        scene("the same in the first format", answered, [(0, NO_LINK), (1, 0)], no(0, 11)),
+        scene("linked", answered, [(0, 1), (1, 0)], no(0, 4), form=OPEN),
+        scene("an able from outside", [received(MANAGER, able)], none[:1], "yes records=1 others=0\n", form=OPEN),
+        scene("nobody sent it, and all is open", unsent, none[:1], no(0, 12), form=OPEN),
+        scene("nobody sent it, and all is closed", unsent, none[:1], no(0, 12), form=CLOSED),
+        scene("the worked history, open", *worked_history(), worked_report(), form=OPEN),
+        scene("the worked history, closed", *worked_history(), worked_report(), form=CLOSED),
+    ]
+
+
 def scenes():
     """Recordings and certificates with each cause 1 to 13, and the answer to each stated by hand."""
     return [
         *worked_scenes(), *certificate_scenes(), *sending_scenes(), *answering_scenes(), *version_scenes(),
-        *receiving_scenes(),
+        *receiving_scenes(), *open_scenes(),
     ]  # fmt: skip

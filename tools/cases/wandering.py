@@ -2,8 +2,8 @@
 from cases.scenes import acknowledge, request
 from cases.texts import pdu, received, sent, told
 from pages import (
-    ABLE, ACKNOWLEDGE, ACTION_REQUEST, ACTION_RESPONSE, CREATE, DATA, DATA_QUERY, NO_LINK, RECEIVED, REMOVE, RUNNING,
-    SENT, SET_DATA, START, STOP, STOPPED, TOLD, UNABLE, Course, Recording, Station, meaning_of,
+    ABLE, ACKNOWLEDGE, ACTION_REQUEST, ACTION_RESPONSE, CLOSED, CREATE, DATA, DATA_QUERY, FIRST, NO_LINK, OPEN, RECEIVED,
+    REMOVE, RUNNING, SENT, SET_DATA, START, STOP, STOPPED, TOLD, UNABLE, Course, Recording, Station, meaning_of,
 )
 
 
@@ -11,7 +11,8 @@ def wandering(random, length):
     """A recording of entries that are allowed, but for the last one at times, and its certificate, altered at times."""
     opening = [(entity, random.choice((STOPPED, RUNNING))) for entity in (7, 8) if random.random() < 0.3]
     stations = [Station(1, 1, []), Station(2, 3, opening), Station(2, 4, [])]
-    course, links = Course(Recording(1, stations, [])), []
+    form = random.choice((FIRST, CLOSED, OPEN))
+    course, links = Course(Recording(1, stations, [], form)), []
     while len(links) < length:
         entry = any_entry(random, course)
         course.entries.append(entry)
@@ -25,7 +26,7 @@ def wandering(random, length):
         if cause:
             break
         course.take(len(links) - 1)
-    return shuffled(random, Recording(1, stations, course.entries), links)
+    return shuffled(random, Recording(1, stations, course.entries, form), links)
 
 
 def any_entry(random, course):
@@ -39,7 +40,9 @@ def any_entry(random, course):
         return received(station, random.choice(sends))
     if choice < 0.8:
         return told(station, random.choice((7, 8)), random.randrange(3))
-    if choice < 0.85:
+    if choice < 0.83:
+        return received(station, anything_from_outside(random, course.address(station)))
+    if choice < 0.87:
         return random.choice((sent, received))(station, random.choice((b"", b"\7\1", request(exercise=2))))
     target = random.choice(((2, 3), (2, 4), (2, 65535), (65535, 65535), (1, 1)))
     kind = random.choice((CREATE, CREATE, START, STOP, REMOVE, SET_DATA, DATA_QUERY, ACTION_REQUEST, 21))
@@ -49,6 +52,15 @@ def any_entry(random, course):
     origin, identifier = (*course.address(station), 0), random.randrange(1, 9)
     stamp, version = random.randrange(2), 6 if identifier % 4 == 0 else 7
     return sent(station, request(kind, (*target, entity), identifier, origin, stamp=stamp, version=version))
+
+
+def anything_from_outside(random, address):
+    """An order or an answer to the station at an address, from one that is not recorded."""
+    there, entity, identifier = (9, 9, random.choice((0, 7))), random.choice((7, 8, 0)), random.randrange(1, 9)
+    if random.random() < 0.3:
+        return acknowledge(random.randrange(1, 5), ABLE, there, identifier, (*address, 0))
+    kind = random.choice((CREATE, START, STOP, REMOVE, DATA_QUERY))
+    return request(kind, (*address, entity), identifier, there)
 
 
 def any_answer(random, address, order):

@@ -4,7 +4,7 @@ from .datagrams import (
     START, UNABLE, Outcome, fault, identifier_text, number,
 )
 from .files import (
-    ABSENT, ENTITIES, NO_LINK, RECEIVED, RUNNING, SENT, STATES, STOPPED, TOLD, Fault, meaning_of, read_certificate,
+    ABSENT, ENTITIES, NO_LINK, OPEN, RECEIVED, RUNNING, SENT, STATES, STOPPED, TOLD, Fault, meaning_of, read_certificate,
     read_recording,
 )
 
@@ -75,7 +75,7 @@ class Course:
     """The entries taken so far, each allowed after those before it."""
 
     def __init__(self, recording):
-        self.exercise, self.stations, self.entries = recording
+        self.exercise, self.stations, self.entries, self.form = recording
         self.meanings = [
             None if entry.kind == TOLD else meaning_of(self.exercise, entry.datagram) for entry in self.entries
         ]
@@ -133,9 +133,12 @@ class Course:
         return entity is not None and (station, entity) not in self.states
 
     def cause_of_get(self, datagram, pdu):
-        if pdu.origin[:2] not in [self.address(index) for index in range(len(self.stations))]:
-            return 11
+        if not self.is_recorded(pdu):
+            return None if self.form == OPEN else 11
         return 12 if self.first_send(datagram) is None else None
+
+    def is_recorded(self, pdu):
+        return pdu.origin[:2] in [self.address(index) for index in range(len(self.stations))]
 
     def first_send(self, datagram):
         return next((index for index, _ in self.past(SENT) if self.entries[index].datagram == datagram), None)
@@ -152,7 +155,7 @@ class Course:
         entry, pdu = self.entries[index], self.meanings[index]
         if pdu and entry.kind == SENT and is_answer(pdu):
             return self.taken_up(entry.station, pdu)
-        if pdu and entry.kind == RECEIVED:
+        if pdu and entry.kind == RECEIVED and self.is_recorded(pdu):
             return self.first_send(entry.datagram)
         return NO_LINK
 
@@ -191,7 +194,7 @@ class Course:
         lines = [f"yes records={len(self.entries)} others={len(datagrams) - len(sent) - len(received)}"]
         lines += [f"answer {index} request {self.link_of(index)}" for index, pdu in sent if is_answer(pdu)]
         for index, pdu in received:
-            if response_of(pdu) == ABLE:
+            if response_of(pdu) == ABLE and self.is_recorded(pdu):
                 change = self.firsts[senders[tuple(pdu.origin[:2])], ABLE, key_of(pdu)]
                 lines.append(f"known {index} change {change}")
         for (station, entity), state in sorted(self.states.items()):

@@ -68,9 +68,10 @@ refused_alike r steps fault first =
 
 pub told_alike : (r : PlainRecording) (c : CheckedData) → TellsAccount r c ↔ TellsAccount (converted r) c
 told_alike r c =
-    let alike = read_alike r in
-    (λ p. record { states = λ s. p.states s ∙ alike.states s; pairs = λ i. p.pairs i ∙ alike.pairs i; causes = λ i. p.causes i ∙ alike.changes i; others = p.others ∙ alike.others },
-    λ p. record { states = λ s. p.states s ∙ sym (alike.states s); pairs = λ i. p.pairs i ∙ sym (alike.pairs i); causes = λ i. p.causes i ∙ sym (alike.changes i); others = p.others ∙ sym alike.others })
+    let alike = read_alike r in (
+      λ p. record { states = λ s. p.states s ∙ alike.states s; pairs = λ i. p.pairs i ∙ alike.pairs i; causes = λ i. p.causes i ∙ alike.changes i; others = p.others ∙ alike.others },
+      λ p. record { states = λ s. p.states s ∙ sym (alike.states s); pairs = λ i. p.pairs i ∙ sym (alike.pairs i); causes = λ i. p.causes i ∙ sym (alike.changes i); others = p.others ∙ sym alike.others },
+    )
 
 -- two first bad steps of one certificate are one
 first_is_one : (r : PlainRecording) (steps : List Step) (k j : ℕ) (cause other : Cause) → IsFirstBad r steps k cause → IsFirstBad r steps j other → k < j → ⊥

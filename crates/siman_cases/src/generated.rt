@@ -3,11 +3,11 @@
 
 use crate::agreement::{compare_audits, compare_checks};
 use crate::random::Random;
-use crate::scene::{Deed, ENTITIES, Scene, begin, place_of};
+use crate::scene::{Deed, ENTITIES, Scene, begin, place_of, station_of};
 use dis_records::{Address, EntityState};
 use exercise_audit::Audit;
 use exercise_check::{Certificate, CheckFault, NO_LINK, Step};
-use exercise_model::{ExerciseLog, LogEntry, LogFault, Recording, Station};
+use exercise_model::{Cause, ExerciseLog, Form, LogEntry, LogFault, Recording, Station};
 use plain_check::plain_steps;
 use std::alloc::{AllocError, Global};
 use std::io;
@@ -36,20 +36,28 @@ fn add_one(counts: &mut [u32], place: usize) {
     }
 }
 
-/// Whether all counts from a place on are above 0.
-fn are_counted(counts: &[u32], from: usize) -> bool {
-    for place in from..counts.len() {
-        if counts[place] == 0 {
+/// Whether all counts from a place on are above 0, up to another.
+fn are_counted(counts: &[u32], from: usize, end: usize) -> bool {
+    for place in from..end {
+        if is_zero(counts, place) {
             return false;
         }
     }
     true
 }
 
-/// The stations of a scene, as they are before its first deed.
-fn stations(alloc: Global, scene: &Scene) -> Result<Vec<Station>, AllocError> {
+/// Whether a count is 0.
+fn is_zero(counts: &[u32], place: usize) -> bool {
+    match counts.get(place) {
+        Some(count) => *count == 0,
+        None => true,
+    }
+}
+
+/// The first stations of a scene, so many, as they are before its first deed.
+fn stations(alloc: Global, scene: &Scene, count: usize) -> Result<Vec<Station>, AllocError> {
     let mut stations = Vec::new(alloc);
-    for index in 0..scene.stations {
+    for index in 0..count {
         let mut opening = Vec::new(alloc);
         for entity in 1..=ENTITIES {
             match scene.states.get(place_of(index, entity)) {
@@ -88,15 +96,24 @@ fn entry(alloc: Global, deed: Deed, stamp: u64) -> Result<LogEntry, AllocError> 
     })
 }
 
-/// A recording of a scene that is made up.
-fn recording(alloc: Global, random: Random) -> Result<Recording, LogFault> {
+/// How many stations of a scene are recorded: in an open recording all but the last.
+fn recorded(form: Form, scene: &Scene) -> usize {
+    match form {
+        Form::Open => scene.stations.saturating_sub(1),
+        Form::First | Form::Closed => scene.stations,
+    }
+}
+
+/// A recording of a form, of a scene that is made up.
+fn recording(alloc: Global, form: Form, random: Random) -> Result<Recording, LogFault> {
     let Ok(mut scene) = begin(alloc, random) else {
         return Err(LogFault::Memory);
     };
-    let Ok(stations) = stations(alloc, &scene) else {
+    let count = recorded(form, &scene);
+    let Ok(stations) = stations(alloc, &scene, count) else {
         return Err(LogFault::Memory);
     };
-    let mut recording = Recording::start(alloc, 1, stations)?;
+    let mut recording = Recording::start_form(alloc, form, 1, stations)?;
     let deeds = scene.random.below(MOST_DEEDS).saturating_add(1);
     for _ in 0..deeds {
         if scene.go_on().is_err() {
@@ -107,6 +124,9 @@ fn recording(alloc: Global, random: Random) -> Result<Recording, LogFault> {
         scene.swap();
     }
     for deed in &scene.deeds {
+        if station_of(*deed) >= count {
+            continue;
+        }
         match entry(alloc, *deed, recording.entry_count() as u64) {
             Ok(entry) => recording.push(entry)?,
             Err(_) => return Err(LogFault::Memory),
@@ -201,9 +221,9 @@ impl Answers {
         Ok(())
     }
 
-    /// Tries a recording that is made up.
-    fn try_one(&mut self, alloc: Global, mut random: Random) -> Result<(), AllocError> {
-        let Ok(log) = recording(alloc, random) else {
+    /// Tries a recording of a form that is made up.
+    fn try_one(&mut self, alloc: Global, form: Form, mut random: Random) -> Result<(), AllocError> {
+        let Ok(log) = recording(alloc, form, random) else {
             self.take(false);
             return Ok(());
         };
@@ -215,9 +235,22 @@ impl Answers {
     }
 
     /// Whether all answers were as the plain ones are, and each came: yes, and each cause, and of
-    /// those of an event also in the way of a station.
-    pub(crate) fn are_good(&self) -> bool {
-        let came = are_counted(&self.causes, 1) && are_counted(&self.ways, 5);
+    /// those of an event also in the way of a station. In an open recording there is no stranger.
+    pub(crate) fn are_good(&self, form: Form) -> bool {
+        let strangers = usize::from(Cause::Stranger.number());
+        let came = match form {
+            Form::Open => {
+                are_counted(&self.causes, 1, strangers)
+                    && are_counted(&self.ways, 5, strangers)
+                    && are_counted(&self.causes, 12, 14)
+                    && are_counted(&self.ways, 12, 14)
+                    && is_zero(&self.causes, strangers)
+                    && is_zero(&self.ways, strangers)
+            }
+            Form::First | Form::Closed => {
+                are_counted(&self.causes, 1, 14) && are_counted(&self.ways, 5, 14)
+            }
+        };
         self.otherwise == 0 && self.yes > 0 && self.explained > 0 && came
     }
 
@@ -240,8 +273,8 @@ impl Answers {
     }
 }
 
-/// Tries so many recordings that are made up.
-pub(crate) fn try_generated(alloc: Global, count: u32) -> Result<Answers, AllocError> {
+/// Tries so many recordings of a form that are made up.
+pub(crate) fn try_generated(alloc: Global, form: Form, count: u32) -> Result<Answers, AllocError> {
     let mut answers = Answers {
         otherwise: 0,
         explained: 0,
@@ -255,7 +288,7 @@ pub(crate) fn try_generated(alloc: Global, count: u32) -> Result<Answers, AllocE
             state: u64::from(number),
         };
         let _first = random.below(1);
-        answers.try_one(alloc, random)?;
+        answers.try_one(alloc, form, random)?;
     }
     Ok(answers)
 }

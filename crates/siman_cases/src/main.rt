@@ -36,6 +36,7 @@ mod trial;
 
 use crate::generated::try_generated;
 use crate::trial::{Tally, try_cases};
+use exercise_model::Form;
 use std::alloc::Global;
 use std::io::Write;
 use std::process::ExitCode;
@@ -65,17 +66,21 @@ fn try_file(rt: &HostRuntime, alloc: Global, name: &str) -> io::Result<bool> {
     Ok(otherwise == 0 && tally.unread.is_none())
 }
 
-/// Tries recordings that are made up, and prints how often each answer came.
+/// Tries recordings that are made up, and then as many open ones, of the same scenes without what
+/// their last station recorded; and prints how often each answer came.
 fn try_made_up(rt: &HostRuntime, alloc: Global, count: u32) -> io::Result<bool> {
-    let answers = try_generated(alloc, count)?;
     let mut out = rt.stdout();
+    let closed = try_generated(alloc, Form::First, count)?;
     writeln!(out, "{count} recordings made up")?;
-    answers.print(&mut out)?;
-    Ok(answers.are_good())
+    closed.print(&mut out)?;
+    let open = try_generated(alloc, Form::Open, count)?;
+    writeln!(out, "{count} open recordings made up")?;
+    open.print(&mut out)?;
+    Ok(closed.are_good(Form::First) && open.are_good(Form::Open))
 }
 
 /// Tries the files that the words of the command line name; a number stands for so many recordings
-/// that are made up.
+/// that are made up, and as many open ones.
 fn try_files(rt: &HostRuntime, alloc: Global) -> io::Result<bool> {
     let mut good = true;
     for name in env::args(rt)?.skip(1) {

@@ -18,7 +18,7 @@ pub(crate) enum Deed {
 }
 
 /// The station of a deed.
-fn station_of(deed: Deed) -> usize {
+pub(crate) fn station_of(deed: Deed) -> usize {
     match deed {
         Deed::Sends(station, _) | Deed::Gets(station, _) | Deed::Tells(station, _, _) => station,
     }

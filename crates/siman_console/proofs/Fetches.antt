@@ -1,15 +1,15 @@
 -- What was fetched of a reader, and that what is made of it depends on no more.
-use Rattle.std.proofs.Common.{◌≡◌, ℕ, ◌+◌, ◌<◌, List, Option, Some, None, Err, nat_lt, length, take, IfSome, if◌then◌else◌, arith, sym, ap, subst, ◌∙◌, inl, inr, take_all}
+use Rattle.std.proofs.Common.{◌≡◌, ℕ, ◌+◌, ◌<◌, List, Option, Some, None, Err, nat_lt, length, IfSome, if◌then◌else◌, arith, sym, ap, subst, ◌∙◌, inl, inr, take_all}
 use Rattle.std.proofs.lemmas.Bool.{cases_lt}
 use Rattle.std.proofs.lemmas.Bool.Decides.{nat_tests}
 use Rattle.std.proofs.lemmas.List.{length-take-le}
 use Rattle.siman_worlds.specs.declared.script.TheConstants.{LARGEST_SCRIPT}
 use Rattle.siman_worlds.specs.declared.script_fault.ScriptFault.TheVariants.{BadLine}
 use Rattle.siman_worlds.specs.Script.{script_at}
-use Rattle.siman_console.specs.Fetching.{fetched}
+use Rattle.byte_files.specs.Fetching.{fetched}
 use Rattle.siman_console.specs.World.{Scripted}
 use Rattle.siman_console.specs.Check.{Recorded}
-use Rattle.byte_files.specs.Fields.{IsBytes, Fails}
+use Rattle.byte_files.specs.Fields.{Fails}
 use Rattle.exercise_recording.specs.declared.format_fault.RecordingFault.{RecordingFault}
 use Rattle.exercise_recording.specs.Reading.{recording_at, format_of}
 
@@ -26,20 +26,6 @@ script_at-fetched text = elim (cases_lt (length text) (LARGEST_SCRIPT + 1)) [
   | inl h ↦ ap script_at (take_all (LARGEST_SCRIPT + 1) text (omega arith))
   | inr h ↦ let long = length-take-le (LARGEST_SCRIPT + 1) text h in too_large (fetched LARGEST_SCRIPT text) _ (omega arith) ∙ sym (too_large text _ (omega arith))
 ]
-
--- The law of the limit.
-abbrev IsLawOfLimit : Type 0
-IsLawOfLimit = (limit : ℕ) (bytes : List ℕ) → IsBytes (take (limit + 1) bytes) → recording_at limit (take (limit + 1) bytes) ≡ recording_at limit bytes
-
--- The recording is the same for what was fetched.
-recording_at-fetched : (limit : ℕ) (text bytes : List ℕ) → IsLawOfLimit → IsBytes text → text ≡ fetched limit bytes
-    → recording_at limit text ≡ recording_at limit bytes
-recording_at-fetched limit text bytes law fits is = ap (recording_at limit) is ∙ law limit bytes (subst IsBytes is fits)
-
-pub known-fetched : (limit : ℕ) (known : Option (List ℕ)) (text : List ℕ) → IsLawOfLimit → IsBytes text → IfSome known (λ bytes. text ≡ fetched limit bytes)
-    → IfSome known (λ bytes. recording_at limit text ≡ recording_at limit bytes)
-known-fetched limit None text law fits is = tt
-known-fetched limit (Some bytes) text law fits is = recording_at-fetched limit text bytes law fits is
 
 -- What is said of what was fetched is said of what the reader has.
 pub said_of_fetched : (limit : ℕ) (P : Recorded → Type 0) (known : Option (List ℕ)) (text : List ℕ)

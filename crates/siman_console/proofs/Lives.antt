@@ -9,7 +9,7 @@ use Rattle.siman_worlds.specs.Script.{script_at}
 use Rattle.siman_console.specs.declared.fault.Fault.{Fault}
 use Rattle.siman_console.specs.declared.fault.Fault.TheVariants.{ScriptRead, LineFailed, Memory}
 use Rattle.siman_console.specs.declared.live.Begun.{Begun}
-use Rattle.siman_console.specs.Fetching.{fetched}
+use Rattle.byte_files.specs.Fetching.{fetched}
 use Rattle.siman_console.specs.Live.{Begins, IsBegun, TellsMoves, TellsLive}
 use Rattle.siman_console.specs.Outcome.{Stream}
 use Rattle.siman_console.specs.Outside.{Deed}

@@ -12,7 +12,7 @@ use Rattle.siman_worlds.specs.Script.{ScriptData, script_at}
 use Rattle.siman_console.specs.declared.fault.Fault.{Fault}
 use Rattle.siman_console.specs.declared.trial_fault.TrialFault.{TrialFault}
 use Rattle.siman_console.specs.declared.trial_fault.TrialFault.TheVariants.{Read, Memory}
-use Rattle.siman_console.specs.Fetching.{fetched}
+use Rattle.byte_files.specs.Fetching.{fetched}
 use Rattle.siman_console.specs.Trial.{trial_text, IsClosed, IsTried, IsTriedInPart, Tries, tried_status, TellsTrial}
 use Rattle.siman_console.specs.World.{Scripted, recording_of, refusal_of}
 use Rattle.siman_console.proofs.Fetches.{script_at-fetched}

@@ -10,7 +10,7 @@ use Rattle.siman_worlds.specs.declared.script.TheConstants.{LARGEST_SCRIPT}
 use Rattle.siman_worlds.specs.Script.{script_at}
 use Rattle.siman_console.specs.declared.fault.Fault.{Fault}
 use Rattle.siman_console.specs.declared.fault.Fault.TheVariants.{ScriptRead, Output, Memory}
-use Rattle.siman_console.specs.Fetching.{fetched}
+use Rattle.byte_files.specs.Fetching.{fetched}
 use Rattle.siman_console.specs.Outcome.{Stream}
 use Rattle.siman_console.specs.Show.{IsPassedOn}
 use Rattle.siman_console.specs.World.{Scripted, Runs, world_line, PutsWorld}

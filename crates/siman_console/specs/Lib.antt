@@ -1,7 +1,6 @@
 pub mod Head
 pub mod Records
 pub mod HexText
-pub mod Fetching
 pub mod Answer
 pub mod Report
 pub mod Check

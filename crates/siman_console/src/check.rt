@@ -10,12 +10,11 @@ ghost use Rattle.siman_console.specs.Check.{Recorded, Certified, Judges, judged_
 
 use crate::fault::{Fault, end};
 use crate::files_fault::FilesFault;
-use crate::input::fetch_recording;
 use crate::report::{no_line, report_text};
 use crate::show::LARGEST_RECORDING;
 use byte_files::put;
 use exercise_check::{Certificate, CheckFault, check, read_certificate};
-use exercise_recording::{ExerciseLog, RecordingView};
+use exercise_recording::{ExerciseLog, RecordingView, fetch_recording};
 use std::alloc::Global;
 use std::io::{Read, Write};
 
@@ -40,7 +39,7 @@ pub fn check_files<R: Read + Drop, C: Read + Drop, W: Write>(
     // Whatever it read, it judged that.
     ensures some { (recorded : Recorded) × (certified : Certified) × Judges recorded certified result (W.contents out.old) (W.contents out.new) }
 {
-    let bytes = fetch_recording(alloc, recording)?;
+    let bytes = fetch_recording(alloc, recording, LARGEST_RECORDING)?;
     check_bytes(alloc, &bytes, certificate, out)
 }
 

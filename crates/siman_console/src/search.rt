@@ -14,13 +14,12 @@ ghost use Rattle.siman_console.specs.Outcome.{Stream};
 ghost use Rattle.siman_console.specs.Search.{explained_line, cause_end, block_at, block_line, Finds, Searches, PutsBoth, PutsBlocked, PutsFinding, TellsAudit, EndsAudit};
 
 use crate::fault::{Fault, end};
-use crate::input::fetch_recording;
 use crate::show::LARGEST_RECORDING;
 use byte_files::put;
 use dis_records::Address;
 use exercise_audit::{Audit, Block, audit};
 use exercise_check::{Certificate, good_steps_have_no_cause, write_certificate};
-use exercise_recording::{Cause, ExerciseLog, RecordingView, what_explains_holds};
+use exercise_recording::{Cause, ExerciseLog, RecordingView, fetch_recording, what_explains_holds};
 use std::alloc::{AllocError, Global};
 use std::io::{Read, Write};
 
@@ -87,7 +86,7 @@ pub(crate) fn search<R: Read + Drop>(alloc: Global, recording: R) -> Result<Find
     ensures known { IfSome (R.remaining recording) (λ bytes. Searches (recording_at LARGEST_RECORDING bytes) result) }
     ensures some { (recorded : Recorded) × Searches recorded result }
 {
-    let bytes = fetch_recording(alloc, recording)?;
+    let bytes = fetch_recording(alloc, recording, LARGEST_RECORDING)?;
     search_bytes(alloc, &bytes)
 }
 

@@ -14,18 +14,31 @@ MOST_ALLOCATIONS = 5000
 LATER = 1 << 40  # later than the last allocation of any run
 
 
-def try_all(trials, examples):
-    """Memory refused at each allocation in turn: to that one alone, and to it and all after it."""
+def refusing_library(trials):
+    """The library that refuses memory to a program into which it is preloaded; None where it can't be made."""
     library = trials.folder / "refuse.so"
     compiler = shutil.which("cc")
     if compiler is None:
         trials.skipped.append("refused memory: no C compiler")
-        return
+        return None
     subprocess.run([compiler, "-shared", "-fPIC", "-o", library, TOP / "tools" / "refuse.c"], check=True)
+    return library
+
+
+def try_all(trials, examples):
+    """Memory refused at each allocation in turn: to that one alone, and to it and all after it."""
     text = texts.recording_text(texts.told_often(4000))
     long = (["show", trials.file(text)], b"", pages.answer_to_show(text))
     helped = (["--help"], b"", Outcome(0, Some(), b""))
-    for words, given, usual in [*answers(trials, examples), long, *faults(examples), helped]:
+    try_answers(trials, [*answers(trials, examples), long, *faults(examples), helped])
+
+
+def try_answers(trials, rows):
+    """The same for words and what is given on standard input, each with the usual outcome."""
+    library = refusing_library(trials)
+    if library is None:
+        return
+    for words, given, usual in rows:
         out = Prefix(usual.out) if words[:1] == ["show"] else b""
         case = Case(words, (Outcome(3, out, b"memory\n"), usual), given)
         for alone in (True, False):

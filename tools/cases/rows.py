@@ -1,0 +1,44 @@
+"""Worked examples of each command, to which memory is refused: literal files and the answers that they have."""
+from cases import texts
+from cases.examples import TOP, WORKED_ANSWER, WORKED_LINE, WORKED_SCRIPT
+from cases.failing import ABLE, CERTIFICATE, CREATE, RECORDING, REPORT
+from pages import Outcome, Recording, Station
+
+COMMENT = "0701160500000000003000000001000100000002000300000000000000000001000000050000002848454C4C4F000000"
+COMMENT_TOLD = (
+    b"comment version=7 exercise=1 stamp=0 status=0 from=1:1:0 to=2:3:0 fixed=0 variable=1\n"
+    b"variable 5 40 48454c4c4f\n"
+)
+TWELVE_BITS = "0701160500000000003000000001000100000002000300000000000000000001000000050000000CABC5000000000000"
+TWELVE_TOLD = (
+    b"comment version=7 exercise=1 stamp=0 status=0 from=1:1:0 to=2:3:0 fixed=0 variable=1\nvariable 5 12 abc0\n"
+)
+STATIONS = [Station(1, 1, []), Station(2, 3, [])]
+# The same entries with the log of 2:3 first: another order than that of the file explains them.
+MOVED = Recording(1, STATIONS, [
+    texts.received(1, CREATE), texts.sent(1, ABLE), texts.sent(0, CREATE), texts.received(0, ABLE),
+])  # fmt: skip
+A, B = (texts.pdu(22, origin, (9, 9, 0)) for origin in ((1, 1, 0), (2, 3, 0)))
+# Each station received what the other one sends only after that.
+CROSSED = Recording(1, STATIONS, [texts.received(0, B), texts.sent(0, A), texts.received(1, A), texts.sent(1, B)])
+BLOCKED = (
+    b"blocked stations=2\nblocked 1:1 record=0 cause=12 never-sent\nblocked 2:3 record=2 cause=12 never-sent\n"
+)
+
+
+def rows(trials):
+    """Words and what is given on standard input, with the usual outcome."""
+    script = (TOP / WORKED_SCRIPT).read_bytes()
+    recording, certificate = trials.file(RECORDING), trials.file(CERTIFICATE)
+    moved, crossed = (trials.file(texts.recording_text(each)) for each in (MOVED, CROSSED))
+    return [
+        (["pdu", COMMENT], b"", Outcome(0, COMMENT_TOLD, b"")),
+        (["pdu", TWELVE_BITS], b"", Outcome(0, TWELVE_TOLD, b"")),
+        (["pdus"], f"{COMMENT}\n{TWELVE_BITS}\n".encode(), Outcome(0, COMMENT_TOLD + TWELVE_TOLD, b"")),
+        (["check", recording, certificate], b"", Outcome(0, REPORT, b"")),
+        (["audit", moved, "found.dsct"], b"", Outcome(0, b"explained steps=4\n", b"")),
+        (["audit", crossed, "none.dsct"], b"", Outcome(1, BLOCKED, b"")),
+        ([], script, Outcome(0, WORKED_ANSWER, b"")),
+        (["world", WORKED_SCRIPT, "row.dsrc"], b"", Outcome(0, WORKED_LINE, b"")),
+        (["live", WORKED_SCRIPT, "lived.row.dsrc"], b"", Outcome(0, b"live records=13\n", b"")),
+    ]  # fmt: skip

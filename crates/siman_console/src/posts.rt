@@ -7,7 +7,7 @@ ghost use Rattle.siman_console.specs.Posts.{live_fault, judged, move_fault, Give
 use crate::fault::Fault;
 use exercise_model::{MOST_ENTRIES, is_entity};
 use exercise_recording::RecordingWriter;
-use siman_lines::{IssueFault, Line, ServeFault, issue, nudge, serve};
+use siman_lines::{IssueFault, Line, ServeFault, issue, nudge, serve, tell};
 use siman_manager::{Order, OrderFault};
 use siman_worlds::{Act, Move, MoveFault, Node, WorldFault};
 use std::alloc::Global;
@@ -131,7 +131,7 @@ fn tick<L: Line + Drop, W: Write>(
 }
 
 /// The state of an entity is recorded as told.
-fn tell<L: Line + Drop, W: Write>(
+fn tell_entity<L: Line + Drop, W: Write>(
     post: &Post<L>,
     recorder: &mut RecordingWriter<'_, W>,
     entity: u16,
@@ -142,8 +142,7 @@ fn tell<L: Line + Drop, W: Write>(
     if !is_entity(entity) {
         return Err(Halt::Move(MoveFault::NoSuchEntity));
     }
-    let state = post.node.application.state(entity);
-    match recorder.told(post.station, entity, state) {
+    match tell(&post.node, recorder, post.station, entity) {
         Ok(()) => Ok(()),
         Err(_) => Err(Halt::Record),
     }
@@ -164,7 +163,7 @@ fn act_at<L: Line + Drop, W: Write>(
         Act::Command(order) => command(alloc, post, recorder, now, order),
         Act::Deliver(_) => Ok(()),
         Act::Tick => tick(alloc, post, recorder, now),
-        Act::Tell(entity) => tell(post, recorder, entity),
+        Act::Tell(entity) => tell_entity(post, recorder, entity),
     }
 }
 

@@ -54,6 +54,7 @@ stand_closed s a ds k log closed shut on is = record {
   own_log = is.own_log;
   application = is.application;
   missing = by is.missing;
+  told = is.told;
   manager = is.manager;
   fit = is.fit;
   heard = is.heard;

@@ -162,7 +162,7 @@ pub record Step (s : ℕ) (before : Option (List ℕ)) (es : List Entry) (n m : 
   pub halves : Stand s n.application.outfit (came m.application) m.manager (log_at s (past (es ++ more))) (IsClosed new)
   pub handed_are : AreHanded s (es ++ more) handed
 
-step_keeps : (s : ℕ) (before : Option (List ℕ)) (es : List Entry) (n m : Node) (w new : WriterState) (old handed : Option Datagrams)
+pub step_keeps : (s : ℕ) (before : Option (List ℕ)) (es : List Entry) (n m : Node) (w new : WriterState) (old handed : Option Datagrams)
     → IsKept s n w es old
     → Step s before es n m w new handed → KeepsOn s before es m w new handed
 step_keeps s before es n m w new old handed is step = record {
@@ -413,7 +413,7 @@ keeps_text s now text n m w new before es old handed h one application settings 
     })
 
 -- nothing was written, and the manager half went on
-keeps_quiet : (s : ℕ) (before : Option (List ℕ)) (es : List Entry) (n m : Node) (w new : WriterState) (old handed : Option Datagrams)
+pub keeps_quiet : (s : ℕ) (before : Option (List ℕ)) (es : List Entry) (n m : Node) (w new : WriterState) (old handed : Option Datagrams)
     → IsWritten before new es
     → new.setting ≡ w.setting → (IsClosed w → IsClosed new) → m.application ≡ n.application → m.manager.settings ≡ n.manager.settings
     → Stand s n.application.outfit (came n.application) m.manager (log_at s (past es)) (IsClosed w) → IsKept s n w es old → Same old handed

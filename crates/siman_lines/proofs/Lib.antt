@@ -7,6 +7,8 @@ pub mod Standing
 pub mod Writings
 pub mod Hearing
 pub mod Keeping
+pub mod States
 pub mod Stations
 pub mod Events
+pub mod Coming
 pub mod Refusing

@@ -4,6 +4,7 @@ use Rattle.std.specs.Prelude.{Bool, true, false, ◌||◌, Option, Some, None, i
 use Rattle.std.proofs.lemmas.Bool.{and_parts}
 use Rattle.dis_records.specs.declared.header.TheConstants.{LARGEST_DATAGRAM}
 use Rattle.dis_records.specs.Address.{Pair}
+use Rattle.dis_records.specs.declared.entity_state.EntityState.{EntityState}
 use Rattle.siman_pdus.specs.declared.pdu.Pdu.{Pdu}
 use Rattle.siman_pdus.specs.Answers.{matches_kind}
 use Rattle.siman_pdus.specs.Ranges.{IsInRange}
@@ -12,12 +13,12 @@ use Rattle.siman_pdus.specs.Role.{is_request_body}
 use Rattle.siman_pdus.specs.Spelling.{body_kind, HasCarriedStatus, pdu_size, pdu_text}
 use Rattle.siman_pdus.proofs.Offered.{text_is_read, zero_is_carried, read_in_range}
 use Rattle.exercise_model.specs.Exchange.{is_answer_body}
-use Rattle.exercise_model.specs.History.{History, Send, Get}
+use Rattle.exercise_model.specs.History.{History, Send, Get, Tell}
 use Rattle.siman_application.specs.Answer.{answer}
 use Rattle.siman_application.specs.Distinct.{with_request}
 use Rattle.siman_application.specs.Outfit.{Outfit}
 use Rattle.siman_application.specs.OwnLog.{Turn, Tells, Orders, Passes, Takes, Loses, taken_in, sent_after, AreTurns, IsRead, IsOrder, IsOwnLog, MissNone}
-use Rattle.siman_application.specs.Play.{reply, reply_after}
+use Rattle.siman_application.specs.Play.{reply, reply_after, state_over}
 use Rattle.siman_application.proofs.Offered.{is_answer, reply_answers, reply_in_range, reply_is_short, taken_in_range}
 use Rattle.siman_manager.specs.declared.kept.KeptOrder.{KeptOrder}
 use Rattle.siman_manager.specs.declared.order.Order.{Order}
@@ -38,7 +39,7 @@ use Rattle.siman_lines.specs.Kept.{came_in, Stand}
 -- Turns.
 
 -- where no reply is missing, it does not matter what is due later
-any_later : (a : Outfit) (one other : Bool) (ts : List Turn) → MissNone ts → AreTurns a one ts → AreTurns a other ts
+pub any_later : (a : Outfit) (one other : Bool) (ts : List Turn) → MissNone ts → AreTurns a one ts → AreTurns a other ts
 any_later a one other [] none are = tt
 any_later a one other (Tells e y ∷ ts) none are = any_later a one other ts none are
 any_later a one other (Orders p ∷ ts) none are = (are.0, any_later a one other ts none are.1)
@@ -89,6 +90,7 @@ stand_takes s a ds k log closed b q stamp is none read h = record {
   };
   application = ap (λ (d : List Pdu). with_request a d q) is.application;
   missing = inl none;
+  told = is.told;
   manager = ap (λ (os : List KeptOrder). after_take k.settings q os) is.manager;
   fit = is.fit;
   heard = ap (λ (qs : List Pdu). q ∷ qs) is.heard;
@@ -113,6 +115,7 @@ stand_passes s a ds k log closed b is = record {
   };
   application = is.application;
   missing = is.missing;
+  told = is.told;
   manager = is.manager;
   fit = is.fit;
   heard = is.heard;
@@ -142,6 +145,29 @@ stand_loses s a ds k log closed shut b q stamp is none read h due ends = record 
   };
   application = ap (λ (d : List Pdu). with_request a d q) is.application;
   missing = inr ends;
+  told = is.told;
+  manager = is.manager;
+  fit = is.fit;
+  heard = is.heard;
+  ordered = (tt, is.ordered);
+}
+
+-- A STATE is told
+pub stand_tells : (s : ℕ) (a : Outfit) (ds : List Pdu) (k : Book) (log : History) (closed : Type 0) (e : ℕ) (y : EntityState)
+    → (is : Stand s a ds k log closed)
+    → MissNone is.turns → y ≡ state_over a ds e → Stand s a ds k (Tell s e y ∷ log) closed
+stand_tells s a ds k log closed e y is none own = record {
+  turns = Tells e y ∷ is.turns;
+  calls = is.calls;
+  own_log = record {
+    outfit = is.own_log.outfit;
+    turns = is.own_log.turns;
+    log_is = ap (λ (l : History). Tell s e y ∷ l) is.own_log.log_is;
+    taken_is = refl;
+  };
+  application = is.application;
+  missing = inl none;
+  told = (own ∙ ap (λ (d : List Pdu). state_over a d e) is.application, none, is.told);
   manager = is.manager;
   fit = is.fit;
   heard = is.heard;
@@ -166,6 +192,7 @@ stand_call s a ds k new log closed call is goes = record {
   own_log = is.own_log;
   application = is.application;
   missing = is.missing;
+  told = is.told;
   manager = goes.orders ∙ ap (λ (st : Settings). kept st (call ∷ is.calls)) (sym goes.settings);
   fit = goes.fit;
   heard = goes.none ∙ is.heard;
@@ -188,6 +215,7 @@ stand_send s a ds k new log closed call p is goes order status of = record {
   };
   application = is.application;
   missing = is.missing;
+  told = is.told;
   manager = goes.orders ∙ ap (λ (st : Settings). kept st (call ∷ is.calls)) (sym goes.settings);
   fit = goes.fit;
   heard = goes.none ∙ is.heard;

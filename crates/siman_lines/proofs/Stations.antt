@@ -61,6 +61,7 @@ stand_fresh s a k closed ds none orders own = record {
   own_log = record { outfit = own; turns = tt; log_is = refl; taken_is = refl };
   application = none;
   missing = inl tt;
+  told = tt;
   manager = orders;
   fit = tt;
   heard = refl;
@@ -99,7 +100,7 @@ same_or_apart s t = by (s == t) refl where
   by true e = inl (grind (arith, nat_tests))
   by false e = inr (λ h. grind (arith, nat_tests))
 
-found : (before : Option (List ℕ)) (x : Stations) (es : List Entry) (s : ℕ) (stations : List ℕ) → HasStation s stations
+pub found : (before : Option (List ℕ)) (x : Stations) (es : List Entry) (s : ℕ) (stations : List ℕ) → HasStation s stations
     → AllByRecursion (λ t. IsKept t (x.node t) x.recorder es (x.handed t)) stations → IsKept s (x.node s) x.recorder es (x.handed s)
 found before x es s [] has all = absurd has
 found before x es s (t ∷ ts) (inl e) all = subst (λ (u : ℕ). IsKept u (x.node u) x.recorder es (x.handed u)) (sym e) all.0
@@ -120,23 +121,25 @@ each_call before s old new es call on (t ∷ ts) all = (by (same_or_apart s t), 
 
 pub one_call : (before : Option (List ℕ)) (stations : List ℕ) (s : ℕ) (old new : Stations) (es : List Entry) → HasStation s stations
     → AreKept before stations old es
-    → IsCall s old new → (more : List Entry) × AreKept before stations new (es ++ more)
+    → IsCall s old new → (more : List Entry) × (new.recorder.setting ≡ old.recorder.setting) × AreKept before stations new (es ++ more)
 one_call before stations s old new es has is call =
     let on = call.keeps before es is.written (found before old es s stations has is.kept) in
-    (on.more, record { written = on.written; kept = each_call before s old new es call on stations is.kept })
+    (on.more, on.setting, record { written = on.written; kept = each_call before s old new es call on stations is.kept })
 
 pub all_calls : (before : Option (List ℕ)) (stations calls : List ℕ) (old new : Stations) (es : List Entry)
     → AllByRecursion (λ s. HasStation s stations) calls
-    → AreKept before stations old es → AreCalls calls old new → (more : List Entry) × AreKept before stations new (es ++ more)
+    → AreKept before stations old es → AreCalls calls old new
+    → (more : List Entry) × (new.recorder.setting ≡ old.recorder.setting) × AreKept before stations new (es ++ more)
 all_calls before stations [] old new es has is are = (
   [],
+  ap (λ (x : Stations). x.recorder.setting) are,
   subst (λ (l : List Entry). AreKept before stations new l) (sym (append-nil es)) (subst (λ (x : Stations). AreKept before stations x es) (sym
       are) is),
 )
 all_calls before stations (s ∷ ss) old new es has is are =
     let one = one_call before stations s old are.0 es has.0 is are.1 in
-    let rest = all_calls before stations ss are.0 new (es ++ one.0) has.1 one.1 are.2 in
-    (one.0 ++ rest.0, subst (λ (l : List Entry). AreKept before stations new l) (append_assoc es one.0 rest.0) rest.1)
+    let rest = all_calls before stations ss are.0 new (es ++ one.0) has.1 one.2 are.2 in
+    (one.0 ++ rest.0, rest.1 ∙ one.1, subst (λ (l : List Entry). AreKept before stations new l) (append_assoc es one.0 rest.0) rest.2)
 
 -- What is written.
 

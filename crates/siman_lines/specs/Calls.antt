@@ -1,18 +1,21 @@
--- What lists of calls over one recorder come to: stations that each serve a line of their own, and issue and repeat orders (profile). Histories have THE LAST EVENT FIRST.
-use Rattle.std.specs.Prelude.{◌≡◌, ◌≤◌, ℕ, List, [], ◌∷◌, ◌++◌, length, true, slice_get, Option, Some, None, ◌⊎◌}
+-- What lists of calls over one recorder come to: stations that each serve a line of their own, issue and repeat orders, and tell states (profile). Histories have THE LAST EVENT FIRST.
+use Rattle.std.specs.Prelude.{◌≡◌, ◌≤◌, ◌<◌, ℕ, List, [], ◌∷◌, ◌++◌, length, true, slice_get, Option, Some, None, ◌⊎◌}
 use Rattle.std.specs.List.{AllByRecursion}
 use Rattle.siman_pdus.specs.declared.pdu.Pdu.{Pdu}
 use Rattle.siman_pdus.specs.Role.{is_request_body}
 use Rattle.siman_pdus.specs.Same.{IsSameOrder}
-use Rattle.exercise_model.specs.Cause.{send_cause, was_sent, IsAllowed}
+use Rattle.exercise_model.specs.Cause.{send_cause, was_sent, same_state}
 use Rattle.exercise_model.specs.Entry.{Entry}
-use Rattle.exercise_model.specs.History.{History, Send, Get, Tell}
+use Rattle.exercise_model.specs.History.{History, Send, Get, Tell, past, log_at}
 use Rattle.exercise_model.specs.Meaning.{meaning}
 use Rattle.exercise_model.specs.Recording.{PlainRecording, IsRecording}
-use Rattle.exercise_model.specs.Setting.{SettingData, is_from}
+use Rattle.exercise_model.specs.Run.{IsRun}
+use Rattle.exercise_model.specs.Setting.{SettingData, IsSetting, is_from}
+use Rattle.exercise_model.specs.State.{state_after}
 use Rattle.exercise_model.specs.Station.{StationData}
 use Rattle.exercise_recording.specs.Text.{recording_text}
-use Rattle.exercise_recording.specs.Writer.{WriterState}
+use Rattle.exercise_recording.specs.Writer.{WriterState, Starts}
+use Rattle.siman_application.specs.OwnLog.{AreOneOrder}
 use Rattle.siman_application.specs.Ranges.{IsOutfitInRange}
 use Rattle.siman_manager.specs.declared.kept.KeptOrder.{KeptOrder}
 use Rattle.siman_manager.specs.Book.{Book}
@@ -43,7 +46,7 @@ pub record Stations : Type 0 where
   pub handed : ℕ → Option Datagrams
   pub recorder : WriterState
 
--- A CALL at station s: it keeps what was kept of that station, as each of the three does, and the other stations are as they were.
+-- A CALL at station s: it keeps what was kept of that station, as each of the four does, and the other stations are as they were.
 pub record IsCall (s : ℕ) (old new : Stations) : Type 0 where
   pub keeps : Keeps s (old.node s) old.recorder (old.handed s) (new.node s) new.recorder (new.handed s)
   pub nodes : (t : ℕ) → (s ≡ t → ⊥) → new.node t ≡ old.node t
@@ -64,6 +67,13 @@ pub record AreKept (before : Option (List ℕ)) (stations : List ℕ) (x : Stati
   pub written : IsWritten before x.recorder es
   pub kept : AllByRecursion (λ s. IsKept s (x.node s) x.recorder es (x.handed s)) stations
 
+-- STATIONS AS THEY ARE BEGUN over one recorder: the head of its recording is written, and these are all its stations.
+pub record AreBegun (before : Option (List ℕ)) (w : SettingData) (stations : List ℕ) (x : Stations) : Type 0 where
+  pub setting : IsSetting w
+  pub starts : Starts before w x.recorder
+  pub fresh : AllByRecursion (λ s. IsFresh s (x.node s) w (x.handed s)) stations
+  pub all : (s : ℕ) → s < length w.stations → HasStation s stations
+
 -- What is written.
 
 -- WHAT STANDS BEHIND THE BYTES THAT WERE THERE BEFORE is the beginning of the text of a recording: its setting, the entries that are written whole, and at most one more.
@@ -79,19 +89,19 @@ pub record IsBeginningOf (before : List ℕ) (w : WriterState) (es : List Entry)
   pub contents : w.contents ≡ Some (before ++ front)
   pub text : front ++ rest ≡ recording_text recording
 
--- No datagram that the log of a station sends has a cause against it, after the events before it.
-abbrev pub SendsStand : ℕ → StationData → History → Type 0
-SendsStand x o [] = Unit {0}
-SendsStand x o (Send s b ∷ log) = ((p : Pdu) → meaning x b ≡ Some p → send_cause x o log p ≡ None) × SendsStand x o log
-SendsStand x o (Get s b ∷ log) = SendsStand x o log
-SendsStand x o (Tell s e y ∷ log) = SendsStand x o log
+-- Nothing that the log of a station sends or tells has a cause against it, after the events before it.
+abbrev pub DeedsStand : ℕ → StationData → History → Type 0
+DeedsStand x o [] = Unit {0}
+DeedsStand x o (Send s b ∷ log) = ((p : Pdu) → meaning x b ≡ Some p → send_cause x o log p ≡ None) × DeedsStand x o log
+DeedsStand x o (Get s b ∷ log) = DeedsStand x o log
+DeedsStand x o (Tell s e y ∷ log) = (same_state y (state_after x o log e) ≡ true) × DeedsStand x o log
 
--- Each datagram that is received and is not other was sent before, and each state that is told may be told.
+-- Each datagram that is received and is not other was sent before.
 abbrev pub ReceivesSent : SettingData → History → Type 0
 ReceivesSent w [] = Unit {0}
 ReceivesSent w (Send s b ∷ h) = ReceivesSent w h
 ReceivesSent w (Get s b ∷ h) = ((p : Pdu) → meaning w.exercise b ≡ Some p → was_sent b h ≡ true) × ReceivesSent w h
-ReceivesSent w (Tell s e y ∷ h) = IsAllowed w h (Tell s e y) × ReceivesSent w h
+ReceivesSent w (Tell s e y ∷ h) = ReceivesSent w h
 
 -- A REQUEST THAT IS SENT comes from the manager's address, and is the same order as one that the manager keeps.
 pub record IsOrdered (k : Book) (p : Pdu) : Type 0 where
@@ -106,3 +116,14 @@ RequestsAreOrdered x k [] = Unit {0}
 RequestsAreOrdered x k (Send s b ∷ log) = ((p : Pdu) → meaning x b ≡ Some p → is_request_body p.body ≡ true → IsOrdered k p) × RequestsAreOrdered x k log
 RequestsAreOrdered x k (Get s b ∷ log) = RequestsAreOrdered x k log
 RequestsAreOrdered x k (Tell s e y ∷ log) = RequestsAreOrdered x k log
+
+-- NO SITE AND APPLICATION USED ONE REQUEST IDENTIFIER FOR TWO ORDERS, as far as each station received them.
+abbrev pub AreOrdersOne : SettingData → Stations → History → Type 0
+AreOrdersOne w x h = (s : ℕ) → s < length w.stations → AreOneOrder (x.node s).application.outfit (log_at s h)
+
+-- WHAT COMES OF CALLS over a recorder with this setting: these entries are written whole, all is kept of each station, and on two conditions the entries are a run in the order of the file.
+pub record ComesOfCalls (before : Option (List ℕ)) (w : SettingData) (stations : List ℕ) (x : Stations) : Type 0 where
+  pub entries : List Entry
+  pub setting : x.recorder.setting ≡ w
+  pub kept : AreKept before stations x entries
+  pub run : AreOrdersOne w x (past entries) → ReceivesSent w (past entries) → IsRun w (past entries)

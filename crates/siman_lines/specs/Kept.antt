@@ -15,6 +15,7 @@ use Rattle.exercise_recording.specs.Writer.{WriterState}
 use Rattle.siman_application.specs.Distinct.{distinct}
 use Rattle.siman_application.specs.Outfit.{Outfit}
 use Rattle.siman_application.specs.OwnLog.{Turn, Tells, Orders, Passes, Takes, Loses, taken_in, IsOwnLog, MissNone}
+use Rattle.siman_application.specs.Play.{state_over}
 use Rattle.siman_application.specs.Standing.{came}
 use Rattle.siman_manager.specs.Book.{Book}
 use Rattle.siman_manager.specs.Calls.{Call, Requested, Came, Ticked, kept}
@@ -78,13 +79,23 @@ heard_in (Passes b ∷ ts) = heard_in ts
 heard_in (Takes b q stamp ∷ ts) = q ∷ heard_in ts
 heard_in (Loses b q stamp ∷ ts) = heard_in ts
 
--- THE HALVES STAND where the log of their station leaves them: the log is one that such a station writes, whose turns brought the application where it is; the manager took the PDUs of these turns and no other, and each request that the log sends is the same order as one that the manager keeps. A reply is missing only where no further entry can be written.
+-- Each state that is told is that of the application, and no reply is missing before it.
+abbrev pub TellsOwn : Outfit → List Turn → Type 0
+TellsOwn a [] = Unit {0}
+TellsOwn a (Tells e y ∷ ts) = (y ≡ state_over a (distinct a (taken_in ts)) e) × MissNone ts × TellsOwn a ts
+TellsOwn a (Orders p ∷ ts) = TellsOwn a ts
+TellsOwn a (Passes b ∷ ts) = TellsOwn a ts
+TellsOwn a (Takes b q stamp ∷ ts) = TellsOwn a ts
+TellsOwn a (Loses b q stamp ∷ ts) = TellsOwn a ts
+
+-- THE HALVES STAND where the log of their station leaves them: the log is one that such a station writes, whose turns brought the application where it is; the manager took the PDUs of these turns and no other, and each request that the log sends is the same order as one that the manager keeps; each state that it tells is that of the application. A reply is missing only where no further entry can be written.
 pub record Stand (s : ℕ) (a : Outfit) (ds : List Pdu) (k : Book) (log : History) (closed : Type 0) : Type 0 where
   pub turns : List Turn
   pub calls : List Call
   pub own_log : IsOwnLog a s turns log (taken_in turns)
   pub application : ds ≡ distinct a (taken_in turns)
   pub missing : MissNone turns ⊎ closed
+  pub told : TellsOwn a turns
   pub manager : k.orders ≡ kept k.settings calls
   pub fit : AreFit calls
   pub heard : came_in calls ≡ heard_in turns

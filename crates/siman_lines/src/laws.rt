@@ -12,11 +12,12 @@ ghost use Rattle.siman_application.specs.OwnLog.{AreOneOrder};
 ghost use Rattle.siman_worlds.specs.declared.turn.Node.{Node};
 ghost use Rattle.siman_lines.specs.Told.{Datagrams};
 ghost use Rattle.siman_lines.specs.Kept.{IsWritten, IsKept};
-ghost use Rattle.siman_lines.specs.Calls.{IsFresh, Stations, HasStation, AreCalls, AreKept, IsBeginningOf, SendsStand, ReceivesSent, RequestsAreOrdered};
+ghost use Rattle.siman_lines.specs.Calls.{IsFresh, Stations, HasStation, AreBegun, AreCalls, AreKept, IsBeginningOf, DeedsStand, ReceivesSent, RequestsAreOrdered, ComesOfCalls};
 
 /// What is kept of stations over one recorder: it holds of them as they are begun, and after every
-/// list of calls of [`serve`](crate::serve), [`issue`](crate::issue) and [`nudge`](crate::nudge),
-/// with faults too. The clause `keeps` of these three is what the law asks of a call.
+/// list of calls of [`serve`](crate::serve), [`issue`](crate::issue), [`nudge`](crate::nudge) and
+/// [`tell`](crate::tell), with faults too. The clause `keeps` of these four is what the law asks of a
+/// call.
 pub fn calls_are_kept()
     // A recorder that was started has written the head of a recording,
     ensures started { (before : Option (List ℕ)) (w : SettingData) (recorder : WriterState) → IsSetting w → Starts before w recorder → IsWritten before recorder [] }
@@ -35,10 +36,20 @@ pub fn what_is_kept_stands()
     // Each request that the station sent is one of its manager's orders.
     ensures requests { (s : ℕ) (n : Node) (recorder : WriterState) (es : List Entry) (handed : Option Datagrams) → IsKept s n recorder es handed
         → RequestsAreOrdered recorder.setting.exercise n.manager (log_at s (past es)) }
-    // Where no site and application used one request identifier for two orders, nothing that it sent has a cause against it,
-    ensures sends { (s : ℕ) (n : Node) (recorder : WriterState) (es : List Entry) (handed : Option Datagrams) → IsKept s n recorder es handed
-        → AreOneOrder n.application.outfit (log_at s (past es)) → SendsStand recorder.setting.exercise (station_in recorder.setting s) (log_at s (past es)) }
+    // Where no site and application used one request identifier for two orders, nothing that it sent or told has a cause against it,
+    ensures deeds { (s : ℕ) (n : Node) (recorder : WriterState) (es : List Entry) (handed : Option Datagrams) → IsKept s n recorder es handed
+        → AreOneOrder n.application.outfit (log_at s (past es)) → DeedsStand recorder.setting.exercise (station_in recorder.setting s) (log_at s (past es)) }
     // and where, besides, each datagram that was received and is not other was sent before, the entries are a run in the order of the file.
-    ensures run { (w : SettingData) (es : List Entry) → ((s : ℕ) → s < length w.stations → SendsStand w.exercise (station_in w s) (log_at s (past es)))
+    ensures run { (w : SettingData) (es : List Entry) → ((s : ℕ) → s < length w.stations → DeedsStand w.exercise (station_in w s) (log_at s (past es)))
         → AllByRecursion (λ v. station_of v < length w.stations) (past es) → ReceivesSent w (past es) → IsRun w (past es) }
+{}
+
+/// What comes of stations over one recorder, from the start of its recording on, after every list of
+/// calls of [`serve`](crate::serve), [`issue`](crate::issue), [`nudge`](crate::nudge) and
+/// [`tell`](crate::tell), with faults too: where no site and application used one request identifier
+/// for two orders, and each datagram that was received and is not other was sent before, the entries
+/// that are written whole are a run in the order of the file.
+pub fn calls_make_a_run()
+    ensures { (before : Option (List ℕ)) (w : SettingData) (stations calls : List ℕ) (old new : Stations) → AreBegun before w stations old
+        → AllByRecursion (λ s. HasStation s stations) calls → AreCalls calls old new → ComesOfCalls before w stations new }
 {}

@@ -8,4 +8,4 @@ pub returns-clause-fresh : goal.returns-clause-fresh
 returns-clause-fresh c = fresh
 
 pub returns-clause-calls : goal.returns-clause-calls
-returns-clause-calls c = all_calls
+returns-clause-calls c = λ before stations calls old new es has is are. (let r = all_calls before stations calls old new es has is are in (r.0, r.2))

@@ -1,5 +1,5 @@
 use Rattle.exercise_model.specs.History.{past}
-use Rattle.siman_lines.proofs.Events.{requests_ordered, sends_stand, all_run}
+use Rattle.siman_lines.proofs.Events.{requests_ordered, deeds_stand, all_run}
 use Rattle.siman_lines.proofs.Stations.{beginning}
 use Rattle.siman_lines.proofs.laws.what_is_kept_stands.Goals as goal
 
@@ -9,8 +9,8 @@ returns-clause-text c = beginning
 pub returns-clause-requests : goal.returns-clause-requests
 returns-clause-requests c = requests_ordered
 
-pub returns-clause-sends : goal.returns-clause-sends
-returns-clause-sends c = sends_stand
+pub returns-clause-deeds : goal.returns-clause-deeds
+returns-clause-deeds c = deeds_stand
 
 pub returns-clause-run : goal.returns-clause-run
 returns-clause-run c = λ w es. all_run w (past es)

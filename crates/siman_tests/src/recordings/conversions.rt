@@ -36,7 +36,15 @@ fn recordings_are_carried_over(rt: HostRuntime) {
     let already = Err(ConvertFault::Already);
     assert!(rt; is_converted(alloc, &ONE_STATION_CLOSED, 26, already, &[]));
     let past = RecordingFault::Format(FormatFault::OverLimit(21));
-    assert!(rt; is_converted(alloc, &ONE_STATION, 24, Err(ConvertFault::Recording(past)), &[]));
+    assert!(rt;
+        is_converted(
+            alloc,
+            &ONE_STATION,
+            24,
+            Err(ConvertFault::Recording(past)),
+            &[]
+        )
+    );
 }
 
 /// Whether entries are carried over as they stand in their file.

@@ -2,6 +2,7 @@
 
 use crate::calls::{Calls, WELL};
 use crate::lines::{Line, Part};
+use crate::post::{Post, nobody};
 use crate::shelf::File;
 use std::alloc::Global;
 use std::io;
@@ -41,6 +42,7 @@ pub(crate) struct Case {
     pub(crate) asked: Option<String>,
     pub(crate) status: u8,
     pub(crate) half_told: bool,
+    pub(crate) post: Post,
     part: Part,
 }
 
@@ -61,6 +63,7 @@ pub(crate) fn first(alloc: Global) -> Case {
         asked: None,
         status: 0,
         half_told: false,
+        post: nobody(alloc),
         part: Part::Out,
     }
 }
@@ -80,6 +83,7 @@ impl Case {
         self.asked = None;
         self.status = 0;
         self.half_told = false;
+        self.post = nobody(self.alloc);
         self.part = Part::Out;
         Ok(())
     }
@@ -96,6 +100,8 @@ impl Case {
             Part::Out => Some(&mut self.out.bytes),
             Part::Errors => Some(&mut self.errors.bytes),
             Part::Left => Some(&mut self.left.bytes),
+            Part::Coming => self.post.coming.last_mut(),
+            Part::Sent => Some(&mut self.post.sent),
         }
     }
 
@@ -163,8 +169,10 @@ impl Case {
     }
 
     fn begin(&mut self, part: Part) -> io::Result<()> {
-        if part == Part::Word {
-            self.words.push(Vec::new(self.alloc))?;
+        match part {
+            Part::Word => self.words.push(Vec::new(self.alloc))?,
+            Part::Coming => self.post.coming.push(Vec::new(self.alloc))?,
+            _ => {}
         }
         self.is_left = self.is_left || part == Part::Left;
         self.part = part;
@@ -173,7 +181,7 @@ impl Case {
 
     fn set_calls(&mut self, calls: Calls) -> bool {
         match self.part {
-            Part::Word => return false,
+            Part::Word | Part::Coming | Part::Sent => return false,
             Part::File => match self.files.last_mut() {
                 Some(file) => file.calls = calls,
                 None => return false,
@@ -217,6 +225,11 @@ impl Case {
             Line::Status(status) => self.status = status,
             Line::AskedNothing => self.asked = Some(String::new(self.alloc)),
             Line::HalfTold => self.half_told = true,
+            Line::Station(station) => self.post.station = Some(station),
+            Line::LineFails(number) => self.post.fails_at = Some(number),
+            Line::Call(call) => self.post.calls.push(call)?,
+            Line::EachCallFails(count) => self.post.each_call = count,
+            Line::EachByteFails => self.post.each_byte = true,
         }
         Ok(true)
     }

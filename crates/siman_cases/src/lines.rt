@@ -1,6 +1,7 @@
 //! The lines of a file of cases.
 
 use crate::calls::Calls;
+use crate::post::Call;
 use std::io::ErrorKind;
 
 /// What the lines behind it fill.
@@ -12,6 +13,8 @@ pub(crate) enum Part {
     Out,
     Errors,
     Left,
+    Coming,
+    Sent,
 }
 
 /// What a line says.
@@ -34,6 +37,11 @@ pub(crate) enum Line<'a> {
     AskedNothing,
     Keep(&'a str),
     HalfTold,
+    Station(u16),
+    LineFails(u64),
+    Call(Call),
+    EachCallFails(u64),
+    EachByteFails,
 }
 
 /// The kind of fault of a name; `nothing` is none.
@@ -70,6 +78,31 @@ fn read_times(text: &str) -> Option<Line<'_>> {
     Some(Line::Times(times.parse::<u32>().ok()?, text))
 }
 
+/// The calls of a station at its line.
+fn read_call(word: &str, rest: &str) -> Option<Call> {
+    Some(match word {
+        "serve" => {
+            let (now, turns) = rest.split_once(' ')?;
+            Call::Serve(now.parse::<u64>().ok()?, turns.parse::<u32>().ok()?)
+        }
+        "issue" => Call::Issue(rest.parse::<u64>().ok()?),
+        "nudge" => Call::Nudge(rest.parse::<u64>().ok()?),
+        "order" => Call::Order(rest.parse::<u32>().ok()?),
+        "entity" => Call::Entity(rest.parse::<u16>().ok()?),
+        _ => return None,
+    })
+}
+
+/// What a line says of a station at its line.
+fn read_post<'a>(word: &str, rest: &str) -> Option<Line<'a>> {
+    Some(match word {
+        "station" => Line::Station(rest.parse::<u16>().ok()?),
+        "line-fails" => Line::LineFails(rest.parse::<u64>().ok()?),
+        "each-call-fails" => Line::EachCallFails(rest.parse::<u64>().ok()?),
+        _ => Line::Call(read_call(word, rest)?),
+    })
+}
+
 /// What a line of one word says.
 fn read_bare(word: &str) -> Option<Line<'_>> {
     Some(match word {
@@ -79,10 +112,13 @@ fn read_bare(word: &str) -> Option<Line<'_>> {
         "out" => Line::Begin(Part::Out),
         "errors" => Line::Begin(Part::Errors),
         "left" => Line::Begin(Part::Left),
+        "comes" => Line::Begin(Part::Coming),
+        "sent" => Line::Begin(Part::Sent),
         "text" => Line::Text(""),
         "words" => Line::Words(""),
         "asked-nothing" => Line::AskedNothing,
         "half-told" => Line::HalfTold,
+        "each-byte-fails" => Line::EachByteFails,
         _ => return None,
     })
 }
@@ -110,6 +146,6 @@ pub(crate) fn read_line(line: &str) -> Option<Line<'_>> {
         "asked" => Line::Asked(rest),
         "keep" => Line::Keep(rest),
         "status" => Line::Status(rest.parse::<u8>().ok()?),
-        _ => return None,
+        _ => read_post(word, rest)?,
     })
 }

@@ -21,18 +21,40 @@
 //! | `keep NAME` | a file must be made, whatever it holds; it stands under this name for the cases behind |
 //! | `status N` | the status that must be answered |
 //! | `half-told` | what is told of faults can't be written whole |
+//! | `line-fails N` | of the calls that lines make the one of this number fails, from 1; 0: no lines can be had |
+//!
+//! A case may be of a station at a line over memory, in the place of the program. The file `script`
+//! says which stations there are. `out` is what the calls must answer, a line each, and behind them
+//! how many datagrams are on the line, whether each is that of a sent entry of its own which is
+//! written whole, and how many entries are; `left` is what must be written of the recording.
+//!
+//! | Line | What it says |
+//! |---|---|
+//! | `station N` | the case is of the station of this number, from 0 |
+//! | `comes` | one datagram more that comes on the line, which the lines behind it fill |
+//! | `sent` | the lines behind it fill what must be on the line: a text of hex digits for each datagram |
+//! | `line-fails N` | the call of this line that fails, from 1 |
+//! | `serve NOW TURNS`, `issue NOW`, `nudge NOW` | the next call; orders are issued as the moves of the script come |
+//! | `order N`, `entity N` | asks how the order of a request identifier stands, or an entity |
+//! | `each-call-fails N` | all is done again, once for each of the first N calls of the line, which fails, and told behind a line that says so |
+//! | `each-byte-fails` | all is done again, once for each byte of `left`, at which the writer fails; the bytes before it must be left then, and on the line just what their whole entries say |
 #![tactic(auto)]
 
 mod agreement;
 mod calls;
 mod case;
+mod entries;
 mod generated;
 mod letter;
 mod lines;
+mod post;
+mod post_call;
+mod post_trial;
 mod random;
 mod scene;
 mod shelf;
 mod trial;
+mod wire;
 
 use crate::generated::try_generated;
 use crate::trial::{Tally, try_cases};

@@ -1,8 +1,8 @@
 //! Files in memory, and what was asked for.
 
 use crate::calls::{Calls, Given, Kept, read_from, write_to};
+use crate::wire::{WireLine, lines_of};
 use siman_console::Outside;
-use siman_lines::MemoryLine;
 use std::alloc::Global;
 use std::io;
 use std::io::ErrorKind;
@@ -25,23 +25,31 @@ pub(crate) struct Shelf<'a> {
     files: &'a [File],
     /// How the calls of a file that is made go.
     makes: Calls,
+    /// The number of the call that fails, from 1, of those that lines make; 0: no lines can be had.
+    line_fails: Option<u64>,
     pub(crate) asked: String,
     pub(crate) left: Option<Vec<u8>>,
 }
 
 /// A shelf with these files, of which nothing was asked so far.
-pub(crate) fn filled(alloc: Global, files: &[File], makes: Calls) -> Shelf<'_> {
+pub(crate) fn filled(
+    alloc: Global,
+    files: &[File],
+    makes: Calls,
+    line_fails: Option<u64>,
+) -> Shelf<'_> {
     Shelf {
         alloc,
         files,
         makes,
+        line_fails,
         asked: String::new(alloc),
         left: None,
     }
 }
 
 /// The last file of a name.
-fn found<'a>(files: &'a [File], name: &str) -> Option<&'a File> {
+pub(crate) fn found<'a>(files: &'a [File], name: &str) -> Option<&'a File> {
     files.iter().rfind(|file| file.name.as_str() == name)
 }
 
@@ -50,7 +58,7 @@ impl<'a> Outside for Shelf<'a> {
 
     type Made = Kept;
 
-    type Line = MemoryLine;
+    type Line = WireLine;
 
     fn open(&mut self, name: &str) -> io::Result<Given<'a>> {
         self.asked.push_str(name)?;
@@ -83,12 +91,10 @@ impl<'a> Outside for Shelf<'a> {
         self.left = Some(file.bytes);
     }
 
-    // Over these lines nothing comes.
-    fn lines(&mut self, alloc: Global, stations: usize) -> io::Result<Vec<MemoryLine>> {
-        let mut lines = Vec::new(alloc);
-        for _ in 0..stations {
-            lines.push(MemoryLine::new(alloc, Vec::new(alloc), None))?;
+    fn lines(&mut self, alloc: Global, stations: usize) -> io::Result<Vec<WireLine>> {
+        if self.line_fails == Some(0) {
+            return Err(io::Error::from(ErrorKind::Other));
         }
-        Ok(lines)
+        Ok(lines_of(alloc, stations, self.line_fails)?)
     }
 }

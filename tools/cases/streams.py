@@ -10,7 +10,7 @@ from pages import Outcome
 
 def try_opening(trials, examples):
     good, certificate, _ = examples
-    bad, bad_steps = trials.file(b"DSRC0002"), trials.file(b"DSCT0002")
+    bad, bad_steps = trials.file(b"DSRC0003"), trials.file(b"DSCT0002")
     missing, also, folder = "none.dsrc", "none at all é.dsct", "examples"
     for name in [missing, also, "", "-", "x" * 300, "a/" * 3000, f"{good}/under"]:
         trials.expect(["show", name], pages.fault(f"file: {name}"))

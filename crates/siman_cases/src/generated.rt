@@ -89,7 +89,7 @@ fn entry(alloc: Global, deed: Deed, stamp: u64) -> Result<LogEntry, AllocError> 
 }
 
 /// A recording of a scene that is made up.
-fn recording(alloc: Global, random: Random) -> Result<Recording, LogFault> {
+pub(crate) fn recording(alloc: Global, random: Random) -> Result<Recording, LogFault> {
     let Ok(mut scene) = begin(alloc, random) else {
         return Err(LogFault::Memory);
     };

@@ -47,12 +47,16 @@ fn recordings_are_carried_over(rt: HostRuntime) {
     );
 }
 
+/// Whether these are the bytes of the recording of three entries in the second format, closed.
+fn are_carried_over(kept: &[u8]) -> bool {
+    kept.len() >= 10 && kept[..10] == ONE_STATION_CLOSED[..10] && kept[10..] == THREE_ENTRIES[9..]
+}
+
 /// Whether entries are carried over as they stand in their file.
 fn keeps_entries(alloc: Global) -> bool {
     let mut out = writer(alloc, 0);
     convert(alloc, &THREE_ENTRIES[..], 60, &mut out) == Ok(3)
-        && out.kept.as_slice()[..10] == ONE_STATION_CLOSED[..10]
-        && out.kept.as_slice()[10..] == THREE_ENTRIES[9..]
+        && are_carried_over(out.kept.as_slice())
 }
 
 /// Whether a read or a write that fails is told, and how much is left then.

@@ -6,10 +6,15 @@ proves and builds, and tries
 
 - the worked examples of each command with memory refused at each allocation in turn, to that one alone and to it and all
   after it: the answer is the usual one or `memory` (tools/cases/rows.py);
+- the calls of the library that take memory, with each allocation refused in turn: the call says `Memory`, what it was
+  lent is as before, and made again it answers as usual (tools/cases/calls.py);
 - a datagram of each kind, cut to every length (tools/cases/cuts.py), and each read and each write of `check` and of a
   trial failed in turn (tools/cases/failing.py); both stand as cases in crates/siman_cases/data too, where the gate runs
   them, and have to stand there as they are made here;
-- the program at each of its limits, one below and one above, with the time and the memory that each run takes
+- inputs that are made up and spoilt, in one process: datagrams, recordings with certificates, scripts and command lines
+  (crates/siman_cases/src/inputs.rt says what is asked of each answer);
+- a recording with as many entries as there can be, a long exercise with 100,000 calls of each machine behind it, and the
+  program at each of its limits, one below and one above, with the time and the memory that each run takes
   (tools/cases/limits.py).
 
 Each wrong case is told in one line; the last line is `N tried, M wrong`, and the status is 1 if any is wrong. It is no
@@ -26,11 +31,29 @@ from pathlib import Path
 
 sys.dont_write_bytecode = True
 
-from cases import cuts, failing, limits, memory, rows
+from cases import calls, cuts, failing, limits, memory, rows
 from cases.examples import TOP, made_examples
 from cases.trials import Trials, Verdict, described
 
 DATA = TOP / "crates" / "siman_cases" / "data"
+LOAD = b"""world records=102000 sent=51000
+explained, and its trial says the same: true
+101999 sent 1 stamp=0 acknowledge version=7 exercise=1 stamp=0 status=0 from=2:3:7 to=1:1:0 flag=3 response=1 request=1
+entity 2:3:7 running
+no step=102000 cause=13 wrong-state
+blocked stations=1
+blocked 2:3 record=102000 cause=13 wrong-state
+orders: 100000
+requests: 100000
+served: 100000, issued: 100000, nudged: 100000
+on the line: 300000
+"""
+FULL = b"""push of one entry more: count
+told of one entry more: count
+finish: 6291478 bytes
+read: 1048576 entries
+read with one entry more: count at 6291473
+"""
 
 
 def arguments():
@@ -39,7 +62,9 @@ def arguments():
     crates = TOP / "crates"
     parser.add_argument("--program", type=Path, default=crates / "siman" / "out" / "siman")
     parser.add_argument("--cases", type=Path, default=crates / "siman_cases" / "out" / "siman_cases")
-    parser.add_argument("--parts", default="memory,cuts,limits", help="which parts, commas between")
+    parser.add_argument("--inputs", type=int, default=100_000, help="how many inputs are made up (100000)")
+    parser.add_argument("--first", type=int, default=0, help="the number of the first of them: the same number, the same input")
+    parser.add_argument("--parts", default="memory,calls,cuts,inputs,full,load,limits", help="which parts, commas between")
     given = parser.parse_args()
     for program in (given.program, given.cases):
         if not os.access(program, os.X_OK):
@@ -49,8 +74,11 @@ def arguments():
 
 def told_cases(program, *words):
     """What siman_cases prints for these words, with its status, run beside its data."""
+    started, before = time.monotonic(), os.times()
     done = subprocess.run([program, *words], cwd=DATA, capture_output=True, check=False)
-    return done.returncode, done.stdout
+    used = os.times()
+    spent = used.children_user + used.children_system - before.children_user - before.children_system
+    return done.returncode, done.stdout, f"{time.monotonic() - started:.1f} seconds, {spent:.1f} of the processor"
 
 
 def try_data(program):
@@ -58,21 +86,41 @@ def try_data(program):
     for name, made in (("cut.cases", cuts.cases()), ("failing.cases", failing.cases())):
         text = "\n".join(made) + "\n"
         yield Verdict(f"{name} is as it is made", (True,), text == (DATA / name).read_text(encoding="utf-8"))
-        status, out = told_cases(program, name)
+        status, out, _ = told_cases(program, name)
         yield Verdict(f"the cases of {name}", ((0, 0),), (status, int(re.search(rb", (\d+) otherwise", out).group(1))))
+
+
+def try_inputs(program, count, first):
+    status, out, took = told_cases(program, f"inputs:{count}:{first}")
+    sys.stdout.write(out.decode(errors="backslashreplace"))
+    print(f"{count} inputs from number {first} on took {took}")
+    otherwise = re.search(rb"\notherwise (\d+)\n", out)
+    yield Verdict(f"{count} inputs", ((0, 0),), (status, int(otherwise.group(1)) if otherwise else None))
 
 
 def verdicts(given, folder):
     trials = Trials(str(given.program.resolve()), folder)
     examples = made_examples(folder)
     parts, cases = given.parts.split(","), str(given.cases.resolve())
+    counts = {}
     if "memory" in parts:
         memory.try_answers(trials, rows.rows(trials))
+    if "calls" in parts:
+        counts = calls.try_calls(trials, cases)
     if "cuts" in parts:
         cuts.try_all(trials)
     yield from trials.verdicts()
+    for line, count in sorted(counts.items()):
+        print(f"{line} in {count} runs")
     if "cuts" in parts:
         yield from try_data(cases)
+    for word, text in (("full", FULL), ("load", LOAD)):
+        if word in parts:
+            status, out, took = told_cases(cases, word)
+            print(f"{word} took {took}")
+            yield Verdict(word, ((0, text),), (status, out))
+    if "inputs" in parts:
+        yield from try_inputs(cases, given.inputs, given.first)
     if "limits" in parts:
         tried, lines = limits.try_all(trials)
         print("\n".join(lines))

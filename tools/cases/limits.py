@@ -1,5 +1,6 @@
 """The whole at its limits: one below, at, and one above, each with the time and the memory that it takes."""
 import os
+import shutil
 import struct
 import subprocess
 import time
@@ -74,6 +75,21 @@ class Measured:
     def __init__(self, trials):
         self.trials, self.program, self.folder = trials, trials.program, trials.folder
         self.verdicts, self.lines = [], []
+        # A child's peak memory starts at its parent's, and `time` is a small parent.
+        self.time = shutil.which("time")
+        if self.time is None:
+            trials.skipped.append("the memory at the limits: no program time")
+
+    def measured(self, words):
+        """The words that run the program, and write its peak memory in KiB to a file."""
+        kept = self.folder / "limit.memory"
+        kept.write_text("-")
+        return [self.time, "-q", "-f", "%M", "-o", kept, *words] if self.time else words
+
+    def memory(self):
+        """The peak memory of the last run in MiB, as it was written."""
+        kept = (self.folder / "limit.memory").read_text().strip()
+        return "-" if kept == "-" else str(int(kept) // MEBIBYTE)
 
     def run(self, limit, where, words, expected, given=b""):
         """One run. Output goes to files, so nothing of this script counts."""
@@ -81,7 +97,8 @@ class Measured:
         (self.folder / "limit.in").write_bytes(given)
         started = time.monotonic()
         with open(out, "wb") as to, open(errors, "wb") as told, open(self.folder / "limit.in", "rb") as fed:
-            done = subprocess.Popen([self.program, *words], stdin=fed, stdout=to, stderr=told, cwd=self.folder)
+            measured = self.measured([self.program, *words])
+            done = subprocess.Popen(measured, stdin=fed, stdout=to, stderr=told, cwd=self.folder)
             _, ended, used = os.wait4(done.pid, 0)
             done.returncode = os.waitstatus_to_exitcode(ended)
         seconds = time.monotonic() - started
@@ -89,7 +106,7 @@ class Measured:
         self.verdicts.append(Verdict(f"{limit}, {where}: siman {words[0] if words else 'trial'}", (expected,), came))
         self.lines.append(
             f"{limit} | {where} | {words[0] if words else 'no words'} | {came.status} | "
-            f"{used.ru_utime + used.ru_stime:.2f} | {seconds:.2f} | {used.ru_maxrss // MEBIBYTE}"
+            f"{used.ru_utime + used.ru_stime:.2f} | {seconds:.2f} | {self.memory()}"
         )
 
     def file(self, name, text):

@@ -105,7 +105,7 @@ fn recorded(form: Form, scene: &Scene) -> usize {
 }
 
 /// A recording of a form, of a scene that is made up.
-fn recording(alloc: Global, form: Form, random: Random) -> Result<Recording, LogFault> {
+pub(crate) fn recording(alloc: Global, form: Form, random: Random) -> Result<Recording, LogFault> {
     let Ok(mut scene) = begin(alloc, random) else {
         return Err(LogFault::Memory);
     };

@@ -38,25 +38,44 @@
 //! | `order N`, `entity N` | asks how the order of a request identifier stands, or an entity |
 //! | `each-call-fails N` | all is done again, once for each of the first N calls of the line, which fails, and told behind a line that says so |
 //! | `each-byte-fails` | all is done again, once for each byte of `left`, at which the writer fails; the bytes before it must be left then, and on the line just what their whole entries say |
+//!
+//! In the place of a file a word may ask for something else:
+//!
+//! | Word | What is tried |
+//! |---|---|
+//! | `COUNT` | so many recordings that are made up, by the checker and the search and by the plain ones |
+//! | `inputs:COUNT`, `inputs:COUNT:FIRST` | so many datagrams, recordings with certificates, scripts and command lines that are made up and spoilt, from a number on |
+//! | `calls` | the calls that take memory, with what each says |
+//! | `full` | a recording with as many entries as there can be |
+//! | `load` | a long exercise, and as many orders and requests |
 #![tactic(auto)]
 
 mod agreement;
 mod calls;
 mod case;
 mod entries;
+mod full;
 mod generated;
+mod inputs;
 mod letter;
 mod lines;
+mod load;
 mod post;
 mod post_call;
 mod post_trial;
+mod ran;
 mod random;
+mod refusals;
 mod scene;
 mod shelf;
 mod trial;
 mod wire;
 
+use crate::full::put_full;
 use crate::generated::try_generated;
+use crate::inputs::try_inputs;
+use crate::load::put_load;
+use crate::refusals::put_calls;
 use crate::trial::{Tally, try_cases};
 use exercise_model::Form;
 use std::alloc::Global;
@@ -101,21 +120,60 @@ fn try_made_up(rt: &HostRuntime, alloc: Global, count: u32) -> io::Result<bool> 
     Ok(closed.are_good(Form::First) && open.are_good(Form::Open))
 }
 
-/// Tries the files that the words of the command line name; a number stands for so many recordings
-/// that are made up, and as many open ones.
-fn try_files(rt: &HostRuntime, alloc: Global) -> io::Result<bool> {
+/// Tries inputs that are made up and spoilt, and prints how they ended.
+fn try_spoilt(rt: &HostRuntime, alloc: Global, count: u64, first: u64) -> io::Result<bool> {
+    let mut out = rt.stdout();
+    let ends = try_inputs(alloc, count, first, &mut out)?;
+    writeln!(
+        out,
+        "{count} inputs made up and spoilt, from number {first} on"
+    )?;
+    ends.print(&mut out)?;
+    Ok(ends.otherwise == 0)
+}
+
+/// How many inputs a word asks for, and the number of the first: `inputs:COUNT` or
+/// `inputs:COUNT:FIRST`.
+fn read_inputs(word: &str) -> Option<(u64, u64)> {
+    let numbers = word.strip_prefix("inputs:")?;
+    match numbers.split_once(':') {
+        Some((count, first)) => Some((count.parse::<u64>().ok()?, first.parse::<u64>().ok()?)),
+        None => Some((numbers.parse::<u64>().ok()?, 0)),
+    }
+}
+
+/// Tries what a word of the command line names: inputs that are made up and spoilt, the calls that
+/// take memory, as many entries as there can be, a long exercise, so many recordings that are made
+/// up, or a file.
+fn try_word(rt: &HostRuntime, alloc: Global, word: &str) -> io::Result<bool> {
+    if let Some((count, first)) = read_inputs(word) {
+        return try_spoilt(rt, alloc, count, first);
+    }
+    match word {
+        "calls" => put_calls(alloc, &mut rt.stdout())?,
+        "full" => put_full(alloc, &mut rt.stdout())?,
+        "load" => put_load(alloc, &mut rt.stdout())?,
+        _ => {
+            return match word.parse::<u32>() {
+                Ok(count) => try_made_up(rt, alloc, count),
+                Err(_) => try_file(rt, alloc, word),
+            };
+        }
+    }
+    Ok(true)
+}
+
+/// Tries what the words of the command line name.
+fn try_words(rt: &HostRuntime, alloc: Global) -> io::Result<bool> {
     let mut good = true;
-    for name in env::args(rt)?.skip(1) {
-        good = match name.parse::<u32>() {
-            Ok(count) => try_made_up(rt, alloc, count)?,
-            Err(_) => try_file(rt, alloc, &name)?,
-        } && good;
+    for word in env::args(rt)?.skip(1) {
+        good = try_word(rt, alloc, &word)? && good;
     }
     Ok(good)
 }
 
 fn main(rt: HostRuntime) -> ExitCode {
-    match try_files(&rt, rt.alloc()) {
+    match try_words(&rt, rt.alloc()) {
         Ok(true) => ExitCode::from(0),
         Ok(false) => ExitCode::from(1),
         Err(_) => ExitCode::from(2),

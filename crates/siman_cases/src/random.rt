@@ -17,6 +17,11 @@ impl Random {
         if end == 0 { 0 } else { high % end }
     }
 
+    /// The next byte.
+    pub(crate) fn byte(&mut self) -> u8 {
+        (self.below(256) % 256) as u8
+    }
+
     /// Whether a die of so many sides shows its first.
     pub(crate) fn one_in(&mut self, sides: usize) -> bool {
         self.below(sides) == 0

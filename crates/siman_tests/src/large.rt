@@ -2,9 +2,4 @@
 
 mod commands;
 mod datums;
-mod exchanges;
-mod files;
-mod orders;
 mod records;
-mod ticks;
-mod verdicts;

@@ -52,7 +52,7 @@ fn begin(alloc: Global, first_id: u32, tries: u32) -> Result<Manager, Fail>
 }
 
 /// A Create Entity for the station's entity 9.
-pub(crate) fn creation() -> Order
+fn creation() -> Order
     ensures { IsTrue (is_request_body result.body) }
 {
     Order {
@@ -62,7 +62,7 @@ pub(crate) fn creation() -> Order
 }
 
 /// Its PDU under an identifier, with a timestamp.
-pub(crate) fn creation_pdu(request: u32, stamp: u32) -> Pdu {
+fn creation_pdu(request: u32, stamp: u32) -> Pdu {
     Pdu {
         version: Version::V7,
         exercise: 3,
@@ -142,7 +142,7 @@ fn order_setting(
 }
 
 /// What an Acknowledge that comes means to the manager.
-pub(crate) fn take(manager: &mut Manager, exercise: u8, response: u16, request: u32) -> Taken {
+fn take(manager: &mut Manager, exercise: u8, response: u16, request: u32) -> Taken {
     let pdu = acknowledge(exercise, response, request);
     manager.take(&pdu)
 }

@@ -1,0 +1,18 @@
+//! A long exercise, and machines that are called often: about 100,000 of each, so that nothing gives
+//! up under load.
+
+mod exercise;
+mod machines;
+
+use crate::load::exercise::put_exercise;
+use crate::load::machines::{put_halves, put_station};
+use std::alloc::Global;
+use std::io;
+use std::io::Write;
+
+/// Makes the long exercise, calls a manager, an application and a station, and prints how it went.
+pub(crate) fn put_load<W: Write>(alloc: Global, out: &mut W) -> io::Result<()> {
+    put_exercise(alloc, out)?;
+    put_halves(alloc, out)?;
+    put_station(alloc, out)
+}

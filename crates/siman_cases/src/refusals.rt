@@ -20,9 +20,9 @@ pub(crate) use crate::refusals::machines::{
     application, creation, creation_under, manager, ordered,
 };
 pub(crate) use crate::refusals::recordings::{CREATE, station, unmade};
-pub(crate) use crate::refusals::stations::Post;
 use crate::refusals::recordings::{Checking, Pushing, Reading, ReadingSteps, Searching, Seeing};
 use crate::refusals::scripts::{Performing, ReadingScript, RunningWorld, Trying};
+pub(crate) use crate::refusals::stations::Post;
 use crate::refusals::stations::{Issuing, Nudging, Serving};
 use std::alloc::Global;
 use std::io;

@@ -2,6 +2,7 @@
 
 mod answers;
 mod datagrams;
+mod datums;
 mod logs;
 mod repeats;
 mod scenes;

@@ -3,8 +3,6 @@
 /// Site, application and entity number.
 pub(crate) type Id = [u8; 6];
 
-pub(crate) const MANAGER: Id = [0, 1, 0, 1, 0, 0];
-
 /// Entity 7 of 2:3.
 pub(crate) const SEVEN: Id = [0, 2, 0, 3, 0, 7];
 
@@ -40,11 +38,6 @@ pub(crate) const CREATE: [u8; 28] = [
     7, 1, 11, 5, 0, 0, 0, 0, 0, 28, 0, 0, 0, 1, 0, 1, 0, 0, 0, 2, 0, 3, 0, 7, 0, 0, 0, 1,
 ];
 
-/// The same with another timestamp.
-pub(crate) const CREATE_LATER: [u8; 28] = [
-    7, 1, 11, 5, 0, 0, 0, 20, 0, 28, 0, 0, 0, 1, 0, 1, 0, 0, 0, 2, 0, 3, 0, 7, 0, 0, 0, 1,
-];
-
 /// The Acknowledge of the creation, able to comply.
 pub(crate) const ABLE: [u8; 32] = [
     7, 1, 15, 5, 0, 0, 0, 0, 0, 32, 0, 0, 0, 2, 0, 3, 0, 7, 0, 1, 0, 1, 0, 0, 0, 1, 0, 1, 0, 0, 0,
@@ -77,27 +70,3 @@ pub(crate) fn acknowledge(from: Id, flag: u8, response: u8, request: u8) -> [u8;
         response, 0, 0, 0, request,
     ]
 }
-
-/// A Data Query for nothing, from the manager.
-pub(crate) const QUERY: [u8; 40] = [
-    7, 1, 18, 5, 0, 0, 0, 0, 0, 40, 0, 0, 0, 1, 0, 1, 0, 0, 0, 2, 0, 3, 0, 0, 0, 0, 0, 1, 0, 0, 0,
-    0, 0, 0, 0, 0, 0, 0, 0, 0,
-];
-
-/// A Data with nothing, to the manager.
-pub(crate) const DATA: [u8; 40] = [
-    7, 1, 20, 5, 0, 0, 0, 0, 0, 40, 0, 0, 0, 2, 0, 3, 0, 0, 0, 1, 0, 1, 0, 0, 0, 0, 0, 1, 0, 0, 0,
-    0, 0, 0, 0, 0, 0, 0, 0, 0,
-];
-
-/// A Comment without records, to the manager.
-pub(crate) fn comment(from: Id) -> [u8; 32] {
-    let [s, t, a, b, e, f] = from;
-    [
-        7, 1, 22, 5, 0, 0, 0, 0, 0, 32, 0, 0, s, t, a, b, e, f, 0, 1, 0, 1, 0, 0, 0, 0, 0, 0, 0, 0,
-        0, 0,
-    ]
-}
-
-/// The head of an Entity State: PDU type 1 of protocol family 1.
-pub(crate) const ENTITY_STATE: [u8; 12] = [7, 1, 1, 1, 0, 0, 0, 0, 0, 12, 0, 0];

@@ -14,8 +14,6 @@ mod datagrams;
 #[cfg(test)]
 mod faults;
 #[cfg(test)]
-mod large;
-#[cfg(test)]
 mod managers;
 #[cfg(test)]
 mod pdus;
@@ -30,12 +28,6 @@ mod scenes;
 #[cfg(test)]
 mod scripts;
 #[cfg(test)]
-mod searches;
-#[cfg(test)]
 mod streams;
-#[cfg(test)]
-mod turns;
-#[cfg(test)]
-mod verdicts;
 #[cfg(test)]
 mod worlds;

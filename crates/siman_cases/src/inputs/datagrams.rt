@@ -23,10 +23,17 @@ fn put_variable(random: &mut Random, bytes: &mut Vec<u8>) -> Result<(), AllocErr
     put_some(random, bytes, bits.div_ceil(64).saturating_mul(8))
 }
 
+/// A number of records: now and then about as many as a datagram holds.
+fn count_of(random: &mut Random) -> usize {
+    let most = if random.one_in(100) { 1030 } else { 3 };
+    random.below(most)
+}
+
 /// Puts the numbers of records and the records, which are identifiers where `are_ids` says so.
 fn put_records(random: &mut Random, bytes: &mut Vec<u8>, are_ids: bool) -> Result<(), AllocError> {
-    let (fixed, variable) = (random.below(3), random.below(3));
-    bytes.extend_from_slice(&[0, 0, 0, (fixed % 256) as u8])?;
+    let (fixed, variable) = (count_of(random), random.below(3));
+    let [high, low] = ((fixed % 65536) as u16).to_be_bytes();
+    bytes.extend_from_slice(&[0, 0, high, low])?;
     bytes.extend_from_slice(&[0, 0, 0, (variable % 256) as u8])?;
     if are_ids {
         return put_some(
@@ -103,10 +110,19 @@ fn is_shown(alloc: Global, shown: &PduView<'_>, pdu: &Pdu) -> bool {
     }
 }
 
-/// Whether a PDU that was read is shown in place alike, and comes back where it is written.
+/// Whether the copy of a PDU is the same PDU.
+fn is_copied(alloc: Global, pdu: &Pdu) -> bool {
+    match pdu.copy(alloc) {
+        Ok(copy) => copy == *pdu,
+        Err(_) => false,
+    }
+}
+
+/// Whether a PDU that was read is shown in place alike, and comes back where it is written or copied.
 fn comes_back(alloc: Global, bytes: &[u8], pdu: &Pdu) -> bool {
+    let comes = is_written_back(alloc, pdu) && is_copied(alloc, pdu);
     match view(bytes) {
-        Ok(shown) => is_shown(alloc, &shown, pdu) && is_written_back(alloc, pdu),
+        Ok(shown) => comes && is_shown(alloc, &shown, pdu),
         Err(_) => false,
     }
 }

@@ -240,7 +240,11 @@ fn is_searched(
 /// behind the magic, the exercise and the flag, and nothing else.
 fn is_carried(bytes: &[u8], is_read: bool, carried: &Ran) -> bool {
     let (Some(rest), true) = (bytes.strip_prefix(b"DSRC0001"), is_read) else {
-        let told: &[u8] = if is_read { b"recording: already\n" } else { b"recording: " };
+        let told: &[u8] = if is_read {
+            b"recording: already\n"
+        } else {
+            b"recording: "
+        };
         return carried.is_fault() && carried.errors.starts_with(told);
     };
     let (Some((exercise, old)), Some(new)) = (rest.split_first(), &carried.left) else {

@@ -1,11 +1,8 @@
 //! Datagrams in place: what a view shows, and the PDU that is made of it.
 
-use super::datagrams::{
-    ACKNOWLEDGE, ACTION_REQUEST, DATA, DATA_QUERY, EVENT_REPORT, SET_DATA, START_RESUME,
-};
-use crate::datagrams::{ABLE, CREATE, CREATE_LATER};
-use dis_records::{DatumsView, FixedDatum, HeaderFault, IdsView, VariableView};
-use siman_pdus::*;
+use super::datagrams::{ACTION_REQUEST, DATA_QUERY};
+use dis_records::{DatumsView, FixedDatum, IdsView, VariableView};
+use siman_pdus::{Body, BodyView, Pdu, PduView, view};
 use std::alloc::Global;
 
 /// A Comment with one variable record, of 12 bits in the bytes AB C5.
@@ -33,14 +30,6 @@ fn is_made(alloc: Global, shown: &PduView<'_>, pdu: &Pdu) -> bool {
     match shown.to_pdu(alloc) {
         Ok(made) => made == *pdu,
         Err(_) => false,
-    }
-}
-
-/// Why a datagram is not shown.
-pub(super) fn refusal(bytes: &[u8]) -> Option<PduFault> {
-    match view(bytes) {
-        Ok(_) => None,
-        Err(fault) => Some(PduFault::from(fault)),
     }
 }
 
@@ -174,163 +163,4 @@ fn is_query(bytes: &[u8], fixed: [u32; 2], variable: u32) -> bool {
 #[test]
 fn identifiers_are_shown_in_order(rt: HostRuntime) {
     assert!(rt; is_query(&DATA_QUERY, [10, 12], 5));
-}
-
-/// The first refusal, from 0, that a view tells otherwise.
-fn first_otherwise(rows: &[(&[u8], ViewFault)]) -> Option<usize> {
-    for (i, (bytes, fault)) in rows.iter().enumerate() {
-        if view(bytes).err() != Some(*fault) {
-            return Some(i);
-        }
-    }
-    None
-}
-
-#[test]
-fn refusals_of_a_header_are_told(rt: HostRuntime) {
-    let mut old = CREATE;
-    old[0] = 5;
-    let mut other = CREATE;
-    other[3] = 1;
-    let mut unknown = CREATE;
-    unknown[2] = 23;
-    let mut longer = CREATE;
-    longer[9] = 40;
-    let mut long = [0; 8193];
-    long[..28].copy_from_slice(&CREATE);
-    let rows: [(&[u8], ViewFault); 6] = [
-        (&CREATE[..11], ViewFault::Header(HeaderFault::Truncated)),
-        (&old, ViewFault::Header(HeaderFault::Version(5))),
-        (&other, ViewFault::Header(HeaderFault::Family(1))),
-        (&unknown, ViewFault::Header(HeaderFault::Kind(23))),
-        (&long, ViewFault::Header(HeaderFault::Long)),
-        (&longer, ViewFault::Header(HeaderFault::LengthField(40))),
-    ];
-    assert_eq!(rt; first_otherwise(&rows), None);
-}
-
-#[test]
-fn refusals_of_a_body_are_told(rt: HostRuntime) {
-    let mut short = CREATE;
-    short[9] = 20;
-    let mut long = [0; 30];
-    long[..28].copy_from_slice(&CREATE);
-    long[9] = 30;
-    let rows: [(&[u8], ViewFault); 2] = [
-        (&short[..20], ViewFault::BodyShort(12)),
-        (&long, ViewFault::BodyLong(28)),
-    ];
-    assert_eq!(rt; first_otherwise(&rows), None);
-}
-
-/// Whether a refusal has this text and, among the faults of decoding, this number.
-fn is_told(alloc: Global, fault: ViewFault, text: &str, number: u8) -> Option<bool> {
-    let told = format!(in alloc; "{fault}").ok()?;
-    Some(told.as_str() == text && PduFault::from(fault).number() == number)
-}
-
-#[test]
-fn refusals_have_the_texts_of_decoding(rt: HostRuntime) {
-    let alloc = rt.alloc();
-    let header = ViewFault::Header(HeaderFault::Version(5));
-    assert_eq!(rt; is_told(alloc, header, "version 5", 2), Some(true));
-    let short = ViewFault::BodyShort(12);
-    assert_eq!(rt; is_told(alloc, short, "body-short at 12", 7), Some(true));
-    let long = ViewFault::BodyLong(28);
-    assert_eq!(rt; is_told(alloc, long, "body-long at 28", 8), Some(true));
-}
-
-/// What is told of a PDU: its role, its request identifier, and whether it is a request.
-type Told = (Role, Option<u32>, bool);
-
-fn told<M: Message>(pdu: &M) -> Told {
-    (role(pdu), request_id(pdu), is_request(pdu))
-}
-
-/// Whether this is told of the view of a datagram, and of its PDU.
-fn both_tell(alloc: Global, bytes: &[u8], expected: Told) -> Option<bool> {
-    let shown = view(bytes).ok()?;
-    let pdu = shown.to_pdu(alloc).ok()?;
-    Some(told(&shown) == expected && told(&pdu) == expected)
-}
-
-/// The number of the first datagram, from 0, of which something else is told.
-fn first_told_otherwise(alloc: Global, rows: &[(&[u8], Told)]) -> Option<usize> {
-    for (i, (bytes, expected)) in rows.iter().enumerate() {
-        if both_tell(alloc, bytes, *expected) != Some(true) {
-            return Some(i);
-        }
-    }
-    None
-}
-
-#[test]
-fn roles_are_told_of_both_forms(rt: HostRuntime) {
-    let mut outside = ACKNOWLEDGE;
-    outside[25] = 5;
-    let rows: [(&[u8], Told); 9] = [
-        (&CREATE, (Role::Request, Some(1), true)),
-        (&START_RESUME, (Role::Request, Some(3), true)),
-        (&ACKNOWLEDGE, (Role::Answer, Some(0xFFFF_FFFF), false)),
-        (&outside, (Role::Outside, Some(0xFFFF_FFFF), false)),
-        (&ACTION_REQUEST, (Role::Request, Some(5), true)),
-        (&DATA_QUERY, (Role::Request, Some(6), true)),
-        (&DATA, (Role::Answer, Some(6), false)),
-        (&EVENT_REPORT, (Role::Notice, None, false)),
-        (&COMMENT, (Role::Notice, None, false)),
-    ];
-    assert_eq!(rt; first_told_otherwise(rt.alloc(), &rows), None);
-}
-
-/// Whether a PDU is the same order as another one, and whether it answers it.
-fn compared<M: Message>(first: &M, second: &M) -> (bool, bool) {
-    (same_order(first, second), answers(first, second))
-}
-
-/// Whether the views of two datagrams compare so, and their PDUs.
-fn both_compare(
-    alloc: Global,
-    first: &[u8],
-    second: &[u8],
-    expected: (bool, bool),
-) -> Option<bool> {
-    let (one, other) = (view(first).ok()?, view(second).ok()?);
-    let (pdu, pdu2) = (one.to_pdu(alloc).ok()?, other.to_pdu(alloc).ok()?);
-    Some(compared(&one, &other) == expected && compared(&pdu, &pdu2) == expected)
-}
-
-/// The number of the first two datagrams, from 0, that compare otherwise.
-fn first_compared_otherwise(alloc: Global, rows: &[(&[u8], &[u8], (bool, bool))]) -> Option<usize> {
-    for (i, (first, second, expected)) in rows.iter().enumerate() {
-        if both_compare(alloc, first, second, *expected) != Some(true) {
-            return Some(i);
-        }
-    }
-    None
-}
-
-#[test]
-fn orders_and_answers_are_told_of_both_forms(rt: HostRuntime) {
-    let mut unused = COMMENT;
-    unused[41] = 0xCF;
-    let mut used = COMMENT;
-    used[41] = 0xD5;
-    let mut last = ACTION_REQUEST;
-    last[88] = 0xAC;
-    let mut asked = DATA_QUERY;
-    asked[51] = 6;
-    let mut value = SET_DATA;
-    value[47] = 8;
-    let rows: [(&[u8], &[u8], (bool, bool)); 9] = [
-        (&CREATE, &CREATE_LATER, (true, false)),
-        (&ABLE, &CREATE, (false, true)),
-        (&ACKNOWLEDGE, &START_RESUME, (false, false)),
-        (&DATA, &DATA_QUERY, (false, true)),
-        (&COMMENT, &unused, (true, false)),
-        (&COMMENT, &used, (false, false)),
-        (&ACTION_REQUEST, &last, (false, false)),
-        (&DATA_QUERY, &asked, (false, false)),
-        (&SET_DATA, &value, (false, false)),
-    ];
-    assert_eq!(rt; first_compared_otherwise(rt.alloc(), &rows), None);
 }

@@ -1,4 +1,4 @@
-//! An application with many datums.
+//! An application with many datums, for which there is memory.
 
 use crate::scenes::station;
 use dis_records::{EntityId, FixedDatum, Version};

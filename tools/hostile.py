@@ -36,6 +36,7 @@ from cases.examples import TOP, made_examples
 from cases.trials import Trials, Verdict, described
 
 DATA = TOP / "crates" / "siman_cases" / "data"
+PATIENCE = 1200  # seconds for one run of siman_cases
 LOAD = b"""world records=102000 sent=51000
 explained, and its trial says the same: true
 101999 sent 1 stamp=0 acknowledge version=7 exercise=1 stamp=0 status=0 from=2:3:7 to=1:1:0 flag=3 response=1 request=1
@@ -73,12 +74,16 @@ def arguments():
 
 
 def told_cases(program, *words):
-    """What siman_cases prints for these words, with its status, run beside its data."""
+    """The status and the output of siman_cases for these words, run beside its data, and how long it took."""
     started, before = time.monotonic(), os.times()
-    done = subprocess.run([program, *words], cwd=DATA, capture_output=True, check=False)
+    try:
+        done = subprocess.run([program, *words], cwd=DATA, capture_output=True, timeout=PATIENCE, check=False)
+        status, out = done.returncode, done.stdout
+    except subprocess.TimeoutExpired:
+        status, out = f"none in {PATIENCE} seconds", b""
     used = os.times()
     spent = used.children_user + used.children_system - before.children_user - before.children_system
-    return done.returncode, done.stdout, f"{time.monotonic() - started:.1f} seconds, {spent:.1f} of the processor"
+    return status, out, f"{time.monotonic() - started:.1f} seconds, {spent:.1f} of the processor"
 
 
 def try_data(program):
@@ -87,7 +92,8 @@ def try_data(program):
         text = "\n".join(made) + "\n"
         yield Verdict(f"{name} is as it is made", (True,), text == (DATA / name).read_text(encoding="utf-8"))
         status, out, _ = told_cases(program, name)
-        yield Verdict(f"the cases of {name}", ((0, 0),), (status, int(re.search(rb", (\d+) otherwise", out).group(1))))
+        otherwise = re.search(rb", (\d+) otherwise", out)
+        yield Verdict(f"the cases of {name}", ((0, 0),), (status, int(otherwise.group(1)) if otherwise else None))
 
 
 def try_inputs(program, count, first):

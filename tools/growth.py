@@ -9,8 +9,8 @@ For each kind and size it prints the seconds of processor time in the program it
 the peak memory in MiB, and how each grows: the exponent from the size before, so 1.0 is in step with the entries and
 2.0 with their square; and last how many times the plain program's time and memory check and audit take. Memory below
 some 16 MiB is not seen: so much this script has itself; and times of a few milliseconds are rough. A command that takes
-longer than --seconds is not timed at the sizes above. The built program is taken as it is: `./siman --version` proves
-and builds it first, where a source is newer. It is no part of the gate.
+longer than --seconds is not timed at the sizes above. The built program is taken as it is: `./siman --build` proves
+and builds it first. It is no part of the gate.
 """
 import argparse
 import math
@@ -177,7 +177,7 @@ def words_given():
     if not (0 <= given.least <= given.most <= 20 and given.step > 0 and given.runs > 0):
         parser.error("powers are 0 to 20 and rise, and a run is one at least")
     if not os.access(given.program, os.X_OK):
-        parser.error(f"{given.program} is not built; ./siman --version builds it")
+        parser.error(f"{given.program} is not built; ./siman --build builds it")
     return given
 
 

@@ -1,7 +1,7 @@
 #!/usr/bin/env python3
 """Tries siman under hostile use: refused memory, spoilt bytes, full limits.
 
-It runs the built programs crates/siman/out/siman and crates/siman_cases/out/siman_cases, which `rt run` in their folders
+It runs the built programs siman, siman_cases and siman_hostile, crates/NAME/out/NAME, which `rt run` in their folders
 proves and builds, and tries
 
 - the worked examples of each command with memory refused at each allocation in turn, to that one alone and to it and all
@@ -12,7 +12,7 @@ proves and builds, and tries
   trial failed in turn (tools/cases/failing.py); both stand as cases in crates/siman_cases/data too, where the gate runs
   them, and have to stand there as they are made here;
 - inputs that are made up and spoilt, in one process: datagrams, recordings with certificates, scripts and command lines
-  (crates/siman_cases/src/inputs.rt says what is asked of each answer);
+  (crates/siman_hostile/src/inputs.rt says what is asked of each answer);
 - a recording with as many entries as there can be, a long exercise with 100,000 calls of each machine behind it, and the
   program at each of its limits, one below and one above, with the time and the memory that each run takes
   (tools/cases/limits.py).
@@ -36,7 +36,7 @@ from cases.examples import TOP, made_examples
 from cases.trials import Trials, Verdict, described
 
 DATA = TOP / "crates" / "siman_cases" / "data"
-PATIENCE = 1200  # seconds for one run of siman_cases
+PATIENCE = 1200  # seconds for one run of siman_cases or siman_hostile
 LOAD = b"""world records=102000 sent=51000
 explained, and its trial says the same: true
 101999 sent 1 stamp=0 acknowledge version=7 exercise=1 stamp=0 status=0 from=2:3:7 to=1:1:0 flag=3 response=1 request=1
@@ -54,6 +54,10 @@ told of one entry more: count
 finish: 6291478 bytes
 read: 1048576 entries
 read with one entry more: count at 6291473
+recording: read
+certificate: read
+output: write
+memory
 """
 
 
@@ -63,18 +67,19 @@ def arguments():
     crates = TOP / "crates"
     parser.add_argument("--program", type=Path, default=crates / "siman" / "out" / "siman")
     parser.add_argument("--cases", type=Path, default=crates / "siman_cases" / "out" / "siman_cases")
+    parser.add_argument("--hostile", type=Path, default=crates / "siman_hostile" / "out" / "siman_hostile")
     parser.add_argument("--inputs", type=int, default=100_000, help="how many inputs are made up (100000)")
     parser.add_argument("--first", type=int, default=0, help="the number of the first of them: the same number, the same input")
     parser.add_argument("--parts", default="memory,calls,cuts,inputs,full,load,limits", help="which parts, commas between")
     given = parser.parse_args()
-    for program in (given.program, given.cases):
+    for program in (given.program, given.cases, given.hostile):
         if not os.access(program, os.X_OK):
             parser.error(f"there is no program {program}: rt run in its crate's folder builds it")
     return given
 
 
-def told_cases(program, *words):
-    """The status and the output of siman_cases for these words, run beside its data, and how long it took."""
+def told(program, *words):
+    """The status and the output of a program for these words, run beside the data of the cases, and how long it took."""
     started, before = time.monotonic(), os.times()
     try:
         done = subprocess.run([program, *words], cwd=DATA, capture_output=True, timeout=PATIENCE, check=False)
@@ -91,13 +96,13 @@ def try_data(program):
     for name, made in (("cut.cases", cuts.cases()), ("failing.cases", failing.cases())):
         text = "\n".join(made) + "\n"
         yield Verdict(f"{name} is as it is made", (True,), text == (DATA / name).read_text(encoding="utf-8"))
-        status, out, _ = told_cases(program, name)
+        status, out, _ = told(program, name)
         otherwise = re.search(rb", (\d+) otherwise", out)
         yield Verdict(f"the cases of {name}", ((0, 0),), (status, int(otherwise.group(1)) if otherwise else None))
 
 
 def try_inputs(program, count, first):
-    status, out, took = told_cases(program, f"inputs:{count}:{first}")
+    status, out, took = told(program, f"inputs:{count}:{first}")
     sys.stdout.write(out.decode(errors="backslashreplace"))
     print(f"{count} inputs from number {first} on took {took}")
     otherwise = re.search(rb"\notherwise (\d+)\n", out)
@@ -107,12 +112,12 @@ def try_inputs(program, count, first):
 def verdicts(given, folder):
     trials = Trials(str(given.program.resolve()), folder)
     examples = made_examples(folder)
-    parts, cases = given.parts.split(","), str(given.cases.resolve())
+    parts, cases, hostile = given.parts.split(","), str(given.cases.resolve()), str(given.hostile.resolve())
     counts = {}
     if "memory" in parts:
         memory.try_answers(trials, rows.rows(trials))
     if "calls" in parts:
-        counts = calls.try_calls(trials, cases)
+        counts = calls.try_calls(trials, hostile)
     if "cuts" in parts:
         cuts.try_all(trials)
     yield from trials.verdicts()
@@ -122,11 +127,11 @@ def verdicts(given, folder):
         yield from try_data(cases)
     for word, text in (("full", FULL), ("load", LOAD)):
         if word in parts:
-            status, out, took = told_cases(cases, word)
+            status, out, took = told(hostile, word)
             print(f"{word} took {took}")
             yield Verdict(word, ((0, text),), (status, out))
     if "inputs" in parts:
-        yield from try_inputs(cases, given.inputs, given.first)
+        yield from try_inputs(hostile, given.inputs, given.first)
     if "limits" in parts:
         tried, lines = limits.try_all(trials)
         print("\n".join(lines))

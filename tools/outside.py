@@ -32,7 +32,7 @@ def arguments():
     parser.add_argument("--folder", type=Path, help="a new folder for the files of the cases, which are kept there")
     given = parser.parse_args()
     if not os.access(given.program, os.X_OK):
-        parser.error(f"there is no program {given.program}: ./siman builds it")
+        parser.error(f"there is no program {given.program}: ./siman --build builds it")
     return given.program.resolve(), given.folder
 
 

@@ -1,6 +1,6 @@
 #!/bin/sh
 # Prints the table of sizes of docs/HOUSE.md: lines of code, definitions and proofs of each crate as wc counts them, and
-# the wrong bodies in must-fail; behind the sum the crates of the cases and of the tests, by themselves.
+# the wrong bodies in must-fail; behind the sum those of the cases, of hostile use and of the tests.
 set -eu
 cd -- "$(dirname -- "$0")/../crates"
 
@@ -26,8 +26,16 @@ for name in *; do
         tried=$(row "$cases" "$@")
         continue
     fi
+    if [ "$name" = siman_fixtures ]; then
+        shared=$(row "what both programs share, \`$name\`" "$@")
+        continue
+    fi
+    if [ "$name" = siman_hostile ]; then
+        hostile=$(row "the program for hostile use, \`$name\`" "$@")
+        continue
+    fi
     row "\`$name\`" "$@"
     src=$((src + $1)) specs=$((specs + $2)) proofs=$((proofs + $3)) edits=$((edits + $4))
 done
 row 'in all' "$src" "$specs" "$proofs" "$edits"
-printf '%s\n' "$tried" "$last"
+printf '%s\n' "$tried" "$hostile" "$shared" "$last"

@@ -1,6 +1,6 @@
 """Calls of the library that take memory, each allocation refused in turn.
 
-`siman_cases calls` makes the calls, each on what a worked example lends it, and prints a line for each: what it says,
+`siman_hostile calls` makes the calls, each on what a worked example lends it, and prints a line for each: what it says,
 and, where memory was refused to it, what it says when it is made again.
 """
 import os

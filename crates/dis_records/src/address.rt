@@ -14,7 +14,7 @@ pub const LARGEST_ADDRESS_PART: u16 = 0xFFFE;
 /// 1..=0xFFFE (IEEE 1278.1-2012, 6.2.79; the range is this project's profile: 0 names none and
 /// 0xFFFF all). Addresses are compared first by site, then by application
 /// ([`addresses_are_ordered`]).
-#[derive(Clone, Copy, Debug, PartialEq, Eq, PartialOrd, Ord)]
+#[derive(Clone, Copy, PartialEq, Eq, PartialOrd, Ord)]
 pub struct Address {
     site: u16,
     application: u16,

@@ -4,7 +4,7 @@ use std::fmt;
 
 /// A time that exceeds one hour (IEEE 1278.1-2012, 6.2.14). Both numbers are carried and shown as
 /// they stand, and nothing is computed from them (profile).
-#[derive(Clone, Copy, Debug, PartialEq, Eq)]
+#[derive(Clone, Copy, PartialEq, Eq)]
 pub struct ClockTime {
     /// Hours since 0000 h on 1 January 1970 UTC; its 32 bits are shown as an unsigned number.
     pub hour: u32,

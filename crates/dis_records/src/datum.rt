@@ -9,7 +9,7 @@ use std::marker::Model;
 use thiserror::Error;
 
 /// A fixed datum record (IEEE 1278.1-2012, 6.2.37): a 32-bit value under a datum identifier.
-#[derive(Clone, Copy, Debug, PartialEq, Eq)]
+#[derive(Clone, Copy, PartialEq, Eq)]
 pub struct FixedDatum {
     pub id: u32,
     pub value: u32,
@@ -37,7 +37,7 @@ pub enum DatumFault {
 /// A variable datum record (IEEE 1278.1-2012, 6.2.93): a value of so many bits under a datum
 /// identifier. The bits fill `ceil(bits / 8)` bytes from the most significant bit on, and the low
 /// bits of the last byte that are left over are zero (profile).
-#[derive(Debug, Drop)]
+#[derive(Drop)]
 pub struct VariableDatum {
     id: u32,
     bits: u32,
@@ -162,7 +162,7 @@ fn has_unused(bits: u32, bytes: &[u8]) -> bool
 
 /// A variable datum record as it stands in a datagram: its unused bits and its padding may be
 /// anything.
-#[derive(Clone, Copy, Debug)]
+#[derive(Clone, Copy)]
 pub struct VariableView<'a> {
     pub id: u32,
     pub bits: u32,

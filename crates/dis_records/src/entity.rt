@@ -12,7 +12,7 @@ const ALL: u16 = 0xFFFF;
 
 /// An entity identifier (IEEE 1278.1-2012, 6.2.28): site, application and entity number, each
 /// 0..=0xFFFF, where 0xFFFF stands for all.
-#[derive(Clone, Copy, Debug, PartialEq, Eq)]
+#[derive(Clone, Copy, PartialEq, Eq)]
 pub struct EntityId {
     pub site: u16,
     pub application: u16,
@@ -32,7 +32,7 @@ impl fmt::Display for EntityId {
 }
 
 /// The entities that a request and its answer speak of (profile).
-#[derive(Clone, Copy, Debug, PartialEq, Eq)]
+#[derive(Clone, Copy, PartialEq, Eq)]
 pub enum Scope {
     /// The entity of this number.
     One(u16),

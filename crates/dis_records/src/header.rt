@@ -20,7 +20,7 @@ pub const LARGEST_DATAGRAM: usize = 8192;
 const FAMILY: u8 = 5;
 
 /// A protocol version that is read.
-#[derive(Clone, Copy, Debug, PartialEq, Eq)]
+#[derive(Clone, Copy, PartialEq, Eq)]
 pub enum Version {
     /// IEEE 1278.1A-1998.
     V6,
@@ -29,7 +29,7 @@ pub enum Version {
 }
 
 /// What the headers of a protocol version are.
-#[derive(Clone, Copy, Debug)]
+#[derive(Clone, Copy)]
 pub struct VersionRow {
     /// The number that the header carries.
     pub number: u8,
@@ -98,7 +98,7 @@ pub fn versions_are_known()
 {}
 
 /// The header of a PDU (IEEE 1278.1-2012, 6.2.66). Its numbers are big-endian in a datagram.
-#[derive(Clone, Copy, Debug, PartialEq, Eq)]
+#[derive(Clone, Copy, PartialEq, Eq)]
 pub struct Header {
     pub version: Version,
     pub exercise: u8,

@@ -2,12 +2,13 @@
 
 ghost use Rattle.std.specs.Prelude.{◌≡◌, IfSome, IsNone, IsTrue, ◌↔◌, not};
 ghost use Rattle.dis_records.specs.Kind.{kind_code, is_kind_code};
+ghost use Rattle.dis_records.specs.Texts.{kind_text};
 ghost use Rattle.dis_records.specs.Entity.{is_create};
 
 use std::fmt;
 
 /// A kind of PDU; its number is the PDU type.
-#[derive(Clone, Copy, Debug, PartialEq, Eq)]
+#[derive(Clone, Copy, PartialEq, Eq)]
 pub enum Kind {
     CreateEntity = 11,
     RemoveEntity = 12,
@@ -63,6 +64,26 @@ impl Kind {
             _ => false,
         }
     }
+
+    /// Its name, as `create-entity`.
+    fn name(self) -> &'static str
+        ensures { result.now ≡ kind_text self }
+    {
+        match self {
+            Kind::CreateEntity => "create-entity",
+            Kind::RemoveEntity => "remove-entity",
+            Kind::StartResume => "start-resume",
+            Kind::StopFreeze => "stop-freeze",
+            Kind::Acknowledge => "acknowledge",
+            Kind::ActionRequest => "action-request",
+            Kind::ActionResponse => "action-response",
+            Kind::DataQuery => "data-query",
+            Kind::SetData => "set-data",
+            Kind::DataPdu => "data",
+            Kind::EventReport => "event-report",
+            Kind::Comment => "comment",
+        }
+    }
 }
 
 /// Its name, as `create-entity`.
@@ -73,19 +94,6 @@ impl fmt::Display for Kind {
     ghost output = { λ kind. Some (kind_text kind) };
 
     fn fmt<W: fmt::Write>(&self, f: &mut fmt::Formatter<W>) -> fmt::Result {
-        match self {
-            Kind::CreateEntity => write!(f, "create-entity"),
-            Kind::RemoveEntity => write!(f, "remove-entity"),
-            Kind::StartResume => write!(f, "start-resume"),
-            Kind::StopFreeze => write!(f, "stop-freeze"),
-            Kind::Acknowledge => write!(f, "acknowledge"),
-            Kind::ActionRequest => write!(f, "action-request"),
-            Kind::ActionResponse => write!(f, "action-response"),
-            Kind::DataQuery => write!(f, "data-query"),
-            Kind::SetData => write!(f, "set-data"),
-            Kind::DataPdu => write!(f, "data"),
-            Kind::EventReport => write!(f, "event-report"),
-            Kind::Comment => write!(f, "comment"),
-        }
+        f.write_str(self.name())
     }
 }

@@ -10,7 +10,7 @@ use crate::field::u32_at;
 use std::marker::Model;
 
 /// Walks fixed datum records of a datagram; contracts see the list of those that are left.
-#[derive(Debug, Drop)]
+#[derive(Drop)]
 pub struct FixedRecords<'a> {
     bytes: &'a [u8],
     at: usize,
@@ -66,7 +66,7 @@ impl<'a> Iterator for FixedRecords<'a> {
 }
 
 /// Walks datum identifiers of a datagram; contracts see the list of those that are left.
-#[derive(Debug, Drop)]
+#[derive(Drop)]
 pub struct DatumIdRecords<'a> {
     bytes: &'a [u8],
     at: usize,
@@ -118,7 +118,7 @@ impl<'a> Iterator for DatumIdRecords<'a> {
 }
 
 /// Walks variable datum records of a datagram; contracts see the list of those that are left.
-#[derive(Debug, Drop)]
+#[derive(Drop)]
 pub struct VariableRecords<'a> {
     bytes: &'a [u8],
     at: usize,

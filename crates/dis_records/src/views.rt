@@ -10,7 +10,7 @@ use std::marker::Model;
 /// A datum specification (IEEE 1278.1-2012, 6.2.18) in a datagram: fixed datum records, then
 /// variable datum records, walked in order and none copied. Contracts see it as two lists, the
 /// bytes of a variable record as they stand.
-#[derive(Debug, Drop)]
+#[derive(Drop)]
 pub struct DatumsView<'a> {
     bytes: &'a [u8],
     counts: usize,
@@ -76,7 +76,7 @@ impl<'a> DatumsView<'a> {
 /// The datum identifiers that a query asks for (IEEE 1278.1-2012, 6.2.17) in a datagram: those of
 /// fixed datums, then those of variable datums, walked in order and none copied. Contracts see it
 /// as two lists.
-#[derive(Debug, Drop)]
+#[derive(Drop)]
 pub struct IdsView<'a> {
     bytes: &'a [u8],
     counts: usize,

@@ -4,7 +4,7 @@ use exercise_check::Certificate;
 use exercise_model::Cause;
 
 /// The next entry of a station that can't go on, and why.
-#[derive(Clone, Copy, Debug, PartialEq, Eq)]
+#[derive(Clone, Copy, PartialEq, Eq)]
 pub struct Block {
     /// The station's index in the recording, from 0.
     pub station: usize,
@@ -15,7 +15,7 @@ pub struct Block {
 }
 
 /// What a search for an order found.
-#[derive(Debug, Drop)]
+#[derive(Drop)]
 pub enum Audit {
     /// An order that explains the recording.
     Explained(Certificate),

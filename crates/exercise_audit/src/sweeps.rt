@@ -1,9 +1,10 @@
 //! The search: the stations go on by waiting lists, and then it sweeps over them until a whole sweep
 //! adds no step.
 
-ghost use Rattle.std.specs.Prelude.{◌≡◌, ◌<◌, length, IfSome, IfNone, IfOk, true, false, ℕ};
+ghost use Rattle.std.specs.Prelude.{◌≡◌, ◌<◌, length, IfSome, IfNone, IfOk, OnOk, true, false, ℕ};
 ghost use Rattle.exercise_check.specs.Course.{so_far};
-ghost use Rattle.exercise_audit.specs.Audit.{IsAuditOf, IsHeld, IsBlock, IsDone, AreBlocks};
+ghost use Rattle.exercise_audit.specs.Audit.{IsAuditOf, IsHeld, IsBlock, IsBlocked, IsDone, AreBlocks};
+ghost use Rattle.exercise_check.specs.Goodness.{IsGood};
 
 use crate::blocks::{Audit, Block};
 use crate::search::go_on_by_lists;
@@ -52,6 +53,29 @@ fn sweep<L: ExerciseLog>(
     Ok(more)
 }
 
+/// Lets the stations go on, by the waiting lists and then by sweeps, until none of them can.
+fn go_on_to_the_end<L: ExerciseLog>(
+    alloc: Global,
+    log: &L,
+    course: &mut Course<'_, L>,
+    stations: usize,
+) -> Result<(), AllocError>
+    requires { course.old.recording ≡ L.recording log.now }
+    ensures recording { course.new.recording ≡ course.old.recording }
+    ensures stuck { OnOk result ((s : ℕ) → s < stations → IsHeld course.new.recording (so_far course.new) s) }
+{
+    go_on_by_lists(alloc, log, course)?;
+    // A sweep over the stations shows that nothing can go on.
+    loop {
+        if !sweep(alloc, course, stations)? {
+            break;
+        }
+        // To count the steps shows that each of them is good.
+        let _steps = course.len();
+    }
+    Ok(())
+}
+
 /// What stands in the way of a station that is held.
 fn block_at<L: ExerciseLog>(
     alloc: Global,
@@ -98,6 +122,25 @@ fn blocks<L: ExerciseLog>(
     Ok(blocks)
 }
 
+/// Lets the stations go on until none of them can, and answers what stands in the way; nothing where
+/// every entry was taken.
+fn held_up<L: ExerciseLog>(
+    alloc: Global,
+    log: &L,
+    course: &mut Course<'_, L>,
+) -> Result<Option<Vec<Block>>, AllocError>
+    requires { course.old.recording ≡ L.recording log.now }
+    ensures blocked { IfOk result (λ held. IfSome held (λ blocks. IsBlocked (L.recording log.now) blocks.items)) }
+    ensures good { IfOk result (λ held. IfNone held (IsGood (L.recording log.now) course.new.steps)) }
+{
+    let (count, stations) = (log.entry_count(), log.station_count());
+    go_on_to_the_end(alloc, log, course, stations)?;
+    if course.len() == count {
+        return Ok(None);
+    }
+    Ok(Some(blocks(alloc, course, stations)?))
+}
+
 /// Looks for an order of events that explains a recording. It finds a certificate, which the
 /// checker accepts, exactly where some order explains it; else it tells, for each station that has
 /// entries left when nothing can go on, its next entry and the first cause that stands in the way.
@@ -105,18 +148,9 @@ fn blocks<L: ExerciseLog>(
 pub fn audit<L: ExerciseLog>(alloc: Global, log: &L) -> Result<Audit, AllocError>
     ensures { IfOk result (IsAuditOf (L.recording log.now)) }
 {
-    let (count, stations) = (log.entry_count(), log.station_count());
     let mut course = Course::begin(alloc, log)?;
-    go_on_by_lists(alloc, log, &mut course)?;
-    // A sweep over the stations shows that nothing can go on.
-    loop {
-        if !sweep(alloc, &mut course, stations)? {
-            break;
-        }
-    }
-    if course.len() == count {
-        Ok(Audit::Explained(course.into_certificate()))
-    } else {
-        Ok(Audit::Blocked(blocks(alloc, &mut course, stations)?))
+    match held_up(alloc, log, &mut course)? {
+        Some(blocks) => Ok(Audit::Blocked(blocks)),
+        None => Ok(Audit::Explained(course.into_certificate())),
     }
 }

@@ -1,8 +1,10 @@
 //! What a recording says, read from each station's log alone.
 
 ghost use Rattle.std.specs.Prelude.{◌≡◌, length, map, IfOk};
-ghost use Rattle.exercise_model.specs.Account.{entities_of, values_below};
+ghost use Rattle.exercise_model.specs.Account.{change_behind, entities_of, values_below};
 ghost use Rattle.exercise_check.specs.Checked.{TellsAccount};
+ghost use Rattle.exercise_check.specs.Column.{IsColumn};
+ghost use Rattle.exercise_check.specs.Number.{IsNumberOf};
 ghost use Rattle.exercise_check.specs.Tables.{AreTied, AreFindings};
 
 use crate::behind::changes_behind;
@@ -31,6 +33,21 @@ fn states<L: ExerciseLog>(
     Ok(states)
 }
 
+/// The states at the end, and the number of the change behind each entry.
+fn states_and_changes<L: ExerciseLog>(
+    alloc: Global,
+    log: &L,
+    found: &Findings,
+) -> Result<(Vec<Vec<(u16, EntityState)>>, Vec<u32>), AllocError>
+    requires { let r = L.recording log.now in AreFindings r (length r.entries) found.now }
+    ensures states { let r = L.recording log.now in IfOk result (λ told. map (λ v. v.items) told.0.items ≡ values_below (entities_of r) (length r.setting.stations)) }
+    ensures changes { let r = L.recording log.now in IfOk result (λ told. IsColumn 0 (IsNumberOf (change_behind r)) (length r.entries) told.1.items) }
+{
+    let changes = changes_behind(alloc, log, &found.tables.firsts, &found.ables)?;
+    let states = states(alloc, log, &found.tables)?;
+    Ok((states, changes))
+}
+
 /// What a recording says, of which this was found.
 pub(crate) fn account<L: ExerciseLog>(
     alloc: Global,
@@ -40,8 +57,7 @@ pub(crate) fn account<L: ExerciseLog>(
     requires { let r = L.recording log.now in AreFindings r (length r.entries) found }
     ensures { IfOk result (λ checked. TellsAccount (L.recording log.now) checked) }
 {
-    let states = states(alloc, log, &found.tables)?;
-    let causes = changes_behind(alloc, log, &found.tables.firsts, &found.ables)?;
+    let told = states_and_changes(alloc, log, &found)?;
     let Findings { pairs, others, .. } = found;
-    Ok(Checked::of(states, pairs, causes, others))
+    Ok(Checked::of(told.0, pairs, told.1, others))
 }

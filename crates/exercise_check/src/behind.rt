@@ -20,7 +20,7 @@ use siman_pdus::{ABLE, PduView};
 use std::alloc::{AllocError, Global};
 
 /// An entry that receives an Able Acknowledge of a recorded station.
-#[derive(Clone, Copy, Debug, PartialEq, Eq)]
+#[derive(Clone, Copy)]
 pub(crate) struct Able {
     /// Its number.
     pub entry: u32,

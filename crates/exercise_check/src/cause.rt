@@ -35,7 +35,7 @@ use exercise_model::{
 use siman_pdus::{ABLE, PduView, UNABLE, answers};
 
 /// What an event that comes next is judged to be.
-#[derive(Clone, Copy, Debug, PartialEq, Eq)]
+#[derive(Clone, Copy)]
 pub(crate) enum Judgement {
     /// It is allowed: the entry that its step links with, if it links with one.
     Allowed(Option<u32>),

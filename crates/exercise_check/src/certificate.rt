@@ -4,7 +4,7 @@
 pub const NO_LINK: u32 = 0xFFFF_FFFF;
 
 /// A step of an order of a recording's entries: which entry comes next, and what it takes up.
-#[derive(Clone, Copy, Debug, PartialEq, Eq)]
+#[derive(Clone, Copy, PartialEq, Eq)]
 pub struct Step {
     /// The number of an entry of the recording, from 0.
     pub place: u32,
@@ -16,7 +16,7 @@ pub struct Step {
 
 /// An order of a recording's entries, step by step. Any numbers may stand in it: whether it
 /// explains a recording is for the checker.
-#[derive(Debug, Drop)]
+#[derive(Drop)]
 pub struct Certificate {
     /// The steps, the first one first.
     pub steps: Vec<Step>,

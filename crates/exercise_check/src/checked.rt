@@ -6,7 +6,7 @@ use std::marker::Model;
 
 /// What each run says that explains a recording: it is read from each station's log alone, so
 /// every good certificate gives the same.
-#[derive(Debug, Drop)]
+#[derive(Drop)]
 pub struct Checked {
     states: Vec<Vec<(u16, EntityState)>>,
     pairs: Vec<u32>,

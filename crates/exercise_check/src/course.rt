@@ -44,7 +44,7 @@ impl<'a, L: ExerciseLog> Model for Course<'a, L> {
 }
 
 /// What going on by an entry comes to.
-#[derive(Clone, Copy, Debug, PartialEq, Eq)]
+#[derive(Clone, Copy, PartialEq, Eq)]
 pub enum Progress {
     /// It was taken: its event is allowed, and this is the link of its step, as a certificate
     /// writes it.

@@ -26,7 +26,7 @@ use siman_pdus::PduView;
 use std::alloc::AllocError;
 
 /// What one entry is found to be.
-#[derive(Clone, Copy, Debug, PartialEq, Eq)]
+#[derive(Clone, Copy)]
 pub(crate) struct Found {
     /// The first cause that its station's log has against it.
     pub cause: Option<Cause>,

@@ -10,7 +10,7 @@ use siman_pdus::{ABLE, Message, PduView, UNABLE, is_request, request_id};
 
 /// What entries of one station have in common that are looked up together: requests that it
 /// received, or Acknowledges that it sent.
-#[derive(Clone, Copy, Debug, PartialEq, Eq, Hash)]
+#[derive(Clone, Copy, PartialEq, Eq, Hash)]
 pub(crate) struct Key {
     /// 0 for a request, 1 for an Acknowledge.
     pub role: u16,

@@ -21,7 +21,7 @@ use std::alloc::{AllocError, Global};
 use std::hash::BuildHasherDefault;
 
 /// What the requests of one station have in common that are looked up together.
-#[derive(Clone, Copy, Debug, PartialEq, Eq, Hash)]
+#[derive(Clone, Copy, PartialEq, Eq, Hash)]
 pub(crate) struct Identifier {
     /// The station, from 0.
     pub station: u16,
@@ -30,7 +30,7 @@ pub(crate) struct Identifier {
 }
 
 /// What is kept of the requests under one identifier.
-#[derive(Clone, Copy, Debug, PartialEq, Eq)]
+#[derive(Clone, Copy)]
 pub(crate) struct Kept {
     /// The entry of the first of them.
     pub first: u32,

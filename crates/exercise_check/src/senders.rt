@@ -19,7 +19,7 @@ use std::hash::{BuildHasherDefault, Hash, Hasher};
 
 /// The bytes of a datagram where they lie, as a key: two are the same where their bytes are. They
 /// are hashed in one write.
-#[derive(Clone, Copy, Debug)]
+#[derive(Clone, Copy)]
 pub(crate) struct Datagram<'a> {
     /// The bytes.
     pub bytes: &'a [u8],

@@ -20,7 +20,7 @@ pub(crate) const PAGE: u16 = 256;
 pub(crate) const PAGES: u16 = 256;
 
 /// The state of an entity that was set by itself.
-#[derive(Clone, Copy, Debug, PartialEq, Eq)]
+#[derive(Clone, Copy, PartialEq, Eq)]
 pub(crate) struct Held {
     pub state: EntityState,
     /// The number of the change that set it.

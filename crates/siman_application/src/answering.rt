@@ -33,7 +33,7 @@ const START: u16 = 3;
 const STOP: u16 = 4;
 
 /// What a request comes to: its answer, and the datums that it brought, if it is to store any.
-#[derive(Debug, Drop)]
+#[derive(Drop)]
 pub(crate) struct Outcome {
     pub answer: Pdu,
     pub brought: Option<Datums>,
@@ -179,6 +179,23 @@ fn answer_query(
     answer_data(alloc, outfit, held, &none, request, stamp, id, ids)
 }
 
+/// The Data with the records that are held under the identifiers of datums that came, once these are.
+fn answer_came(
+    alloc: Global,
+    outfit: &Outfit,
+    held: &Held,
+    request: &Pdu,
+    stamp: u32,
+    id: u32,
+    came: &Datums,
+) -> Result<Pdu, AllocError>
+    ensures { IfOk result (λ pdu. pdu ≡ data_answer outfit.now request.now stamp id (held_records (told_of came.now (knows [] (held_in held.now))) (ids_of came.now))) }
+{
+    let ids = ids_of(alloc, came)?;
+    let others = Held::of(alloc, came)?;
+    answer_data(alloc, outfit, held, &others, request, stamp, id, &ids)
+}
+
 /// The answer to a Set Data, and what it brought.
 fn answer_setting(
     alloc: Global,
@@ -192,10 +209,8 @@ fn answer_setting(
     ensures answer { IfOk result (λ outcome. outcome.answer ≡ data_answer outfit.now request.now stamp id (held_records (told_of came.now (knows [] (held_in held.now))) (ids_of came.now))) }
     ensures brought { IfOk result (λ outcome. unwrap_or outcome.brought no_datums ≡ came.now) }
 {
-    let others = Held::of(alloc, came)?;
-    let ids = ids_of(alloc, came)?;
-    let answer = answer_data(alloc, outfit, held, &others, request, stamp, id, &ids)?;
     let brought = came.copy(alloc)?;
+    let answer = answer_came(alloc, outfit, held, request, stamp, id, came)?;
     Ok(Outcome {
         answer,
         brought: Some(brought),

@@ -32,7 +32,7 @@ use std::marker::Model;
 ///
 /// Only [`begin`](Application::begin) and a [`take`](Application::take) that answers anew take
 /// memory.
-#[derive(Debug, Drop)]
+#[derive(Drop)]
 pub struct Application {
     alloc: Global,
     outfit: Outfit,

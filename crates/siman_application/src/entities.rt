@@ -18,7 +18,7 @@ use std::marker::Model;
 
 /// The entities that are there, by rising numbers in 1..=0xFFFD, with their states. Contracts see
 /// a list.
-#[derive(Debug, Drop)]
+#[derive(Drop)]
 pub(crate) struct Entities {
     list: Vec<(u16, EntityState)>,
 }

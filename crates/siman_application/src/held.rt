@@ -16,7 +16,7 @@ use siman_pdus::{DatumIds, Datums};
 use std::alloc::{AllocError, Global};
 
 /// The record under each datum identifier.
-#[derive(Debug, Drop)]
+#[derive(Drop)]
 pub(crate) struct Held {
     fixed: FixedTable,
     variable: VariableTable,

@@ -11,7 +11,7 @@ use indexmap::IndexMap;
 use siman_pdus::{Pdu, request_id};
 
 /// Under what a request is kept: who sent it, and its request identifier.
-#[derive(Clone, Copy, Debug, PartialEq, Eq, Hash)]
+#[derive(Clone, Copy, PartialEq, Eq, Hash)]
 pub(crate) struct RequestKey {
     pub site: u16,
     pub application: u16,
@@ -19,7 +19,7 @@ pub(crate) struct RequestKey {
 }
 
 /// A request that was answered.
-#[derive(Debug, Drop)]
+#[derive(Drop)]
 pub(crate) struct KeptRequest {
     pub request: Pdu,
     /// Its answer, with the timestamp that it was last given.

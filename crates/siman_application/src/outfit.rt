@@ -12,7 +12,7 @@ use std::marker::Model;
 
 /// What stays the same for as long as an application lives: the exercise, its station with the
 /// entities that it opens with, the datums that it holds at first, and the actions that it knows.
-#[derive(Debug, Drop)]
+#[derive(Drop)]
 pub(crate) struct Outfit {
     pub exercise: u8,
     pub station: Station,

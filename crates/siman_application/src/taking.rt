@@ -5,19 +5,21 @@ ghost use Rattle.std.specs.Option.{option_map, option_and_then, unwrap_or};
 ghost use Rattle.indexmap.specs.IndexMap.{values, index_map_len};
 ghost use Rattle.siman_pdus.specs.Same.{is_same_order};
 ghost use Rattle.siman_application.specs.Distinct.{is_for, first_under, with_request};
-ghost use Rattle.siman_application.specs.Answer.{answer, no_datums};
+ghost use Rattle.siman_application.specs.Answer.{answer, brought, no_datums};
 ghost use Rattle.siman_application.specs.Holding.{held_by, held_in, stored_in};
+ghost use Rattle.siman_application.specs.Knows.{knows};
+ghost use Rattle.siman_application.specs.Listed.{after, states_in};
 ghost use Rattle.siman_application.specs.Kept.{AreRight, IsKey, requests, stamped_at};
 ghost use Rattle.siman_application.specs.Play.{known, reply_after};
 
-use crate::answering::answer;
+use crate::answering::{Outcome, answer};
 use crate::entities::Entities;
 use crate::fault::AppFault;
 use crate::held::Held;
 use crate::kept::{KeptTable, RequestKey, keep, key_of, place_of, stamp_again};
 use crate::outfit::Outfit;
 use siman_pdus::{Datums, Pdu, numbers_are_in_range, same_order};
-use std::alloc::Global;
+use std::alloc::{AllocError, Global};
 
 /// Stores what a request brought, if it brought anything.
 fn store(held: &mut Held, brought: Option<Datums>)
@@ -26,6 +28,27 @@ fn store(held: &mut Held, brought: Option<Datums>)
     if let Some(datums) = brought {
         held.store(datums);
     }
+}
+
+/// Answers a request that comes for the first time, and has the entities do what the answer says.
+/// A fault leaves them as they were.
+fn answer_and_obey(
+    alloc: Global,
+    outfit: &Outfit,
+    entities: &mut Entities,
+    held: &Held,
+    pdu: &Pdu,
+    stamp: u32,
+) -> Result<Outcome, AllocError>
+    requires { is_for outfit.now pdu.now ≡ true }
+    ensures answer { IfOk result (λ outcome. outcome.answer ≡ answer outfit.now (knows entities.old (held_in held.now)) pdu.now stamp) }
+    ensures brought { IfOk result (λ outcome. unwrap_or outcome.brought no_datums ≡ brought pdu.now.body) }
+    ensures obeyed { IfOk result (λ outcome. states_in entities.new ≡ after outcome.answer pdu.now (states_in entities.old)) }
+    ensures err { OnErr result (entities.new ≡ entities.old) }
+{
+    let outcome = answer(alloc, outfit, entities, held, pdu, stamp)?;
+    entities.obey(&outcome.answer, pdu)?;
+    Ok(outcome)
 }
 
 /// Answers a request that is the first under its key, and keeps it. Its place. A fault leaves all
@@ -52,10 +75,9 @@ fn take_first(
     ensures within { IfOk result (λ place. place < index_map_len kept.new) }
 {
     numbers_are_in_range(pdu);
-    let outcome = answer(alloc, outfit, entities, held, pdu, stamp)?;
-    let request = pdu.copy(alloc)?;
     kept.reserve(1)?;
-    entities.obey(&outcome.answer, pdu)?;
+    let request = pdu.copy(alloc)?;
+    let outcome = answer_and_obey(alloc, outfit, entities, held, pdu, stamp)?;
     let place = keep(kept, key, request, outcome.answer);
     store(held, outcome.brought);
     Ok(place)

@@ -14,6 +14,7 @@
 //! | `input`, `out`, `errors`, `left` | the lines behind it fill standard input, what must be out, what must be told of faults, what the file must hold that is made |
 //! | `text TEXT`, `piece TEXT` | a line with its line end, a text without |
 //! | `times N TEXT` | a text so many times |
+//! | `each FIRST LAST TEXT` | a line for each number from one to another: the text with the number in the place of each `%` |
 //! | `hex HEX..` | bytes as pairs of hex digits |
 //! | `calls MOST AT KIND` | each call reads or writes at most so many bytes, and the call of this number fails, from 1: `other`, `interrupted`, or `nothing`, where it takes none |
 //! | `asked NAME`, `asked make NAME` | the next file that must be opened, or made |
@@ -36,48 +37,20 @@
 //! | `line-fails N` | the call of this line that fails, from 1 |
 //! | `serve NOW TURNS`, `issue NOW`, `nudge NOW` | the next call; orders are issued as the moves of the script come |
 //! | `order N`, `entity N` | asks how the order of a request identifier stands, or an entity |
+//! | `datum N`, `given-up` | asks for the value of a fixed datum, or how many orders are given up |
 //! | `each-call-fails N` | all is done again, once for each of the first N calls of the line, which fails, and told behind a line that says so |
 //! | `each-byte-fails` | all is done again, once for each byte of `left`, at which the writer fails; the bytes before it must be left then, and on the line just what their whole entries say |
 //!
-//! In the place of a file a word may ask for something else:
-//!
-//! | Word | What is tried |
-//! |---|---|
-//! | `COUNT` | so many recordings that are made up, by the checker and the search and by the plain ones |
-//! | `inputs:COUNT`, `inputs:COUNT:FIRST` | so many datagrams, recordings with certificates, scripts and command lines that are made up and spoilt, from a number on |
-//! | `calls` | the calls that take memory, with what each says |
-//! | `full` | a recording with as many entries as there can be |
-//! | `load` | a long exercise, and as many orders and requests |
+//! A word may be a COUNT in the place of a file: so many recordings are made up, and tried by the
+//! checker and the search and by the plain ones.
 #![tactic(auto)]
 
-mod agreement;
-mod calls;
-mod case;
-mod entries;
-mod full;
-mod generated;
-mod inputs;
-mod letter;
-mod lines;
-mod load;
-mod post;
-mod post_call;
-mod post_trial;
-mod ran;
-mod random;
-mod refusals;
-mod scene;
 mod shelf;
 mod trial;
-mod wire;
 
-use crate::full::put_full;
-use crate::generated::try_generated;
-use crate::inputs::try_inputs;
-use crate::load::put_load;
-use crate::refusals::put_calls;
 use crate::trial::{Tally, try_cases};
 use exercise_model::Form;
+use siman_fixtures::try_generated;
 use std::alloc::Global;
 use std::io::Write;
 use std::process::ExitCode;
@@ -120,47 +93,12 @@ fn try_made_up(rt: &HostRuntime, alloc: Global, count: u32) -> io::Result<bool> 
     Ok(closed.are_good(Form::First) && open.are_good(Form::Open))
 }
 
-/// Tries inputs that are made up and spoilt, and prints how they ended.
-fn try_spoilt(rt: &HostRuntime, alloc: Global, count: u64, first: u64) -> io::Result<bool> {
-    let mut out = rt.stdout();
-    let ends = try_inputs(alloc, count, first, &mut out)?;
-    writeln!(
-        out,
-        "{count} inputs made up and spoilt, from number {first} on"
-    )?;
-    ends.print(&mut out)?;
-    Ok(ends.otherwise == 0)
-}
-
-/// How many inputs a word asks for, and the number of the first: `inputs:COUNT` or
-/// `inputs:COUNT:FIRST`.
-fn read_inputs(word: &str) -> Option<(u64, u64)> {
-    let numbers = word.strip_prefix("inputs:")?;
-    match numbers.split_once(':') {
-        Some((count, first)) => Some((count.parse::<u64>().ok()?, first.parse::<u64>().ok()?)),
-        None => Some((numbers.parse::<u64>().ok()?, 0)),
-    }
-}
-
-/// Tries what a word of the command line names: inputs that are made up and spoilt, the calls that
-/// take memory, as many entries as there can be, a long exercise, so many recordings that are made
-/// up, or a file.
+/// Tries what a word of the command line names: so many recordings that are made up, or a file.
 fn try_word(rt: &HostRuntime, alloc: Global, word: &str) -> io::Result<bool> {
-    if let Some((count, first)) = read_inputs(word) {
-        return try_spoilt(rt, alloc, count, first);
+    match word.parse::<u32>() {
+        Ok(count) => try_made_up(rt, alloc, count),
+        Err(_) => try_file(rt, alloc, word),
     }
-    match word {
-        "calls" => put_calls(alloc, &mut rt.stdout())?,
-        "full" => put_full(alloc, &mut rt.stdout())?,
-        "load" => put_load(alloc, &mut rt.stdout())?,
-        _ => {
-            return match word.parse::<u32>() {
-                Ok(count) => try_made_up(rt, alloc, count),
-                Err(_) => try_file(rt, alloc, word),
-            };
-        }
-    }
-    Ok(true)
 }
 
 /// Tries what the words of the command line name.

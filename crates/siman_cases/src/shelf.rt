@@ -1,21 +1,10 @@
 //! Files in memory, and what was asked for.
 
-use crate::calls::{Calls, Given, Kept, read_from, write_to};
-use crate::wire::{WireLine, lines_of};
 use siman_console::Outside;
+use siman_fixtures::{Calls, File, Given, Kept, WireLine, found, lines_of, read_from, write_to};
 use std::alloc::Global;
 use std::io;
 use std::io::ErrorKind;
-
-/// A file that stands under a name, and how its calls go.
-#[derive(Drop)]
-pub(crate) struct File {
-    pub(crate) name: String,
-    pub(crate) bytes: Vec<u8>,
-    pub(crate) calls: Calls,
-    /// Why it can't be opened or made.
-    pub(crate) shut: Option<ErrorKind>,
-}
 
 /// Files, what was asked for, each with a line end (the name of a file to be opened, `make` and the
 /// name of one to be made), and what the file that was made was left with.
@@ -46,11 +35,6 @@ pub(crate) fn filled(
         asked: String::new(alloc),
         left: None,
     }
-}
-
-/// The last file of a name.
-pub(crate) fn found<'a>(files: &'a [File], name: &str) -> Option<&'a File> {
-    files.iter().rfind(|file| file.name.as_str() == name)
 }
 
 impl<'a> Outside for Shelf<'a> {

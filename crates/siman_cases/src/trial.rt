@@ -1,12 +1,10 @@
 //! Runs cases, and tells what is otherwise.
 
-use crate::agreement::compare_case;
-use crate::calls::{Kept, read_from, write_to};
-use crate::case::{Case, first};
-use crate::lines::{Line, read_line};
-use crate::post_trial::try_post;
 use crate::shelf::{Shelf, filled};
 use siman_console::{Ended, run};
+use siman_fixtures::{
+    Case, Kept, Line, compare, compare_case, first, read_from, read_line, try_post, write_to,
+};
 use std::alloc::Global;
 use std::io;
 use std::io::Write;
@@ -57,22 +55,6 @@ fn run_case(alloc: Global, case: &Case) -> Outcome<'_> {
         out,
         errors,
     }
-}
-
-/// Prints what was left where it is otherwise.
-pub(crate) fn compare<W: Write>(
-    name: &str,
-    part: &str,
-    left: &[u8],
-    wanted: &[u8],
-    out: &mut W,
-) -> io::Result<bool> {
-    if left == wanted {
-        return Ok(true);
-    }
-    writeln!(out, "{name}: {part} is otherwise:")?;
-    out.write_all(left)?;
-    Ok(false)
 }
 
 /// Prints the status where it is otherwise.

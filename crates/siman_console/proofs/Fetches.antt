@@ -3,9 +3,9 @@ use Rattle.std.proofs.Common.{◌≡◌, ℕ, ◌+◌, ◌<◌, List, Option, So
 use Rattle.std.proofs.lemmas.Bool.{cases_lt}
 use Rattle.std.proofs.lemmas.Bool.Decides.{nat_tests}
 use Rattle.std.proofs.lemmas.List.{length-take-le}
-use Rattle.siman_worlds.specs.declared.script.TheConstants.{LARGEST_SCRIPT}
-use Rattle.siman_worlds.specs.declared.script_fault.ScriptFault.TheVariants.{BadLine}
-use Rattle.siman_worlds.specs.Script.{script_at}
+use Rattle.siman_scripts.specs.declared.script.TheConstants.{LARGEST_SCRIPT}
+use Rattle.siman_scripts.specs.declared.script_fault.ScriptFault.TheVariants.{BadLine}
+use Rattle.siman_scripts.specs.Script.{script_at}
 use Rattle.byte_files.specs.Fetching.{fetched}
 use Rattle.siman_console.specs.World.{Scripted}
 use Rattle.siman_console.specs.Check.{Recorded}

@@ -5,7 +5,7 @@ use Rattle.std.proofs.lemmas.Option.{slice_get-get_or}
 use Rattle.std.specs.Prelude.{slice_get, option_map, IfErr, OnOk}
 use Rattle.std.specs.Result.{IsErrAnd}
 use Rattle.exercise_model.specs.declared.recording.TheConstants.{MOST_ENTRIES}
-use Rattle.siman_worlds.specs.declared.act.Act.{Act}
+use Rattle.siman_scripts.specs.declared.act.Act.{Act}
 use Rattle.siman_worlds.specs.declared.turn.Node.{Node}
 use Rattle.siman_worlds.specs.declared.world_fault.MoveFault.{MoveFault}
 use Rattle.siman_console.specs.declared.posts.Halt.{Halt}

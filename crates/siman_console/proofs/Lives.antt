@@ -3,9 +3,9 @@ use Rattle.std.proofs.Common.{◌≡◌, ◌⊎◌, ℕ, List, [], length, Optio
 use Rattle.std.specs.Prelude.{IfSome}
 use Rattle.std.specs.Result.{IsErrAnd}
 use Rattle.std.specs.Io.KnownBytes.{Keeps}
-use Rattle.siman_worlds.specs.declared.act.Move.{Move}
-use Rattle.siman_worlds.specs.declared.script.TheConstants.{LARGEST_SCRIPT}
-use Rattle.siman_worlds.specs.Script.{script_at}
+use Rattle.siman_scripts.specs.declared.act.Move.{Move}
+use Rattle.siman_scripts.specs.declared.script.TheConstants.{LARGEST_SCRIPT}
+use Rattle.siman_scripts.specs.Script.{script_at}
 use Rattle.siman_console.specs.declared.fault.Fault.{Fault}
 use Rattle.siman_console.specs.declared.fault.Fault.TheVariants.{ScriptRead, LineFailed, Memory}
 use Rattle.siman_console.specs.declared.live.Begun.{Begun}

@@ -20,8 +20,8 @@ use Rattle.siman_console.specs.Show.{TellsShow}
 use Rattle.siman_console.specs.Trial.{TellsTrial}
 use Rattle.siman_console.specs.World.{Scripted, Runs}
 use Rattle.exercise_model.specs.Recording.{PlainRecording}
-use Rattle.siman_worlds.specs.Script.{script_at}
-use Rattle.siman_worlds.specs.Text.{lines_of}
+use Rattle.siman_scripts.specs.Script.{script_at}
+use Rattle.siman_scripts.specs.Text.{lines_of}
 
 -- nothing was written
 pub keeps_all : (a : Option (List ℕ)) → Keeps a a

@@ -6,9 +6,9 @@ use Rattle.std.specs.Io.KnownBytes.{Appends}
 use Rattle.byte_files.specs.Writing.{WritesPart}
 use Rattle.exercise_check.specs.declared.certificate.Step.{Step}
 use Rattle.exercise_check.specs.Goodness.{IsGood}
-use Rattle.siman_worlds.specs.declared.script.TheConstants.{LARGEST_SCRIPT}
-use Rattle.siman_worlds.specs.declared.script_fault.ScriptFault.TheVariants.{BadLine}
-use Rattle.siman_worlds.specs.Script.{ScriptData, script_at}
+use Rattle.siman_scripts.specs.declared.script.TheConstants.{LARGEST_SCRIPT}
+use Rattle.siman_scripts.specs.declared.script_fault.ScriptFault.TheVariants.{BadLine}
+use Rattle.siman_scripts.specs.Script.{ScriptData, script_at}
 use Rattle.siman_console.specs.declared.fault.Fault.{Fault}
 use Rattle.siman_console.specs.declared.trial_fault.TrialFault.{TrialFault}
 use Rattle.siman_console.specs.declared.trial_fault.TrialFault.TheVariants.{Read, Memory}

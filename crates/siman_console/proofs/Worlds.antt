@@ -6,8 +6,8 @@ use Rattle.std.specs.Io.KnownBytes.{Appends}
 use Rattle.byte_files.specs.Writing.{WritesPart}
 use Rattle.exercise_model.specs.Recording.{PlainRecording}
 use Rattle.exercise_recording.specs.Text.{recording_text}
-use Rattle.siman_worlds.specs.declared.script.TheConstants.{LARGEST_SCRIPT}
-use Rattle.siman_worlds.specs.Script.{script_at}
+use Rattle.siman_scripts.specs.declared.script.TheConstants.{LARGEST_SCRIPT}
+use Rattle.siman_scripts.specs.Script.{script_at}
 use Rattle.siman_console.specs.declared.fault.Fault.{Fault}
 use Rattle.siman_console.specs.declared.fault.Fault.TheVariants.{ScriptRead, Output, Memory}
 use Rattle.byte_files.specs.Fetching.{fetched}

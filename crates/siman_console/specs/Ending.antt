@@ -12,8 +12,8 @@ use Rattle.exercise_check.specs.declared.certificate_fault.CertificateFault.{Cer
 use Rattle.exercise_check.specs.declared.certificate_fault.CertificateFault.TheVariants as certificates
 use Rattle.exercise_check.specs.FaultText as certificate_texts
 use Rattle.siman_manager.specs.declared.fault.OrderFault.TheVariants as orders
-use Rattle.siman_worlds.specs.declared.script_fault.ScriptFault.{ScriptFault}
-use Rattle.siman_worlds.specs.declared.script_fault.ScriptFault.TheVariants as scripts
+use Rattle.siman_scripts.specs.declared.script_fault.ScriptFault.{ScriptFault}
+use Rattle.siman_scripts.specs.declared.script_fault.ScriptFault.TheVariants as scripts
 use Rattle.siman_worlds.specs.declared.world_fault.MoveFault.{MoveFault}
 use Rattle.siman_worlds.specs.declared.world_fault.MoveFault.TheVariants as moves
 use Rattle.siman_worlds.specs.declared.world_fault.WorldFault.{WorldFault}

@@ -7,7 +7,6 @@ pub mod Check
 pub mod Show
 pub mod Ending
 pub mod Outside
-pub mod Words
 pub mod Outcome
 pub mod Search
 pub mod Convert

@@ -2,7 +2,7 @@
 use Rattle.std.specs.Prelude.{◌≡◌, ◌⊎◌, ⊤, ℕ, ◌+◌, ◌≤◌, max, List, [], ◌∷◌, ◌++◌, length, take, ◌==◌, Option, Some, None, Result, Ok, Err, if◌then◌else◌}
 use Rattle.std.specs.Io.KnownBytes.{Appends, Keeps, IsAtEnd}
 use Rattle.byte_files.specs.Writing.{WritesPart}
-use Rattle.siman_worlds.specs.Text.{lines_of}
+use Rattle.siman_scripts.specs.Text.{lines_of}
 use Rattle.siman_console.specs.declared.fault.Ended.{Ended}
 use Rattle.siman_console.specs.declared.fault.Fault.TheVariants.{HexLine, Input, Output, Memory}
 use Rattle.siman_console.specs.declared.lines.Stop.{Stop}

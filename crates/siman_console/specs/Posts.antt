@@ -1,8 +1,8 @@
 -- Stations at their lines: why a move is not made (profile).
 use Rattle.std.specs.Prelude.{◌≡◌, ⊤, ℕ, ◌+◌, nat_le, Option, Some, None, if◌then◌else◌}
 use Rattle.exercise_model.specs.declared.recording.TheConstants.{MOST_ENTRIES}
-use Rattle.siman_worlds.specs.declared.act.Act.{Act}
-use Rattle.siman_worlds.specs.declared.act.Act.TheVariants.{Command, Deliver, Tick, Tell}
+use Rattle.siman_scripts.specs.declared.act.Act.{Act}
+use Rattle.siman_scripts.specs.declared.act.Act.TheVariants.{Command, Deliver, Tick, Tell}
 use Rattle.siman_worlds.specs.declared.turn.Node.{Node}
 use Rattle.siman_worlds.specs.declared.world_fault.MoveFault.{MoveFault}
 use Rattle.siman_worlds.specs.declared.world_fault.MoveFault.TheVariants as moves

@@ -15,9 +15,9 @@ use Rattle.exercise_model.specs.Recording.{PlainRecording}
 use Rattle.exercise_model.specs.Conversion.{converted}
 use Rattle.exercise_recording.specs.Conversion.{IsOld}
 use Rattle.exercise_recording.specs.Text.{recording_text}
-use Rattle.siman_worlds.specs.Script.{script_at}
-use Rattle.siman_worlds.specs.Script.{ScriptData}
-use Rattle.siman_worlds.specs.Text.{lines_of}
+use Rattle.siman_scripts.specs.Script.{script_at}
+use Rattle.siman_scripts.specs.Script.{ScriptData}
+use Rattle.siman_scripts.specs.Text.{lines_of}
 use Rattle.siman_worlds.specs.World.{are_world_stations}
 use Rattle.siman_console.specs.declared.fault.Fault.{Fault}
 use Rattle.siman_console.specs.declared.fault.Fault.TheVariants.{LineFailed, Output, Memory}
@@ -34,7 +34,7 @@ use Rattle.siman_console.specs.declared.search.Finding.TheVariants as findings
 use Rattle.siman_console.specs.Search.{explained_line, FindsOrder, FindsNone, IsUnsearched, PutsBoth, PutsBlocked}
 use Rattle.siman_console.specs.Show.{TellsShow}
 use Rattle.siman_console.specs.Trial.{TellsTrial}
-use Rattle.siman_console.specs.Words.{Asked, Trial, Pdu, Pdus, Show, Check, Audit, World, Live, Convert, asked}
+use Rattle.siman_words.specs.Words.{Asked, Trial, Pdu, Pdus, Show, Check, Audit, World, Live, Convert, asked}
 use Rattle.siman_console.specs.World.{Scripted, Yields, YieldsNone, PutsWorld}
 
 -- what a command answered, its status, or the fault that it met

@@ -7,11 +7,11 @@ use Rattle.exercise_model.specs.Recording.{PlainRecording}
 use Rattle.exercise_model.specs.Run.{IsRun}
 use Rattle.exercise_check.specs.declared.certificate.Step.{Step}
 use Rattle.exercise_check.specs.Goodness.{IsGood}
-use Rattle.siman_worlds.specs.declared.script_fault.ScriptFault.{ScriptFault}
-use Rattle.siman_worlds.specs.declared.script_fault.ScriptFault.TheVariants as scripts
+use Rattle.siman_scripts.specs.declared.script_fault.ScriptFault.{ScriptFault}
+use Rattle.siman_scripts.specs.declared.script_fault.ScriptFault.TheVariants as scripts
 use Rattle.siman_worlds.specs.declared.world_fault.WorldFault.{WorldFault}
 use Rattle.siman_worlds.specs.declared.world_fault.WorldFault.TheVariants as worlds
-use Rattle.siman_worlds.specs.Script.{ScriptData}
+use Rattle.siman_scripts.specs.Script.{ScriptData}
 use Rattle.siman_console.specs.declared.fault.Fault.{Fault}
 use Rattle.siman_console.specs.declared.trial_fault.TrialFault.{TrialFault}
 use Rattle.siman_console.specs.declared.trial_fault.TrialFault.TheVariants.{Read, Script, World, Write, Memory}

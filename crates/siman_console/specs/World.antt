@@ -8,11 +8,11 @@ use Rattle.exercise_model.specs.History.{past}
 use Rattle.exercise_model.specs.Recording.{PlainRecording}
 use Rattle.exercise_model.specs.Run.{IsRun}
 use Rattle.exercise_recording.specs.Text.{entry_text, recording_text}
-use Rattle.siman_worlds.specs.declared.script_fault.ScriptFault.{ScriptFault}
-use Rattle.siman_worlds.specs.declared.script_fault.ScriptFault.TheVariants as scripts
+use Rattle.siman_scripts.specs.declared.script_fault.ScriptFault.{ScriptFault}
+use Rattle.siman_scripts.specs.declared.script_fault.ScriptFault.TheVariants as scripts
 use Rattle.siman_worlds.specs.declared.world_fault.WorldFault.{WorldFault}
 use Rattle.siman_worlds.specs.declared.world_fault.WorldFault.TheVariants as worlds
-use Rattle.siman_worlds.specs.Script.{ScriptData}
+use Rattle.siman_scripts.specs.Script.{ScriptData}
 use Rattle.siman_worlds.specs.World.{WorldData, sent_in, world_recording, world_refusal}
 use Rattle.siman_console.specs.declared.fault.Fault.{Fault}
 use Rattle.siman_console.specs.declared.fault.Fault.TheVariants.{NotBytePairs, HexLine, Input, File, Words, Recording, Already, Certificate, Script, ScriptRead, World, LineFailed, Output, Memory}

@@ -19,7 +19,7 @@ const SHOWN: u8 = 0;
 const REFUSED: u8 = 1;
 
 /// What a command answers: the status to exit with, and the text that goes out before.
-#[derive(Debug, Drop)]
+#[derive(Drop)]
 pub struct Answer {
     status: u8,
     text: String,

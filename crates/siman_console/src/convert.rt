@@ -20,7 +20,7 @@ use std::io::{Read, Write};
 pub const LARGEST_OLD_RECORDING: u64 = 268_435_455;
 
 /// A recording that is to be written in the second format, and its line.
-#[derive(Debug, Drop)]
+#[derive(Drop)]
 pub(crate) struct Carried {
     pub conversion: Conversion,
     pub line: String,

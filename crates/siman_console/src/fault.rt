@@ -19,7 +19,7 @@ use std::fmt;
 use std::io::Write;
 
 /// Why a command gave no answer, or not the whole of it.
-#[derive(Clone, Copy, Debug, PartialEq, Eq)]
+#[derive(Clone, Copy)]
 pub enum Fault<'a> {
     /// The hex text is more than 65,536 bytes, or is not pairs of hex digits.
     NotBytePairs,

@@ -35,7 +35,7 @@ mod script_trial;
 mod search;
 mod show;
 mod trial_fault;
-mod words;
+mod usage;
 mod world;
 
 pub use answer::answers_follow_the_grammar;
@@ -51,10 +51,11 @@ pub use program::run;
 pub use script_trial::{perform, trial};
 pub use search::audit_command;
 pub use show::{LARGEST_RECORDING, show_command};
+pub use siman_words::{Task, read_words};
 pub use siman_worlds::{
     Act, LARGEST_SCRIPT, Move, MoveFault, Script, ScriptFault, WorldFault, WorldStation,
     read_script, run_world,
 };
 pub use trial_fault::TrialFault;
-pub use words::{Task, read_words, usage_command};
+pub use usage::usage_command;
 pub use world::world_command;

@@ -2,7 +2,7 @@
 
 ghost use Rattle.std.specs.Prelude.{◌≡◌, ◌+◌, ◌<◌, List, ℕ, length, IfOk, IfSome};
 ghost use Rattle.std.specs.Io.Buffered.{reader_remaining};
-ghost use Rattle.siman_worlds.specs.Text.{lines_of};
+ghost use Rattle.siman_scripts.specs.Text.{lines_of};
 ghost use Rattle.siman_console.specs.declared.hex_text.TheConstants.{LONGEST_HEX};
 ghost use Rattle.siman_console.specs.declared.fault.Fault.TheVariants.{Memory};
 ghost use Rattle.siman_console.specs.declared.lines.Stop.TheVariants as stops;
@@ -18,7 +18,7 @@ use std::alloc::{AllocError, Global};
 use std::io::{BufReader, Read, Write};
 
 /// Why the lines of an input were not all told.
-#[derive(Clone, Copy, Debug, PartialEq, Eq)]
+#[derive(Clone, Copy)]
 pub(crate) enum Stop {
     /// Memory ran out, a read failed, or an answer could not be written whole.
     Fault(Fault<'static>),

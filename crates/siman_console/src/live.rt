@@ -3,7 +3,7 @@
 ghost use Rattle.std.specs.Prelude.{◌≡◌, ◌⊎◌, ◌≤◌, None, Ok, IfOk, OnOk, IfErr, IfSome, length, string_bytes};
 ghost use Rattle.std.specs.Io.KnownBytes.{Keeps};
 ghost use Rattle.exercise_model.specs.declared.recording.TheConstants.{MOST_ENTRIES};
-ghost use Rattle.siman_worlds.specs.Script.{script_at};
+ghost use Rattle.siman_scripts.specs.Script.{script_at};
 ghost use Rattle.siman_console.specs.Live.{Begins, TellsMoves, HaltsIn, live_line, EndsLive, TellsLive};
 ghost use Rattle.siman_console.specs.Outcome.{Stream};
 ghost use Rattle.siman_console.specs.World.{Scripted};

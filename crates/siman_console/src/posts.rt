@@ -10,7 +10,7 @@ use exercise_recording::RecordingWriter;
 use siman_lines::{IssueFault, Line, ServeFault, issue, nudge, serve, tell};
 use siman_manager::{Order, OrderFault};
 use siman_worlds::{Act, Move, MoveFault, Node, WorldFault};
-use std::alloc::Global;
+use std::alloc::{AllocError, Global};
 use std::io::Write;
 
 /// How many rounds follow a move.
@@ -29,7 +29,7 @@ pub(crate) struct Post<L: Drop> {
 }
 
 /// Why a move was not made, or what came of it not served.
-#[derive(Clone, Copy, Debug, PartialEq, Eq)]
+#[derive(Clone, Copy)]
 pub(crate) enum Halt {
     /// The move is refused.
     Move(MoveFault),
@@ -55,6 +55,21 @@ impl Halt {
     }
 }
 
+/// One more station at its line.
+fn add_post<L: Line + Drop>(
+    posts: &mut Vec<Post<L>>,
+    station: u16,
+    node: Node,
+    line: L,
+) -> Result<(), AllocError> {
+    posts.push(Post {
+        station,
+        node,
+        line,
+    })?;
+    Ok(())
+}
+
 /// Stations at their lines, the first at the first. There are to be as many lines as stations.
 pub(crate) fn posts_of<L: Line + Drop>(
     alloc: Global,
@@ -68,12 +83,7 @@ pub(crate) fn posts_of<L: Line + Drop>(
     }
     let mut posts = Vec::new(alloc);
     for (station, (node, line)) in (0..=u16::MAX).zip(nodes.into_iter().zip(lines)) {
-        let post = Post {
-            station,
-            node,
-            line,
-        };
-        if posts.push(post).is_err() {
+        if add_post(&mut posts, station, node, line).is_err() {
             return Err(Fault::Memory);
         }
     }

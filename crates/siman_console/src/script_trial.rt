@@ -6,7 +6,7 @@ ghost use Rattle.exercise_model.specs.Run.{IsRun};
 ghost use Rattle.exercise_check.specs.Checked.{TellsAccount};
 ghost use Rattle.exercise_check.specs.declared.certificate.Step.{Step};
 ghost use Rattle.exercise_check.specs.Goodness.{IsGood};
-ghost use Rattle.siman_worlds.specs.Script.{script_at};
+ghost use Rattle.siman_scripts.specs.Script.{script_at};
 ghost use Rattle.siman_console.specs.Trial.{trial_text, Performs, Tries, tried_status, TellsTrial};
 ghost use Rattle.siman_console.specs.World.{Scripted};
 

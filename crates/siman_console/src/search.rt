@@ -24,7 +24,7 @@ use std::alloc::{AllocError, Global};
 use std::io::{Read, Write};
 
 /// What a search found, with the texts that tell of it.
-#[derive(Debug, Drop)]
+#[derive(Drop)]
 pub(crate) enum Finding {
     /// Some order explains the recording: the text of its certificate, and its line.
     Order { certificate: Vec<u8>, line: String },

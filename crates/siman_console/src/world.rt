@@ -3,7 +3,7 @@
 ghost use Rattle.std.specs.Prelude.{◌≡◌, ◌⊎◌, length, map, Ok, IfOk, IfSome, string_bytes};
 ghost use Rattle.std.specs.Io.KnownBytes.{Keeps};
 ghost use Rattle.exercise_model.specs.Held.{kept};
-ghost use Rattle.siman_worlds.specs.Script.{script_at};
+ghost use Rattle.siman_scripts.specs.Script.{script_at};
 ghost use Rattle.siman_worlds.specs.World.{sent_in};
 ghost use Rattle.siman_console.specs.Outcome.{Stream};
 ghost use Rattle.siman_console.specs.World.{Scripted, Runs, is_sent, world_line, PutsWorld, TellsWorld, EndsWorld};

@@ -9,7 +9,7 @@ use indexmap::IndexMap;
 use siman_pdus::Pdu;
 
 /// Whether an order is still to be sent.
-#[derive(Clone, Copy, Debug, PartialEq, Eq)]
+#[derive(Clone, Copy, PartialEq, Eq)]
 pub(crate) enum Standing {
     Waiting,
     Answered,
@@ -17,7 +17,7 @@ pub(crate) enum Standing {
 }
 
 /// An order that was made.
-#[derive(Debug, Drop)]
+#[derive(Drop)]
 pub(crate) struct KeptOrder {
     /// Its PDU, as it was last sent.
     pub pdu: Pdu,

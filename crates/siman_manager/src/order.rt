@@ -4,7 +4,7 @@ use dis_records::EntityId;
 use siman_pdus::Body;
 
 /// What is to be ordered, and from whom.
-#[derive(Debug, Drop, PartialEq, Eq)]
+#[derive(Drop, PartialEq, Eq)]
 pub struct Order {
     /// The receiving identifier: a station, all of a site, or all.
     pub target: EntityId,
@@ -13,7 +13,7 @@ pub struct Order {
 }
 
 /// How an order stands.
-#[derive(Clone, Copy, Debug, PartialEq, Eq)]
+#[derive(Clone, Copy, PartialEq, Eq)]
 pub enum OrderStatus {
     /// It waits for an answer, and was sent this many times, at least once.
     Waiting(u32),
@@ -25,7 +25,7 @@ pub enum OrderStatus {
 }
 
 /// What a PDU that came meant to the manager. The number is the order's request identifier.
-#[derive(Clone, Copy, Debug, PartialEq, Eq)]
+#[derive(Clone, Copy, PartialEq, Eq)]
 pub enum Taken {
     /// It is of another exercise, or answers no order of this manager.
     Foreign,

@@ -8,7 +8,7 @@ use std::marker::Model;
 
 /// A datum specification (IEEE 1278.1-2012, 6.2.18): fixed datum records, then variable datum
 /// records, each in order. Contracts see it as two lists.
-#[derive(Debug, Drop)]
+#[derive(Drop)]
 pub struct Datums {
     pub fixed: Vec<FixedDatum>,
     pub variable: Vec<VariableDatum>,
@@ -24,7 +24,7 @@ impl Model for Datums {
 
 /// The datum identifiers that a query asks for (IEEE 1278.1-2012, 6.2.17): those of fixed datums,
 /// then those of variable datums, each in order. Contracts see it as two lists.
-#[derive(Debug, Drop)]
+#[derive(Drop)]
 pub struct DatumIds {
     pub fixed: Vec<u32>,
     pub variable: Vec<u32>,

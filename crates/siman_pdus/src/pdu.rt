@@ -14,7 +14,7 @@ pub const UNABLE: u16 = 2;
 
 /// What a PDU says: the body of its kind, after the header and the two identifiers
 /// (IEEE 1278.1-2012, 7.5.2 to 7.5.13). All numbers are carried as they stand, unsigned.
-#[derive(Debug, Drop, PartialEq, Eq)]
+#[derive(Drop, PartialEq, Eq)]
 pub enum Body {
     /// PDU type 11 (7.5.2).
     CreateEntity {
@@ -84,7 +84,7 @@ pub enum Body {
 
 /// A Simulation Management PDU: what its header says beside kind and length, who sends it, who is
 /// meant, and its body.
-#[derive(Debug, Drop, PartialEq, Eq)]
+#[derive(Drop, PartialEq, Eq)]
 pub struct Pdu {
     pub version: Version,
     /// The exercise identifier.

@@ -12,7 +12,7 @@ use std::alloc::{AllocError, Global};
 
 /// What a PDU says, in place: the body of its kind, as in [`Body`], its records and identifiers
 /// where they stand in the datagram.
-#[derive(Debug, Drop)]
+#[derive(Drop)]
 pub enum BodyView<'a> {
     /// PDU type 11 (7.5.2).
     CreateEntity {
@@ -82,7 +82,7 @@ pub enum BodyView<'a> {
 
 /// A PDU in place, with the fields of [`Pdu`]: it borrows the datagram that it was read from, and
 /// takes no memory.
-#[derive(Debug, Drop)]
+#[derive(Drop)]
 pub struct PduView<'a> {
     pub version: Version,
     /// The exercise identifier.

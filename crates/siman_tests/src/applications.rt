@@ -1,8 +1,7 @@
-//! Applications at work, with literal datagrams.
+//! Applications at work, with literal datagrams. What a station answers on its line stands in the
+//! cases of `siman_cases`.
 
 mod answers;
 mod datagrams;
-mod datums;
 mod logs;
-mod repeats;
 mod scenes;

@@ -1,11 +1,10 @@
 //! The texts of faults that no command prints.
 
 use dis_records::DatumFault;
-use exercise_check::{CertificateFault, CertificateWriterFault};
+use exercise_check::CertificateWriterFault;
 use exercise_model::LogFault;
-use exercise_recording::{RecordingFault, WriterFault};
+use exercise_recording::WriterFault;
 use siman_application::AppFault;
-use siman_console::FilesFault;
 use siman_manager::OrderFault;
 use siman_pdus::EncodeFault;
 use std::alloc::Global;
@@ -49,20 +48,7 @@ fn faults_of_writers_are_told_by_name(rt: HostRuntime) {
 }
 
 #[test]
-fn faults_of_files_and_datums_are_told_by_name(rt: HostRuntime) {
-    let rows = [
-        (
-            FilesFault::Recording(RecordingFault::Read),
-            "recording: read",
-        ),
-        (
-            FilesFault::Certificate(CertificateFault::Read),
-            "certificate: read",
-        ),
-        (FilesFault::Write, "output: write"),
-        (FilesFault::Memory, "memory"),
-    ];
-    assert_eq!(rt; first_otherwise(rt.alloc(), &rows), None);
+fn faults_of_datums_are_told_by_name(rt: HostRuntime) {
     let rows = [
         (EncodeFault::TooLong, "too long"),
         (EncodeFault::Memory, "memory"),

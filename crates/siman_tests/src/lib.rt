@@ -8,8 +8,6 @@ mod applications;
 #[cfg(test)]
 mod certificates;
 #[cfg(test)]
-mod console;
-#[cfg(test)]
 mod datagrams;
 #[cfg(test)]
 mod faults;

@@ -199,31 +199,6 @@ fn an_order_is_repeated_given_up_and_answered_late(rt: HostRuntime) -> Result<()
 }
 
 #[test]
-fn the_last_identifier_is_given_out_once(rt: HostRuntime) -> Result<(), Fail> {
-    let steps = [
-        Creation(Ok(0xFFFF_FFFF)),
-        Creation(Err(OrderFault::IdsSpent)),
-    ];
-    assert_eq!(rt; first_otherwise(rt.alloc(), 0xFFFF_FFFF, 3, &steps)?, None);
-    Ok(())
-}
-
-#[test]
-fn orders_are_repeated_in_turn_one_a_tick(rt: HostRuntime) -> Result<(), Fail> {
-    let steps = [
-        Creation(Ok(1)),
-        Creation(Ok(2)),
-        Ticked(10, 71, Some(1)),
-        Ticked(10, 72, Some(2)),
-        Ticked(10, 73, None),
-        Ticked(20, 74, None),
-        AllGivenUp(2),
-    ];
-    assert_eq!(rt; first_otherwise(rt.alloc(), 1, 2, &steps)?, None);
-    Ok(())
-}
-
-#[test]
 fn only_what_settles_an_order_changes_it(rt: HostRuntime) -> Result<(), Fail> {
     let steps = [
         Creation(Ok(1)),

@@ -17,7 +17,7 @@ fn headers_are_read_and_written(rt: HostRuntime) {
     };
     // The padding is written as zero.
     let written = [7, 9, 22, 5, 0x12, 0x34, 0x56, 0x78, 0, 13, 0x81, 0];
-    assert_eq!(rt; read_header(&bytes), Ok(header));
+    assert!(rt; read_header(&bytes) == Ok(header));
     assert!(rt; write_header(&header) == written);
 }
 
@@ -37,7 +37,7 @@ fn headers_of_version_6_carry_no_status(rt: HostRuntime) {
         ..header
     };
     let written = [6, 9, 22, 5, 0x12, 0x34, 0x56, 0x78, 0, 13, 0, 0];
-    assert_eq!(rt; read_header(&bytes), Ok(header));
+    assert!(rt; read_header(&bytes) == Ok(header));
     assert!(rt; write_header(&header) == written);
     assert!(rt; write_header(&with_status) == written);
 }

@@ -12,7 +12,7 @@ use Rattle.siman_manager.specs.declared.kept.KeptOrder.{KeptOrder}
 use Rattle.siman_manager.specs.declared.settings.Settings.{Settings}
 use Rattle.siman_worlds.specs.declared.turn.Node.{Node}
 use Rattle.siman_worlds.specs.declared.world.World.{World}
-use Rattle.siman_worlds.specs.Stations.{WorldStationData}
+use Rattle.siman_scripts.specs.Stations.{WorldStationData}
 use Rattle.siman_worlds.specs.World.{WorldData, setting_of, settings_of, is_world_station, no_station, course_of}
 use Rattle.siman_worlds.specs.Acts.{sends_of}
 use Rattle.siman_worlds.specs.Holds.{IsNode, IsNewNode, AreNewNodes, IsAfter}

@@ -8,7 +8,7 @@ use Rattle.exercise_model.specs.Run.{IsRun}
 use Rattle.siman_application.specs.Distinct.{distinct}
 use Rattle.siman_application.specs.Play.{state_over}
 use Rattle.siman_application.proofs.Offered.{states_stand}
-use Rattle.siman_worlds.specs.declared.act.Move.{Move}
+use Rattle.siman_scripts.specs.declared.act.Move.{Move}
 use Rattle.siman_worlds.specs.declared.world_fault.WorldFault.{WorldFault}
 use Rattle.siman_worlds.specs.declared.world_fault.WorldFault.TheVariants.{Stations}
 use Rattle.siman_worlds.specs.World.{WorldData, setting_of, outfit_of, state_by, are_world_stations, first_fault, course_of, entries_of, world_refusal}

@@ -26,7 +26,7 @@ use Rattle.exercise_model.proofs.Offered.{get_where_sent}
 use Rattle.siman_application.specs.OwnLog.{AnswersStand}
 use Rattle.siman_application.proofs.Offered.{read_meant}
 use Rattle.siman_manager.specs.Calls.{Call}
-use Rattle.siman_worlds.specs.Stations.{WorldStationData}
+use Rattle.siman_scripts.specs.Stations.{WorldStationData}
 use Rattle.siman_worlds.specs.World.{WorldData, Course, setting_of, no_station, station_of, outfit_of, settings_of, sent_in, datagram, reply_by, state_by}
 use Rattle.siman_worlds.proofs.Logs.{past-first, log-first}
 use Rattle.siman_worlds.proofs.LogsOrders.{AreFit, fit_requests}

@@ -32,9 +32,9 @@ use Rattle.siman_manager.specs.declared.settings.Settings.{Settings}
 use Rattle.siman_manager.specs.Book.{order_pdu, next_id, refusal}
 use Rattle.siman_manager.specs.Calls.{Call, Requested, Came, Ticked, AreRequests, Life, life, life_made, count_made}
 use Rattle.siman_manager.proofs.Offered.{made_as}
-use Rattle.siman_worlds.specs.declared.act.Act.{Act}
-use Rattle.siman_worlds.specs.declared.act.Act.TheVariants.{Command, Deliver, Tick, Tell as TellState}
-use Rattle.siman_worlds.specs.declared.act.Move.{Move}
+use Rattle.siman_scripts.specs.declared.act.Act.{Act}
+use Rattle.siman_scripts.specs.declared.act.Act.TheVariants.{Command, Deliver, Tick, Tell as TellState}
+use Rattle.siman_scripts.specs.declared.act.Move.{Move}
 use Rattle.siman_worlds.specs.Turn.{stamp_of}
 use Rattle.siman_worlds.specs.World.{WorldData, Course, outfit_of, settings_of, datagram, call_of, made_by, reply_by, repeated_by, put_at, act_fault, course_of}
 use Rattle.siman_worlds.specs.WorldLaw.{IsWorldInRange, IsActInRange}

@@ -12,9 +12,9 @@ use Rattle.siman_application.specs.Ranges.{IsOutfitInRange}
 use Rattle.siman_application.specs.OwnLog.{Turn, taken_in, sent_after, log_in, AreTurns, TakesAll, AnswersStand}
 use Rattle.siman_application.proofs.Offered.{answers_stand}
 use Rattle.siman_manager.specs.Calls.{Requested, Ticked}
-use Rattle.siman_worlds.specs.declared.act.Act.{Act}
-use Rattle.siman_worlds.specs.declared.act.Act.TheVariants.{Command, Deliver, Tick, Tell as TellState}
-use Rattle.siman_worlds.specs.declared.act.Move.{Move}
+use Rattle.siman_scripts.specs.declared.act.Act.{Act}
+use Rattle.siman_scripts.specs.declared.act.Act.TheVariants.{Command, Deliver, Tick, Tell as TellState}
+use Rattle.siman_scripts.specs.declared.act.Move.{Move}
 use Rattle.siman_worlds.specs.Turn.{stamp_of, sent_as}
 use Rattle.siman_worlds.specs.World.{WorldData, Course, setting_of, outfit_of, settings_of, datagram, made_by, reply_by, arrival, repeated_by, state_by, entries_by, act_fault, course_of}
 use Rattle.siman_worlds.specs.WorldLaw.{IsWorldInRange, IsActInRange}

@@ -13,7 +13,7 @@ use Rattle.exercise_model.specs.Entry.{Entry}
 use Rattle.exercise_model.specs.Recording.{PlainRecording}
 use Rattle.siman_manager.specs.Book.{Book}
 use Rattle.siman_manager.specs.Calls.{AreRequests}
-use Rattle.siman_worlds.specs.declared.act.Move.{Move}
+use Rattle.siman_scripts.specs.declared.act.Move.{Move}
 use Rattle.siman_worlds.specs.declared.turn.Node.{Node}
 use Rattle.siman_worlds.specs.declared.world.World.{World}
 use Rattle.siman_worlds.specs.declared.world_fault.MoveFault.{MoveFault}

@@ -16,8 +16,8 @@ use Rattle.siman_manager.specs.Answers.{taken, with_orders, ticked}
 use Rattle.siman_manager.specs.Book.{Book, order_pdu, next_id, refusal, after_request, with_order}
 use Rattle.siman_manager.specs.Calls.{Call, Requested, Came, Ticked, AreRequests, kept, count_made}
 use Rattle.siman_manager.proofs.Offered.{counts}
-use Rattle.siman_worlds.specs.declared.act.Act.{Act}
-use Rattle.siman_worlds.specs.declared.act.Act.TheVariants.{Command, Deliver, Tick, Tell}
+use Rattle.siman_scripts.specs.declared.act.Act.{Act}
+use Rattle.siman_scripts.specs.declared.act.Act.TheVariants.{Command, Deliver, Tick, Tell}
 use Rattle.siman_worlds.specs.declared.turn.Node.{Node}
 use Rattle.siman_worlds.specs.declared.world_fault.MoveFault.TheVariants as faults
 use Rattle.siman_worlds.specs.Turn.{stamp_of, sent_as, reply_due, TakesBoth}

@@ -1,5 +1,3 @@
-mod Texts
-pub mod Openings
 pub mod Turns
 pub mod Writings
 pub mod Steps

@@ -12,9 +12,9 @@ use Rattle.exercise_model.proofs.Offered.{log_at-append, past-append}
 use Rattle.siman_application.specs.Outfit.{Outfit}
 use Rattle.siman_application.specs.Play.{reply}
 use Rattle.siman_application.specs.OwnLog.{Turn, Tells, Orders, Passes, Takes, taken_in, sent_after, log_in}
-use Rattle.siman_worlds.specs.declared.act.Act.{Act}
-use Rattle.siman_worlds.specs.declared.act.Act.TheVariants.{Command, Deliver, Tick, Tell as TellState}
-use Rattle.siman_worlds.specs.declared.act.Move.{Move}
+use Rattle.siman_scripts.specs.declared.act.Act.{Act}
+use Rattle.siman_scripts.specs.declared.act.Act.TheVariants.{Command, Deliver, Tick, Tell as TellState}
+use Rattle.siman_scripts.specs.declared.act.Move.{Move}
 use Rattle.siman_worlds.specs.Turn.{stamp_of, sent_as}
 use Rattle.siman_worlds.specs.World.{WorldData, Course, outfit_of, datagram, brought, made_by, reply_by, arrival, repeated_by, state_by, entries_by, put_at, course_of}
 

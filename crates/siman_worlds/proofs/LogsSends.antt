@@ -26,9 +26,9 @@ use Rattle.siman_manager.specs.declared.order.Order.{Order}
 use Rattle.siman_manager.specs.declared.settings.Settings.{Settings}
 use Rattle.siman_manager.specs.Book.{refusal, with_stamp}
 use Rattle.siman_manager.specs.Calls.{Call, Requested, Came, Ticked, Life, life, count_made, is_ready_at, passes, manager_id}
-use Rattle.siman_worlds.specs.declared.act.Act.{Act}
-use Rattle.siman_worlds.specs.declared.act.Act.TheVariants.{Command, Deliver, Tick, Tell}
-use Rattle.siman_worlds.specs.declared.act.Move.{Move}
+use Rattle.siman_scripts.specs.declared.act.Act.{Act}
+use Rattle.siman_scripts.specs.declared.act.Act.TheVariants.{Command, Deliver, Tick, Tell}
+use Rattle.siman_scripts.specs.declared.act.Move.{Move}
 use Rattle.siman_worlds.specs.declared.world_fault.MoveFault.{MoveFault}
 use Rattle.siman_worlds.specs.declared.world_fault.MoveFault.TheVariants as faults
 use Rattle.siman_worlds.specs.declared.world_fault.WorldFault.TheVariants as world_faults

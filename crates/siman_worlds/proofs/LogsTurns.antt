@@ -10,9 +10,9 @@ use Rattle.exercise_model.specs.History.{History, past, log_at}
 use Rattle.siman_application.specs.Outfit.{Outfit}
 use Rattle.siman_application.specs.Ranges.{IsOutfitInRange}
 use Rattle.siman_application.specs.OwnLog.{Turn, AreTurns, IsOrder, IsOwnLog, MissNone, TakesAll, IsClear, is_due}
-use Rattle.siman_worlds.specs.declared.act.Act.{Act}
-use Rattle.siman_worlds.specs.declared.act.Act.TheVariants.{Command, Deliver, Tick, Tell}
-use Rattle.siman_worlds.specs.declared.act.Move.{Move}
+use Rattle.siman_scripts.specs.declared.act.Act.{Act}
+use Rattle.siman_scripts.specs.declared.act.Act.TheVariants.{Command, Deliver, Tick, Tell}
+use Rattle.siman_scripts.specs.declared.act.Move.{Move}
 use Rattle.siman_worlds.specs.Turn.{stamp_of}
 use Rattle.siman_worlds.specs.World.{WorldData, Course, outfit_of, datagram, repeated_by, act_fault, course_of}
 use Rattle.siman_worlds.specs.WorldLaw.{IsWorldInRange, IsActInRange}

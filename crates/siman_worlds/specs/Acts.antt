@@ -15,8 +15,8 @@ use Rattle.siman_application.specs.Standing.{Standing, came}
 use Rattle.siman_manager.specs.declared.order.Order.{Order}
 use Rattle.siman_manager.specs.Answers.{refusal_of, told_by, with_orders, ticked}
 use Rattle.siman_manager.specs.Book.{Book, order_pdu, next_id, repeated, with_order}
-use Rattle.siman_worlds.specs.declared.act.Act.{Act}
-use Rattle.siman_worlds.specs.declared.act.Act.TheVariants.{Command, Deliver, Tick, Tell}
+use Rattle.siman_scripts.specs.declared.act.Act.{Act}
+use Rattle.siman_scripts.specs.declared.act.Act.TheVariants.{Command, Deliver, Tick, Tell}
 use Rattle.siman_worlds.specs.declared.journal.Journal.{Journal}
 use Rattle.siman_worlds.specs.declared.sending.OrderTextFault.{OrderTextFault}
 use Rattle.siman_worlds.specs.declared.sending.OrderTextFault.TheVariants as text_faults

@@ -1,8 +1,8 @@
 -- What a move makes of a world as it is kept: of its journal, and of the halves of each station (profile).
 use Rattle.std.specs.Prelude.{◌≡◌, ℕ, ◌+◌, nat_le, List, length, slice_get, slice_set, Option, Some, None, if◌then◌else◌}
 use Rattle.exercise_model.specs.declared.recording.TheConstants.{MOST_ENTRIES}
-use Rattle.siman_worlds.specs.declared.act.Act.{Act}
-use Rattle.siman_worlds.specs.declared.act.Move.{Move}
+use Rattle.siman_scripts.specs.declared.act.Act.{Act}
+use Rattle.siman_scripts.specs.declared.act.Move.{Move}
 use Rattle.siman_worlds.specs.declared.turn.Node.{Node}
 use Rattle.siman_worlds.specs.declared.world.World.{World}
 use Rattle.siman_worlds.specs.declared.world_fault.MoveFault.{MoveFault}

@@ -5,9 +5,9 @@ use Rattle.siman_pdus.specs.Ranges.{IsEntityIdInRange, IsBodyInRange}
 use Rattle.siman_application.specs.Ranges.{IsOutfitInRange}
 use Rattle.siman_manager.specs.declared.order.Order.{Order}
 use Rattle.siman_manager.specs.Book.{numbered}
-use Rattle.siman_worlds.specs.declared.act.Act.{Act}
-use Rattle.siman_worlds.specs.declared.act.Act.TheVariants.{Command, Deliver, Tick, Tell}
-use Rattle.siman_worlds.specs.declared.act.Move.{Move}
+use Rattle.siman_scripts.specs.declared.act.Act.{Act}
+use Rattle.siman_scripts.specs.declared.act.Act.TheVariants.{Command, Deliver, Tick, Tell}
+use Rattle.siman_scripts.specs.declared.act.Move.{Move}
 use Rattle.siman_worlds.specs.World.{WorldData, outfit_of}
 
 -- THE NUMBERS OF A WORLD: those of the outfit of each station, which its application half is begun with

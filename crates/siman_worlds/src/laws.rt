@@ -6,7 +6,7 @@ ghost use Rattle.exercise_model.specs.History.{past};
 ghost use Rattle.exercise_model.specs.Run.{IsRun};
 ghost use Rattle.siman_application.specs.Distinct.{distinct};
 ghost use Rattle.siman_application.specs.Play.{state_over};
-ghost use Rattle.siman_worlds.specs.declared.act.Move.{Move};
+ghost use Rattle.siman_scripts.specs.declared.act.Move.{Move};
 ghost use Rattle.siman_worlds.specs.World.{WorldData, outfit_of, state_by, first_fault, course_of, world_refusal, world_recording};
 ghost use Rattle.siman_worlds.specs.WorldLaw.{IsWorldInRange, AreMovesInRange};
 

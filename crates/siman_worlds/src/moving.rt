@@ -12,7 +12,6 @@ ghost use Rattle.siman_worlds.specs.Acts.{HasRoom, Writes, RepeatsShort, AreShor
 ghost use Rattle.siman_worlds.specs.Turn.{sent_as, TakesBoth};
 ghost use Rattle.siman_worlds.specs.WorldLaw.{IsOrderInRange, IsActInRange};
 
-use crate::act::Act;
 use crate::journal::Journal;
 use crate::sending::{OrderTextFault, order_text, repeat_text};
 use crate::turn::{Node, TurnFault, take_turn};
@@ -20,6 +19,7 @@ use crate::world_fault::{MoveFault, WorldFault};
 use exercise_model::{LogFault, is_entity};
 use siman_manager::{Order, OrderFault};
 use siman_pdus::EncodeFault;
+use siman_scripts::Act;
 use std::alloc::{AllocError, Global};
 
 /// Why a move was not made.

@@ -13,16 +13,15 @@ ghost use Rattle.siman_worlds.specs.Moves.{IsFit, Does, step_fault};
 ghost use Rattle.siman_worlds.specs.World.{WorldData, is_world_station, are_world_stations, first_fault, world_refusal, world_recording};
 ghost use Rattle.siman_worlds.specs.WorldLaw.{IsActInRange};
 
-use crate::act::Move;
 use crate::journal::Journal;
 use crate::moving::{StepFault, act_at};
 use crate::turn::Node;
 use crate::world_fault::{MoveFault, WorldFault};
-use crate::world_station::WorldStation;
 use dis_records::VariableDatum;
 use exercise_model::{ExerciseLog, MOST_ENTRIES, Recording};
 use siman_application::{AppFault, Application};
 use siman_manager::Manager;
+use siman_scripts::{Move, WorldStation};
 use std::alloc::{AllocError, Global};
 
 /// How many entities a station opens with at most (profile).

@@ -1,36 +1,4 @@
-//! Literal datagrams of data and actions.
-
-/// Set Data from 1:1:0 to 2:3:0: 10 is so much.
-pub(crate) fn setting(value: u8, id: u8) -> [u8; 48] {
-    [
-        7, 1, 19, 5, 0, 0, 0, 0, 0, 48, 0, 0, 0, 1, 0, 1, 0, 0, 0, 2, 0, 3, 0, 0, 0, 0, 0, id, 0,
-        0, 0, 0, 0, 0, 0, 1, 0, 0, 0, 0, 0, 0, 0, 10, 0, 0, 0, value,
-    ]
-}
-
-/// Data Query 1 from 1:1:0 to 2:3:0 for the fixed datums 11, 12, 10.
-pub(crate) const QUERY: [u8; 52] = [
-    7, 1, 18, 5, 0, 0, 0, 0, 0, 52, 0, 0, 0, 1, 0, 1, 0, 0, 0, 2, 0, 3, 0, 0, 0, 0, 0, 1, 0, 0, 0,
-    0, 0, 0, 0, 3, 0, 0, 0, 0, 0, 0, 0, 11, 0, 0, 0, 12, 0, 0, 0, 10,
-];
-
-/// Its answer: 11 is 6, 10 is 5.
-pub(crate) const DATA: [u8; 56] = [
-    7, 1, 20, 5, 0, 0, 0, 0, 0, 56, 0, 0, 0, 2, 0, 3, 0, 0, 0, 1, 0, 1, 0, 0, 0, 0, 0, 1, 0, 0, 0,
-    0, 0, 0, 0, 2, 0, 0, 0, 0, 0, 0, 0, 11, 0, 0, 0, 6, 0, 0, 0, 10, 0, 0, 0, 5,
-];
-
-/// Set Data 2 from 1:1:0 to 2:3:0: 10 is 9, 12 is 1.
-pub(crate) const SETTING: [u8; 56] = [
-    7, 1, 19, 5, 0, 0, 0, 0, 0, 56, 0, 0, 0, 1, 0, 1, 0, 0, 0, 2, 0, 3, 0, 0, 0, 0, 0, 2, 0, 0, 0,
-    0, 0, 0, 0, 2, 0, 0, 0, 0, 0, 0, 0, 10, 0, 0, 0, 9, 0, 0, 0, 12, 0, 0, 0, 1,
-];
-
-/// Its answer: 10 is 9.
-pub(crate) const SET: [u8; 48] = [
-    7, 1, 20, 5, 0, 0, 0, 0, 0, 48, 0, 0, 0, 2, 0, 3, 0, 0, 0, 1, 0, 1, 0, 0, 0, 0, 0, 2, 0, 0, 0,
-    0, 0, 0, 0, 1, 0, 0, 0, 0, 0, 0, 0, 10, 0, 0, 0, 9,
-];
+//! Literal datagrams of variable datums.
 
 /// Data Query 1 from 1:1:0 to 2:3:0 for the variable datums 5 and 6.
 pub(crate) const VARIABLE_QUERY: [u8; 48] = [
@@ -60,22 +28,4 @@ pub(crate) const VARIABLE_SET: [u8; 56] = [
 pub(crate) const VARIABLE_AGAIN: [u8; 56] = [
     7, 1, 20, 5, 0, 0, 0, 4, 0, 56, 0, 0, 0, 2, 0, 3, 0, 0, 0, 1, 0, 1, 0, 0, 0, 0, 0, 1, 0, 0, 0,
     0, 0, 0, 0, 0, 0, 0, 0, 1, 0, 0, 0, 5, 0, 0, 0, 40, 0x48, 0x45, 0x4C, 0x4C, 0x4F, 0, 0, 0,
-];
-
-/// Action Request 5 from 1:1:0 to 2:3:9 for action 8, without datums.
-pub(crate) const ACTION: [u8; 40] = [
-    7, 1, 16, 5, 0, 0, 0, 0, 0, 40, 0, 0, 0, 1, 0, 1, 0, 0, 0, 2, 0, 3, 0, 9, 0, 0, 0, 5, 0, 0, 0,
-    8, 0, 0, 0, 0, 0, 0, 0, 0,
-];
-
-/// Action Response 5 from 2:3:9: complete (4), without datums.
-pub(crate) const COMPLETE: [u8; 40] = [
-    7, 1, 17, 5, 0, 0, 0, 0, 0, 40, 0, 0, 0, 2, 0, 3, 0, 9, 0, 1, 0, 1, 0, 0, 0, 0, 0, 5, 0, 0, 0,
-    4, 0, 0, 0, 0, 0, 0, 0, 0,
-];
-
-/// The same: rejected (5).
-pub(crate) const REJECTED: [u8; 40] = [
-    7, 1, 17, 5, 0, 0, 0, 0, 0, 40, 0, 0, 0, 2, 0, 3, 0, 9, 0, 1, 0, 1, 0, 0, 0, 0, 0, 5, 0, 0, 0,
-    5, 0, 0, 0, 0, 0, 0, 0, 0,
 ];

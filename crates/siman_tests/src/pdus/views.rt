@@ -1,7 +1,6 @@
 //! Datagrams in place: what a view shows, and the PDU that is made of it.
 
-use super::datagrams::{ACTION_REQUEST, DATA_QUERY};
-use dis_records::{DatumsView, FixedDatum, IdsView, VariableView};
+use dis_records::{DatumsView, VariableView};
 use siman_pdus::{Body, BodyView, Pdu, PduView, view};
 use std::alloc::Global;
 
@@ -85,82 +84,4 @@ fn a_record_is_shown_as_it_stands(rt: HostRuntime) {
 fn a_record_of_no_bits_has_no_last_byte(rt: HostRuntime) {
     assert!(rt; is_record(&NO_BITS, (5, 0, &[], None)));
     assert_eq!(rt; has_made(rt.alloc(), &NO_BITS, &[]), Some(true));
-}
-
-/// Whether the fixed records are these, in this order.
-fn has_fixed(datums: &DatumsView<'_>, expected: &[(u32, u32)]) -> bool {
-    let mut records = datums.fixed();
-    for (id, value) in expected {
-        let datum = FixedDatum {
-            id: *id,
-            value: *value,
-        };
-        if records.next() != Some(datum) {
-            return false;
-        }
-    }
-    records.next().is_none()
-}
-
-/// Whether the variable records are these, in this order.
-fn has_variable(datums: &DatumsView<'_>, expected: &[Shown<'_>]) -> bool {
-    let mut records = datums.variable();
-    for row in expected {
-        match records.next() {
-            Some(record) if is_like(record, *row) => {}
-            _ => return false,
-        }
-    }
-    records.next().is_none()
-}
-
-/// Whether a datagram is an Action Request with these datums.
-fn is_action_request(bytes: &[u8], fixed: &[(u32, u32)], variable: &[Shown<'_>]) -> bool {
-    match view(bytes) {
-        Ok(
-            PduView {
-                body: BodyView::ActionRequest { datums, .. },
-                ..
-            },
-        ) => has_fixed(&datums, fixed) && has_variable(&datums, variable),
-        _ => false,
-    }
-}
-
-#[test]
-fn records_are_shown_in_order(rt: HostRuntime) {
-    let variable: [Shown<'_>; 3] = [
-        (5, 40, b"HELLO", Some(0x4F)),
-        (6, 0, b"", None),
-        (7, 12, b"\xAB\xC0", Some(0xC0)),
-    ];
-    let fixed = [(10, 5), (11, 0xFFFF_FFFE)];
-    assert!(rt; is_action_request(&ACTION_REQUEST, &fixed, &variable));
-}
-
-/// Whether the identifiers that are asked for are these, in this order.
-fn has_ids(ids: &IdsView<'_>, fixed: [u32; 2], variable: u32) -> bool {
-    let mut of_fixed = ids.fixed();
-    let first = of_fixed.next() == Some(fixed[0]) && of_fixed.next() == Some(fixed[1]);
-    let mut of_variable = ids.variable();
-    let second = of_variable.next() == Some(variable);
-    first && second && of_fixed.next().is_none() && of_variable.next().is_none()
-}
-
-/// Whether a datagram is a Data Query for these identifiers.
-fn is_query(bytes: &[u8], fixed: [u32; 2], variable: u32) -> bool {
-    match view(bytes) {
-        Ok(
-            PduView {
-                body: BodyView::DataQuery { ids, .. },
-                ..
-            },
-        ) => has_ids(&ids, fixed, variable),
-        _ => false,
-    }
-}
-
-#[test]
-fn identifiers_are_shown_in_order(rt: HostRuntime) {
-    assert!(rt; is_query(&DATA_QUERY, [10, 12], 5));
 }

@@ -1,6 +1,5 @@
-//! Texts of any bytes, and scripts of many stations.
+//! Texts of any bytes.
 
-use siman_worlds::ScriptFault::BadLine;
 use siman_worlds::{ScriptFault, read_script};
 use std::alloc::{AllocError, Global};
 use std::test::Fail;
@@ -36,22 +35,5 @@ fn answered(alloc: Global, count: u64) -> Result<u64, Fail> {
 #[test]
 fn random_texts_are_answered(rt: HostRuntime) -> Result<(), Fail> {
     assert_eq!(rt; answered(rt.alloc(), 65_536)?, 65_536);
-    Ok(())
-}
-
-/// The fault of a script of so many stations, if it has one.
-fn fault_of_stations(alloc: Global, count: u16) -> Result<Option<ScriptFault>, Fail> {
-    let mut text = String::from_str(alloc, "exercise 1\n")?;
-    for application in 1..=count {
-        let line = format!(in alloc; "station 1:{application}\n")?;
-        text.push_str(line.as_str())?;
-    }
-    Ok(read_script(alloc, text.as_bytes()).err())
-}
-
-#[test]
-fn a_station_too_many_is_a_bad_line(rt: HostRuntime) -> Result<(), Fail> {
-    assert_eq!(rt; fault_of_stations(rt.alloc(), 256)?, None);
-    assert_eq!(rt; fault_of_stations(rt.alloc(), 257)?, Some(BadLine(258)));
     Ok(())
 }

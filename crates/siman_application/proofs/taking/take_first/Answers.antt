@@ -9,16 +9,8 @@ use Rattle.siman_application.specs.declared.kept.KeptRequest.{KeptRequest}
 use Rattle.siman_application.specs.Answer.{Knowledge, answer, told_of}
 use Rattle.siman_application.specs.Holding.{Holding, held_in}
 use Rattle.siman_application.specs.Knows.{knows}
-use Rattle.siman_application.proofs.Right.{made_answer, kept_one, right_more, requests_more, given_first}
+use Rattle.siman_application.proofs.Right.{kept_one, right_more, requests_more, given_first}
 use Rattle.siman_application.proofs.taking.take_first.Goals as goal
-
-pub obey-requires-clause-answers : goal.obey-requires-clause-answers
-obey-requires-clause-answers c =
-    (made_answer c.args.outfit.now c.args.entities.now (held_in c.args.held.now) c.args.pdu.now c.in_ok-outcome.outcome.answer c.args.stamp c.requires.own c.in_ok-outcome.ensures.answer).answers
-
-pub obey-requires-clause-possible : goal.obey-requires-clause-possible
-obey-requires-clause-possible c =
-    (made_answer c.args.outfit.now c.args.entities.now (held_in c.args.held.now) c.args.pdu.now c.in_ok-outcome.outcome.answer c.args.stamp c.requires.own c.in_ok-outcome.ensures.answer).able_can
 
 kept : (c : goal.After-store)
     → c.keep-place.new.kept.entries ≡ c.args.kept.now.entries ++ (c.args.key, record { request = c.args.pdu.now; answer = c.in_ok-outcome.outcome.answer }) ∷ []
@@ -28,9 +20,9 @@ kept c =
 
 pub returns-clause-right : goal.returns-clause-right
 returns-clause-right c =
-    right_more c.args.outfit.now c.args.kept.now c.keep-place.new.kept c.args.entities.now c.obey.new.self (held_in c.args.held.now) (held_in c.store.new.held) c.args.key c.args.pdu.now c.in_ok-outcome.outcome.answer c.args.stamp
+    right_more c.args.outfit.now c.args.kept.now c.keep-place.new.kept c.args.entities.now c.answer_and_obey.new.entities (held_in c.args.held.now) (held_in c.store.new.held) c.args.key c.args.pdu.now c.in_ok-outcome.outcome.answer c.args.stamp
     c.requires.right c.requires.own c.requires.key c.requires.first c.numbers_are_in_range.ensures c.in_ok-outcome.ensures.answer
-    (kept c) c.in_ok-obey.ensures.ok
+    (kept c) c.in_ok-outcome.ensures.obeyed
     (λ xs. ap (λ (h : Holding). knows xs h) c.store.ensures
     ∙ ap (λ (d : DatumLists). told_of d (knows xs (held_in c.args.held.now))) c.in_ok-outcome.ensures.brought)
 

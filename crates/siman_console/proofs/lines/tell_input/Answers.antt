@@ -1,7 +1,7 @@
 -- There is memory to begin, or none.
 use Rattle.std.proofs.Common.{subst}
 use Rattle.std.specs.Prelude.{IfSome}
-use Rattle.siman_worlds.specs.Text.{lines_of}
+use Rattle.siman_scripts.specs.Text.{lines_of}
 use Rattle.siman_console.specs.Lines.{TellsLines}
 use Rattle.siman_console.proofs.Tellings.{stream, short-known, short-some}
 use Rattle.siman_console.proofs.lines.tell_input.Goals as goal

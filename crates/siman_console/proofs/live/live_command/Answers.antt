@@ -1,5 +1,5 @@
 -- The command ends as what it told says.
-use Rattle.siman_worlds.specs.Script.{script_at}
+use Rattle.siman_scripts.specs.Script.{script_at}
 use Rattle.siman_console.specs.Live.{TellsLive}
 use Rattle.siman_console.specs.Outcome.{Stream}
 use Rattle.siman_console.proofs.Endings.{ends_known, ends_with}

@@ -3,7 +3,7 @@ use Rattle.std.proofs.Common.{[], refl, subst, sym}
 use Rattle.siman_console.specs.Outcome.{Outcome}
 use Rattle.siman_console.specs.Outside.{WasHeld}
 use Rattle.siman_console.specs.Program.{EndsTask}
-use Rattle.siman_console.specs.Words.{Trial, Pdu, asked_by}
+use Rattle.siman_words.specs.Words.{Trial, Pdu, asked_by}
 use Rattle.siman_console.proofs.Programs.{adds_none, all_none, trying}
 use Rattle.siman_console.proofs.program.end_task.Goals as goal
 

@@ -1,6 +1,6 @@
 -- What was fetched is tried as all that there was would be.
 use Rattle.std.proofs.Common.{subst}
-use Rattle.siman_worlds.specs.Script.{script_at}
+use Rattle.siman_scripts.specs.Script.{script_at}
 use Rattle.siman_console.specs.Trial.{Tries}
 use Rattle.siman_console.proofs.Trials.{tries_fetched, not_read, some_read, some_short}
 use Rattle.siman_console.proofs.script_trial.trial.Goals as goal

@@ -1,7 +1,7 @@
 -- What was fetched is run as all that there was would be.
 use Rattle.std.proofs.Common.{Err, subst}
-use Rattle.siman_worlds.specs.declared.script_fault.ScriptFault.TheVariants.{BadLine}
-use Rattle.siman_worlds.specs.Script.{script_at}
+use Rattle.siman_scripts.specs.declared.script_fault.ScriptFault.TheVariants.{BadLine}
+use Rattle.siman_scripts.specs.Script.{script_at}
 use Rattle.siman_console.specs.World.{Runs}
 use Rattle.siman_console.proofs.Worlds.{unfetched, runs_fetched}
 use Rattle.siman_console.proofs.world.run_script.Goals as goal

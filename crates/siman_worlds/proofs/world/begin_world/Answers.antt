@@ -4,7 +4,7 @@ use Rattle.std.specs.List.{list_all}
 use Rattle.exercise_model.specs.Station.{are_stations}
 use Rattle.siman_worlds.specs.Holds.{AreNewNodes}
 use Rattle.siman_worlds.specs.World.{is_world_station}
-use Rattle.siman_worlds.specs.Stations.{WorldStationData}
+use Rattle.siman_scripts.specs.Stations.{WorldStationData}
 use Rattle.siman_worlds.proofs.Begins.{new_fit, and_true}
 use Rattle.siman_worlds.proofs.world.begin_world.Goals as goal
 

@@ -2,7 +2,7 @@ use Rattle.std.proofs.Common.{◌+◌, ◌<◌, List, [], ◌∷◌, ◌++◌, l
 use Rattle.std.proofs.lemmas.List.{take_more}
 use Rattle.siman_worlds.specs.declared.turn.Node.{Node}
 use Rattle.siman_worlds.specs.Holds.{AreNewNodes}
-use Rattle.siman_worlds.specs.Stations.{WorldStationData}
+use Rattle.siman_scripts.specs.Stations.{WorldStationData}
 use Rattle.siman_worlds.proofs.Begins.{new_push}
 use Rattle.siman_worlds.proofs.world.nodes_of.Goals as goal
 

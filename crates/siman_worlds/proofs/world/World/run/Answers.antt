@@ -3,7 +3,7 @@ use Rattle.std.specs.Prelude.{List}
 use Rattle.std.specs.Iterator.Adapters.{enumerate_source}
 use Rattle.std.proofs.lemmas.Iterator.Consumers.{YieldsList-from_enumerate, YieldsList-so_far, YieldsList-turn, YieldsList-end}
 use Rattle.std.proofs.lemmas.Iterator.Adapters.{YieldsList-from_vec}
-use Rattle.siman_worlds.specs.declared.act.Move.{Move}
+use Rattle.siman_scripts.specs.declared.act.Move.{Move}
 use Rattle.siman_worlds.specs.declared.world_fault.WorldFault.{WorldFault}
 use Rattle.siman_worlds.specs.declared.world_fault.WorldFault.TheVariants.{Memory}
 use Rattle.siman_worlds.specs.World.{first_fault}

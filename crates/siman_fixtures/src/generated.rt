@@ -1,0 +1,294 @@
+//! Recordings that are made up by chance, on which the checker and the search are compared with the
+//! plain ones.
+
+use crate::agreement::{compare_audits, compare_checks};
+use crate::random::Random;
+use crate::scene::{Deed, ENTITIES, Scene, begin, place_of, station_of};
+use dis_records::{Address, EntityState};
+use exercise_audit::Audit;
+use exercise_check::{Certificate, CheckFault, NO_LINK, Step};
+use exercise_model::{Cause, ExerciseLog, Form, LogEntry, LogFault, Recording, Station};
+use plain_check::plain_steps;
+use std::alloc::{AllocError, Global};
+use std::io;
+use std::io::Write;
+
+/// How many deeds a scene has at most.
+const MOST_DEEDS: usize = 16;
+
+/// What was answered, and how often.
+#[derive(Drop)]
+pub struct Answers {
+    /// How many recordings or certificates were answered otherwise than the plain ones answer.
+    pub otherwise: u32,
+    explained: u32,
+    blocked: u32,
+    yes: u32,
+    /// How many certificates were refused by each cause, which is its place.
+    causes: Vec<u32>,
+    /// How many stations each cause stood in the way of.
+    ways: Vec<u32>,
+}
+
+fn add_one(counts: &mut [u32], place: usize) {
+    if let Some(count) = counts.get_mut(place) {
+        *count = count.saturating_add(1);
+    }
+}
+
+/// Whether all counts from a place on are above 0, up to another.
+fn are_counted(counts: &[u32], from: usize, end: usize) -> bool {
+    for place in from..end {
+        if is_zero(counts, place) {
+            return false;
+        }
+    }
+    true
+}
+
+/// Whether a count is 0.
+fn is_zero(counts: &[u32], place: usize) -> bool {
+    match counts.get(place) {
+        Some(count) => *count == 0,
+        None => true,
+    }
+}
+
+/// The first stations of a scene, so many, as they are before its first deed.
+fn stations(alloc: Global, scene: &Scene, count: usize) -> Result<Vec<Station>, AllocError> {
+    let mut stations = Vec::new(alloc);
+    for index in 0..count {
+        let mut opening = Vec::new(alloc);
+        for entity in 1..=ENTITIES {
+            match scene.states.get(place_of(index, entity)) {
+                None | Some(EntityState::Absent) => {}
+                Some(state) => opening.push((u16::from(entity), *state))?,
+            }
+        }
+        let site = (index % 200) as u16;
+        if let Some(address) = Address::new(site.saturating_add(1), 1) {
+            if let Some(station) = Station::new(address, opening) {
+                stations.push(station)?;
+            }
+        }
+    }
+    Ok(stations)
+}
+
+/// The entry of a deed.
+fn entry(alloc: Global, deed: Deed, stamp: u64) -> Result<LogEntry, AllocError> {
+    Ok(match deed {
+        Deed::Sends(station, letter) => LogEntry::Sent {
+            station: (station % 256) as u16,
+            stamp,
+            bytes: letter.datagram(alloc)?,
+        },
+        Deed::Gets(station, letter) => LogEntry::Received {
+            station: (station % 256) as u16,
+            stamp,
+            bytes: letter.datagram(alloc)?,
+        },
+        Deed::Tells(station, entity, state) => LogEntry::Told {
+            station: (station % 256) as u16,
+            entity: u16::from(entity),
+            state,
+        },
+    })
+}
+
+/// How many stations of a scene are recorded: in an open recording all but the last.
+fn recorded(form: Form, scene: &Scene) -> usize {
+    match form {
+        Form::Open => scene.stations.saturating_sub(1),
+        Form::First | Form::Closed => scene.stations,
+    }
+}
+
+/// A recording of a form, of a scene that is made up.
+pub fn recording(alloc: Global, form: Form, random: Random) -> Result<Recording, LogFault> {
+    let Ok(mut scene) = begin(alloc, random) else {
+        return Err(LogFault::Memory);
+    };
+    let count = recorded(form, &scene);
+    let Ok(stations) = stations(alloc, &scene, count) else {
+        return Err(LogFault::Memory);
+    };
+    let mut recording = Recording::start_form(alloc, form, 1, stations)?;
+    let deeds = scene.random.below(MOST_DEEDS).saturating_add(1);
+    for _ in 0..deeds {
+        if scene.go_on().is_err() {
+            return Err(LogFault::Memory);
+        }
+    }
+    for _ in 0..deeds {
+        scene.swap();
+    }
+    for deed in &scene.deeds {
+        if station_of(*deed) >= count {
+            continue;
+        }
+        match entry(alloc, *deed, recording.entry_count() as u64) {
+            Ok(entry) => recording.push(entry)?,
+            Err(_) => return Err(LogFault::Memory),
+        }
+    }
+    Ok(recording)
+}
+
+/// Whether one of these steps names an entry.
+fn names(steps: &[Step], place: u32) -> bool {
+    for step in steps {
+        if step.place == place {
+            return true;
+        }
+    }
+    false
+}
+
+/// The steps that the stations can take, and behind them the entries that are left, by their
+/// numbers.
+fn whole(alloc: Global, log: &Recording) -> Result<Certificate, AllocError> {
+    let mut steps = plain_steps(alloc, log)?;
+    for place in 0..log.entry_count() {
+        let place = place as u32;
+        if !names(&steps, place) {
+            steps.push(Step {
+                place,
+                link: NO_LINK,
+            })?;
+        }
+    }
+    Ok(Certificate { steps })
+}
+
+/// Spoils a certificate in one way.
+fn spoil(random: &mut Random, certificate: &mut Certificate) -> Result<(), AllocError> {
+    let count = certificate.steps.len();
+    let (place, other) = (random.below(count), random.below(count));
+    let link = (random.below(count) % 65536) as u32;
+    if place >= count || other >= count {
+        return Ok(());
+    }
+    match random.below(8) {
+        0 => certificate.steps.push(Step { place: link, link })?,
+        1 => certificate.steps[place].link = NO_LINK,
+        2 | 3 => certificate.steps[place].link = link,
+        4 => certificate.steps[place].place = link.wrapping_mul(2),
+        _ => certificate.steps.swap(place, other),
+    }
+    Ok(())
+}
+
+impl Answers {
+    fn take(&mut self, same: bool) {
+        if !same {
+            self.otherwise = self.otherwise.saturating_add(1);
+        }
+    }
+
+    /// Compares what is answered to a certificate.
+    fn try_check(
+        &mut self,
+        alloc: Global,
+        log: &Recording,
+        certificate: &Certificate,
+    ) -> Result<(), AllocError> {
+        let (same, answer) = compare_checks(alloc, log, certificate, u16::from(ENTITIES))?;
+        self.take(same);
+        match answer {
+            Ok(()) => self.yes = self.yes.saturating_add(1),
+            Err(CheckFault::Bad { cause, .. }) => {
+                add_one(&mut self.causes, usize::from(cause.number()));
+            }
+            Err(CheckFault::Memory) => {}
+        }
+        Ok(())
+    }
+
+    /// Compares what is found in a recording.
+    fn try_audit(&mut self, alloc: Global, log: &Recording) -> Result<(), AllocError> {
+        let (same, found) = compare_audits(alloc, log, u16::from(ENTITIES))?;
+        self.take(same);
+        match found {
+            Audit::Explained(_) => self.explained = self.explained.saturating_add(1),
+            Audit::Blocked(blocks) => {
+                self.blocked = self.blocked.saturating_add(1);
+                for block in &blocks {
+                    add_one(&mut self.ways, usize::from(block.cause.number()));
+                }
+            }
+        }
+        Ok(())
+    }
+
+    /// Tries a recording of a form that is made up.
+    fn try_one(&mut self, alloc: Global, form: Form, mut random: Random) -> Result<(), AllocError> {
+        let Ok(log) = recording(alloc, form, random) else {
+            self.take(false);
+            return Ok(());
+        };
+        self.try_audit(alloc, &log)?;
+        let mut certificate = whole(alloc, &log)?;
+        self.try_check(alloc, &log, &certificate)?;
+        spoil(&mut random, &mut certificate)?;
+        self.try_check(alloc, &log, &certificate)
+    }
+
+    /// Whether all answers were as the plain ones are, and each came: yes, and each cause, and of
+    /// those of an event also in the way of a station. In an open recording there is no stranger.
+    pub fn are_good(&self, form: Form) -> bool {
+        let strangers = usize::from(Cause::Stranger.number());
+        let came = match form {
+            Form::Open => {
+                are_counted(&self.causes, 1, strangers)
+                    && are_counted(&self.ways, 5, strangers)
+                    && are_counted(&self.causes, 12, 14)
+                    && are_counted(&self.ways, 12, 14)
+                    && is_zero(&self.causes, strangers)
+                    && is_zero(&self.ways, strangers)
+            }
+            Form::First | Form::Closed => {
+                are_counted(&self.causes, 1, 14) && are_counted(&self.ways, 5, 14)
+            }
+        };
+        self.otherwise == 0 && self.yes > 0 && self.explained > 0 && came
+    }
+
+    /// Prints how often each answer came.
+    pub fn print<W: Write>(&self, out: &mut W) -> io::Result<()> {
+        let Answers {
+            explained,
+            blocked,
+            yes,
+            otherwise,
+            ..
+        } = self;
+        writeln!(out, "explained {explained}, blocked {blocked}, yes {yes}")?;
+        for cause in 1..=13usize {
+            if let (Some(no), Some(way)) = (self.causes.get(cause), self.ways.get(cause)) {
+                writeln!(out, "cause {cause}: no {no}, blocks {way}")?;
+            }
+        }
+        writeln!(out, "otherwise {otherwise}")
+    }
+}
+
+/// Tries so many recordings of a form that are made up.
+pub fn try_generated(alloc: Global, form: Form, count: u32) -> Result<Answers, AllocError> {
+    let mut answers = Answers {
+        otherwise: 0,
+        explained: 0,
+        blocked: 0,
+        yes: 0,
+        causes: Vec::from_slice(alloc, &[0; 14])?,
+        ways: Vec::from_slice(alloc, &[0; 14])?,
+    };
+    for number in 0..count {
+        let mut random = Random {
+            state: u64::from(number),
+        };
+        let _first = random.below(1);
+        answers.try_one(alloc, form, random)?;
+    }
+    Ok(answers)
+}

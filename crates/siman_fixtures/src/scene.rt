@@ -1,0 +1,331 @@
+//! What a few stations do, made up by the row of a die: orders, answers, states and comments, and
+//! in wild scenes what may not happen too.
+
+use crate::letter::{ALL, Letter};
+use crate::random::Random;
+use dis_records::EntityState;
+use std::alloc::{AllocError, Global};
+
+/// The largest number of an entity.
+pub const ENTITIES: u8 = 4;
+
+/// What a station does.
+#[derive(Clone, Copy)]
+pub enum Deed {
+    Sends(usize, Letter),
+    Gets(usize, Letter),
+    Tells(usize, u8, EntityState),
+}
+
+/// The station of a deed.
+pub fn station_of(deed: Deed) -> usize {
+    match deed {
+        Deed::Sends(station, _) | Deed::Gets(station, _) | Deed::Tells(station, _, _) => station,
+    }
+}
+
+/// What was done so far, and how it stands.
+#[derive(Drop)]
+pub struct Scene {
+    pub random: Random,
+    pub stations: usize,
+    is_wild: bool,
+    pub deeds: Vec<Deed>,
+    sent: Vec<Letter>,
+    got: Vec<Letter>,
+    /// The state of each entity from 0 of each station.
+    pub states: Vec<EntityState>,
+    request: u8,
+}
+
+/// The place of the state of an entity.
+pub fn place_of(station: usize, entity: u8) -> usize {
+    station
+        .saturating_mul(8)
+        .saturating_add(usize::from(entity))
+}
+
+/// What a request of a kind makes of a state.
+fn made(kind: u8, before: EntityState) -> EntityState {
+    match (kind, before) {
+        (11, _) => EntityState::Stopped,
+        (12, _) | (_, EntityState::Absent) => EntityState::Absent,
+        (13, _) => EntityState::Running,
+        (14, _) => EntityState::Stopped,
+        _ => before,
+    }
+}
+
+/// One of the last few letters, if there is one.
+fn recent(random: &mut Random, letters: &[Letter]) -> Option<Letter> {
+    let back = random.below(letters.len().min(4)).saturating_add(1);
+    letters.get(letters.len().saturating_sub(back)).copied()
+}
+
+/// A scene before its first deed, of 2 to 4 stations.
+pub fn begin(alloc: Global, mut random: Random) -> Result<Scene, AllocError> {
+    let stations = random.below(3).saturating_add(2);
+    let is_wild = random.one_in(2);
+    let mut states = Vec::new(alloc);
+    for place in 0..32usize {
+        let entity = place % 8;
+        states.push(match random.below(4) {
+            0 if entity >= 1 && entity <= 4 => EntityState::Running,
+            1 if entity >= 1 && entity <= 4 => EntityState::Stopped,
+            _ => EntityState::Absent,
+        })?;
+    }
+    Ok(Scene {
+        random,
+        stations,
+        is_wild,
+        deeds: Vec::new(alloc),
+        sent: Vec::new(alloc),
+        got: Vec::new(alloc),
+        states,
+        request: 0,
+    })
+}
+
+impl Scene {
+    /// Takes what a station sends.
+    fn send(&mut self, station: usize, letter: Letter) -> Result<(), AllocError> {
+        self.sent.push(letter)?;
+        self.deeds.push(Deed::Sends(station, letter))?;
+        Ok(())
+    }
+
+    /// Takes what its station receives, if it goes to one.
+    fn get(&mut self, letter: Letter) -> Result<(), AllocError> {
+        if letter.to >= self.stations {
+            return self.ask();
+        }
+        if letter.kind <= 14 || letter.kind == 16 {
+            self.got.push(letter)?;
+        }
+        self.deeds.push(Deed::Gets(letter.to, letter))?;
+        Ok(())
+    }
+
+    /// A letter of a kind from one station to another, under a new number.
+    fn letter(&mut self, kind: u8) -> Letter {
+        let from = self.random.below(self.stations);
+        let way = self.random.below(self.stations.saturating_sub(1));
+        self.request = self.request.wrapping_add(1);
+        Letter {
+            kind,
+            from,
+            to: from.saturating_add(way).saturating_add(1) % self.stations.max(1),
+            origin: 0,
+            target: 0,
+            request: self.request,
+            flag: 0,
+            response: 0,
+            stamp: 0,
+        }
+    }
+
+    /// A number of an entity.
+    fn entity(&mut self) -> u8 {
+        match self.random.below(usize::from(ENTITIES)) {
+            0 => 1,
+            1 => 2,
+            2 => 3,
+            _ => 4,
+        }
+    }
+
+    /// A station orders something.
+    fn ask(&mut self) -> Result<(), AllocError> {
+        let kind = match self.random.below(8) {
+            0..=2 => 11,
+            3 => 12,
+            4 | 5 => 13,
+            6 => 14,
+            _ => 16,
+        };
+        let mut letter = self.letter(kind);
+        letter.target = self.entity();
+        if self.random.one_in(8) {
+            letter.target = ALL;
+        }
+        if self.is_wild && self.random.one_in(4) {
+            letter.request = self.entity();
+        }
+        self.send(letter.from, letter)
+    }
+
+    /// A station receives what was sent to it.
+    fn bring(&mut self) -> Result<(), AllocError> {
+        match recent(&mut self.random, &self.sent) {
+            Some(letter) => self.get(letter),
+            None => self.ask(),
+        }
+    }
+
+    /// The state of an entity.
+    fn state(&self, station: usize, entity: u8) -> EntityState {
+        match self.states.get(place_of(station, entity)) {
+            Some(state) => *state,
+            None => EntityState::Absent,
+        }
+    }
+
+    /// Whether an order can be carried out.
+    fn is_able(&self, order: &Letter) -> bool {
+        let is_create = order.kind == 11;
+        if order.target == ALL {
+            return !is_create;
+        }
+        (self.state(order.to, order.target) == EntityState::Absent) == is_create
+    }
+
+    /// Carries out an order.
+    fn carry_out(&mut self, order: &Letter) {
+        for entity in 1..=ENTITIES {
+            if order.target == entity || order.target == ALL {
+                if let Some(state) = self.states.get_mut(place_of(order.to, entity)) {
+                    *state = made(order.kind, *state);
+                }
+            }
+        }
+    }
+
+    /// The answer to an order, able to comply or not.
+    fn answer_to(&self, order: &Letter, able: bool) -> Letter {
+        Letter {
+            kind: if order.kind == 16 { 17 } else { 15 },
+            from: order.to,
+            to: order.from,
+            origin: if order.target == ALL { 0 } else { order.target },
+            target: 0,
+            request: order.request,
+            flag: order.kind.saturating_sub(10),
+            response: if able { 1 } else { 2 },
+            stamp: 0,
+        }
+    }
+
+    /// The answer that was sent to an order.
+    fn sent_answer(&self, order: &Letter) -> Option<Letter> {
+        for letter in &self.sent {
+            let is_answer = matches!(letter.kind, 15 | 17) && letter.from == order.to;
+            if is_answer && letter.to == order.from && letter.request == order.request {
+                return Some(*letter);
+            }
+        }
+        None
+    }
+
+    /// A station answers an order that it received.
+    fn answer(&mut self) -> Result<(), AllocError> {
+        let Some(order) = recent(&mut self.random, &self.got) else {
+            return self.bring();
+        };
+        if let Some(again) = self.sent_answer(&order) {
+            return self.send(order.to, again);
+        }
+        let able = self.is_able(&order);
+        if able {
+            self.carry_out(&order);
+        }
+        self.send(order.to, self.answer_to(&order, able))
+    }
+
+    /// A station tells a state.
+    fn tell(&mut self) -> Result<(), AllocError> {
+        let station = self.random.below(self.stations);
+        let entity = self.entity();
+        let state = self.state(station, entity);
+        self.deeds.push(Deed::Tells(station, entity, state))?;
+        Ok(())
+    }
+
+    /// A station sends once more what it sent.
+    fn copy(&mut self) -> Result<(), AllocError> {
+        match recent(&mut self.random, &self.sent) {
+            Some(letter) => self.send(letter.from, letter),
+            None => self.ask(),
+        }
+    }
+
+    /// An answer that is spoilt in one way.
+    fn answer_badly(&mut self) -> Result<(), AllocError> {
+        let Some(order) = recent(&mut self.random, &self.got) else {
+            return self.bring();
+        };
+        let able = self.random.one_in(2);
+        let mut letter = self.answer_to(&order, able);
+        match self.random.below(6) {
+            0 => letter.flag = (letter.flag % 4).saturating_add(1),
+            1 => letter.origin = self.entity(),
+            2 => letter.request = letter.request.wrapping_add(1),
+            _ => {}
+        }
+        self.send(letter.from, letter)
+    }
+
+    /// A letter goes astray in one way.
+    fn go_astray(&mut self) -> Result<(), AllocError> {
+        let Some(mut letter) = recent(&mut self.random, &self.sent) else {
+            return self.ask();
+        };
+        match self.random.below(4) {
+            0 => {
+                let other = self.random.below(self.stations);
+                return self.send(other, letter);
+            }
+            1 => letter.stamp = 20,
+            2 => letter.from = 8,
+            _ => letter.to = self.random.below(self.stations),
+        }
+        self.get(letter)
+    }
+
+    /// A station tells a state by chance.
+    fn tell_badly(&mut self) -> Result<(), AllocError> {
+        let station = self.random.below(self.stations);
+        let entity = self.entity();
+        let state = match self.random.below(3) {
+            0 => EntityState::Absent,
+            1 => EntityState::Stopped,
+            _ => EntityState::Running,
+        };
+        self.deeds.push(Deed::Tells(station, entity, state))?;
+        Ok(())
+    }
+
+    /// Something happens.
+    pub fn go_on(&mut self) -> Result<(), AllocError> {
+        match self.random.below(24) {
+            0..=4 => self.ask(),
+            5..=8 => self.bring(),
+            9..=13 => self.answer(),
+            14 => self.tell(),
+            15 => self.copy(),
+            16 => {
+                let kind = if self.random.one_in(2) { 22 } else { 99 };
+                let letter = self.letter(kind);
+                self.send(letter.from, letter)
+            }
+            17..=19 if self.is_wild => self.answer_badly(),
+            20 if self.is_wild => self.go_astray(),
+            21 if self.is_wild => self.tell_badly(),
+            _ => self.bring(),
+        }
+    }
+
+    /// Two deeds that stand beside each other change places: of different stations, or in wild
+    /// scenes now and then of one.
+    pub fn swap(&mut self) {
+        let place = self.random.below(self.deeds.len());
+        let next = place.saturating_add(1);
+        if place >= self.deeds.len() || next >= self.deeds.len() {
+            return;
+        }
+        let is_free = station_of(self.deeds[place]) != station_of(self.deeds[next]);
+        if is_free || self.is_wild && self.random.one_in(16) {
+            self.deeds.swap(place, next);
+        }
+    }
+}

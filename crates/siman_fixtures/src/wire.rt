@@ -1,0 +1,158 @@
+//! A network in memory: what one line is handed comes on each other, whole, once and in order.
+
+use http_server::Log;
+use siman_lines::{Line, LineFault};
+use std::alloc::{AllocError, Global};
+use std::cell::RefCell;
+use std::rc::Rc;
+
+/// A datagram, and the number of the line that it was handed to.
+#[derive(Drop)]
+struct Sent {
+    line: usize,
+    datagram: Vec<u8>,
+}
+
+/// What was sent on the network, the oldest first.
+#[derive(Drop)]
+struct Wire {
+    alloc: Global,
+    sent: Vec<Sent>,
+    /// How many calls its lines made.
+    calls: u64,
+    /// The number of the call that fails, from 1.
+    fails_at: Option<u64>,
+}
+
+/// The end of the network at one station.
+#[derive(Drop)]
+pub struct WireLine {
+    wire: Rc<RefCell<Wire>>,
+    line: usize,
+    /// How many datagrams of the network it passed so far.
+    passed: usize,
+    failures: Log<(), ()>,
+}
+
+/// Lines of one network, of whose calls this one fails.
+pub fn lines_of(
+    alloc: Global,
+    count: usize,
+    fails_at: Option<u64>,
+) -> Result<Vec<WireLine>, AllocError> {
+    let wire = Rc::new(
+        alloc,
+        RefCell::new(Wire {
+            alloc,
+            sent: Vec::new(alloc),
+            calls: 0,
+            fails_at,
+        }),
+    )?;
+    let mut lines = Vec::new(alloc);
+    for line in 0..count {
+        lines.push(WireLine {
+            wire: wire.clone()?,
+            line,
+            passed: 0,
+            failures: Log::new(),
+        })?;
+    }
+    Ok(lines)
+}
+
+impl Wire {
+    /// Counts a call, and says whether it is the one that fails.
+    fn is_failing(&mut self) -> bool {
+        self.calls = self.calls.saturating_add(1);
+        self.fails_at == Some(self.calls)
+    }
+
+    /// Takes what a line is handed.
+    fn take(&mut self, line: usize, datagram: &[u8]) -> Result<(), AllocError> {
+        let datagram = Vec::from_slice(self.alloc, datagram)?;
+        self.sent.push(Sent { line, datagram })?;
+        Ok(())
+    }
+
+    /// The place of the first datagram, from this one on, that another line was handed.
+    fn next_for(&self, line: usize, from: usize) -> Option<usize> {
+        for place in from..self.sent.len() {
+            if self.sent[place].line != line {
+                return Some(place);
+            }
+        }
+        None
+    }
+}
+
+impl WireLine {
+    ghost use Rattle.std.specs.Prelude.{◌≡◌, ◌+◌, ◌≤◌, length, IfOk, IfSome};
+
+    fn fail(&mut self) -> LineFault
+        ensures { length self.new.failures.items ≡ length self.old.failures.items + 1 }
+    {
+        self.failures = self.failures.and(&(), &());
+        LineFault::Failed
+    }
+
+    /// Hands the network a datagram.
+    fn put(&self, datagram: &[u8]) -> Result<(), LineFault> {
+        let Ok(mut wire) = self.wire.try_borrow_mut() else {
+            return Err(LineFault::Failed);
+        };
+        if wire.is_failing() {
+            return Err(LineFault::Failed);
+        }
+        match wire.take(self.line, datagram) {
+            Ok(()) => Ok(()),
+            Err(_) => Err(LineFault::Failed),
+        }
+    }
+
+    /// The next datagram for this line stands at the front of the buffer, as far as it has room.
+    fn get(&mut self, buffer: &mut [u8]) -> Result<Option<usize>, LineFault>
+        ensures within { IfOk result (λ r. IfSome r (λ n. n ≤ length buffer.new)) }
+        ensures failures { self.new.failures ≡ self.old.failures }
+    {
+        let Ok(mut wire) = self.wire.try_borrow_mut() else {
+            return Err(LineFault::Failed);
+        };
+        if wire.is_failing() {
+            return Err(LineFault::Failed);
+        }
+        let Some(place) = wire.next_for(self.line, self.passed) else {
+            return Ok(None);
+        };
+        self.passed = place.saturating_add(1);
+        let Some(next) = wire.sent.get(place) else {
+            return Ok(None);
+        };
+        let taken = next.datagram.len().min(buffer.len());
+        buffer[..taken].copy_from_slice(&next.datagram[..taken]);
+        Ok(Some(taken))
+    }
+}
+
+/// It tells nothing of its datagrams; a call that failed is counted.
+impl Line for WireLine {
+    ghost use Rattle.std.specs.Prelude.{◌≡◌, length};
+
+    ghost failures = { λ l. length l.failures.items };
+
+    ghost finds_nothing = { λ old new. new.failures ≡ old.failures };
+
+    fn send(&mut self, datagram: &[u8]) -> Result<(), LineFault> {
+        match self.put(datagram) {
+            Ok(()) => Ok(()),
+            Err(_) => Err(self.fail()),
+        }
+    }
+
+    fn receive(&mut self, buffer: &mut [u8]) -> Result<Option<usize>, LineFault> {
+        match self.get(buffer) {
+            Ok(taken) => Ok(taken),
+            Err(_) => Err(self.fail()),
+        }
+    }
+}

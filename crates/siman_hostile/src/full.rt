@@ -1,0 +1,112 @@
+//! A recording with as many entries as there can be, and the texts of faults that no command tells.
+
+use crate::refusals::{station, unmade};
+use dis_records::EntityState;
+use exercise_check::CertificateFault;
+use exercise_model::{ExerciseLog, LogEntry, LogFault, MOST_ENTRIES, Recording, Station};
+use exercise_recording::{RecordingFault, RecordingWriter, WriterFault, read_recording};
+use siman_console::FilesFault;
+use std::alloc::Global;
+use std::io;
+use std::io::Write;
+
+/// Entity 7 is told to be absent.
+fn told_entry() -> LogEntry {
+    LogEntry::Told {
+        station: 0,
+        entity: 7,
+        state: EntityState::Absent,
+    }
+}
+
+/// The station 2:3, alone.
+fn stations(alloc: Global) -> io::Result<Vec<Station>> {
+    let mut stations = Vec::new(alloc);
+    stations.push(station(alloc, 2, 3)?)?;
+    Ok(stations)
+}
+
+/// What `push` answers to one entry more than there can be; a recording keeps those that it has.
+fn pushed(alloc: Global) -> io::Result<Result<(), LogFault>> {
+    let Ok(mut log) = Recording::start(alloc, 1, stations(alloc)?) else {
+        return Err(unmade());
+    };
+    for _ in 0..MOST_ENTRIES {
+        if log.push(told_entry()).is_err() {
+            return Err(unmade());
+        }
+    }
+    let answer = log.push(told_entry());
+    if log.entry_count() == MOST_ENTRIES {
+        Ok(answer)
+    } else {
+        Err(unmade())
+    }
+}
+
+/// What a writer of recordings answers to one entry more than there can be, and to the end.
+fn told(
+    stations: &[Station],
+    out: &mut Vec<u8>,
+) -> io::Result<(Result<(), WriterFault>, Result<(), WriterFault>)> {
+    let Ok(mut writer) = RecordingWriter::start(out, 1, stations) else {
+        return Err(unmade());
+    };
+    for _ in 0..MOST_ENTRIES {
+        if writer.told(0, 7, EntityState::Absent).is_err() {
+            return Err(unmade());
+        }
+    }
+    let more = writer.told(0, 7, EntityState::Absent);
+    Ok((more, writer.finish()))
+}
+
+/// What is read of a file: how many entries, or its fault.
+fn read(alloc: Global, file: &[u8]) -> Result<usize, RecordingFault> {
+    let log = read_recording(alloc, file, u64::MAX)?;
+    Ok(log.entry_count())
+}
+
+/// What is read of the same file with one entry more before its end.
+fn read_longer(alloc: Global, mut file: Vec<u8>) -> io::Result<Result<usize, RecordingFault>> {
+    let end = file.len().saturating_sub(5);
+    file.truncate(end);
+    file.extend_from_slice(&[3, 0, 0, 0, 7, 0, 0, 0, 16, 0, 1])?;
+    Ok(read(alloc, &file))
+}
+
+/// Prints the texts of what `check_files` refuses with.
+fn put_texts<W: Write>(out: &mut W) -> io::Result<()> {
+    let faults = [
+        FilesFault::Recording(RecordingFault::Read),
+        FilesFault::Certificate(CertificateFault::Read),
+        FilesFault::Write,
+        FilesFault::Memory,
+    ];
+    for fault in faults {
+        writeln!(out, "{fault}")?;
+    }
+    Ok(())
+}
+
+/// Fills a recording, and prints what is answered to one entry more.
+pub(crate) fn put_full<W: Write>(alloc: Global, out: &mut W) -> io::Result<()> {
+    if let Err(fault) = pushed(alloc)? {
+        writeln!(out, "push of one entry more: {fault}")?;
+    }
+    let mut file = Vec::new(alloc);
+    let (more, end) = told(&stations(alloc)?, &mut file)?;
+    if let Err(fault) = more {
+        writeln!(out, "told of one entry more: {fault}")?;
+    }
+    if end.is_ok() {
+        writeln!(out, "finish: {} bytes", file.len())?;
+    }
+    if let Ok(count) = read(alloc, &file) {
+        writeln!(out, "read: {count} entries")?;
+    }
+    if let Err(fault) = read_longer(alloc, file)? {
+        writeln!(out, "read with one entry more: {fault}")?;
+    }
+    put_texts(out)
+}

@@ -1,0 +1,107 @@
+//! Runs of the program on words, files in memory and standard input, where every call goes well.
+
+use siman_console::{Outside, run};
+use siman_fixtures::{Given, Kept, WELL, WireLine, lines_of, read_from, write_to};
+use std::alloc::Global;
+use std::io;
+use std::io::ErrorKind;
+
+/// Names of files, and what each holds.
+pub(crate) type Files<'a> = &'a [(&'a str, &'a [u8])];
+
+/// Files, and what the file that was made was left with.
+#[derive(Drop)]
+struct Table<'a> {
+    alloc: Global,
+    files: Files<'a>,
+    left: Option<Vec<u8>>,
+}
+
+impl<'a> Outside for Table<'a> {
+    type File = Given<'a>;
+
+    type Made = Kept;
+
+    type Line = WireLine;
+
+    fn open(&mut self, name: &str) -> io::Result<Given<'a>> {
+        for (known, bytes) in self.files {
+            if *known == name {
+                return Ok(read_from(*bytes, WELL));
+            }
+        }
+        Err(io::Error::from(ErrorKind::NotFound))
+    }
+
+    fn make(&mut self, _name: &str) -> io::Result<Kept> {
+        Ok(write_to(self.alloc, WELL))
+    }
+
+    fn close(&mut self, file: Kept) {
+        self.left = Some(file.bytes);
+    }
+
+    fn lines(&mut self, alloc: Global, stations: usize) -> io::Result<Vec<WireLine>> {
+        Ok(lines_of(alloc, stations, None)?)
+    }
+}
+
+/// What a run left.
+#[derive(Drop)]
+pub(crate) struct Ran {
+    pub(crate) status: u8,
+    pub(crate) out: Vec<u8>,
+    pub(crate) errors: Vec<u8>,
+    /// What the file that was made holds, if one was made.
+    pub(crate) left: Option<Vec<u8>>,
+}
+
+/// The words of a command line, the program's name first.
+fn command_line(alloc: Global, words: &[&str]) -> io::Result<Vec<String>> {
+    let mut line = Vec::new(alloc);
+    line.push(String::from_str(alloc, "siman")?)?;
+    for word in words {
+        line.push(String::from_str(alloc, *word)?)?;
+    }
+    Ok(line)
+}
+
+/// Runs the program on words, with these files and this on standard input.
+pub(crate) fn run_words(alloc: Global, words: &[&str], files: Files<'_>, input: &[u8]) -> Ran {
+    let mut table = Table {
+        alloc,
+        files,
+        left: None,
+    };
+    let mut out = write_to(alloc, WELL);
+    let mut errors = write_to(alloc, WELL);
+    let line = command_line(alloc, words);
+    let input = read_from(input, WELL);
+    let ended = run(alloc, line, &mut table, input, &mut out, &mut errors);
+    let Table { left, .. } = table;
+    let Kept { bytes: out, .. } = out;
+    let Kept { bytes: errors, .. } = errors;
+    Ran {
+        status: ended.status,
+        out,
+        errors,
+        left,
+    }
+}
+
+impl Ran {
+    /// Whether it ended with an answer, 0 or 1, and told no fault.
+    pub(crate) fn is_answer(&self) -> bool {
+        self.status <= 1 && self.errors.is_empty()
+    }
+
+    /// Whether it ended with a fault that is told, with nothing out and no file made.
+    pub(crate) fn is_fault(&self) -> bool {
+        self.status == 2 && self.out.is_empty() && !self.errors.is_empty() && self.left.is_none()
+    }
+
+    /// Whether it ended with this status, as an answer or with a fault.
+    pub(crate) fn ends(&self, status: u8) -> bool {
+        self.status == status && (self.is_answer() || self.is_fault())
+    }
+}

@@ -1,0 +1,5 @@
+pub mod Text
+pub mod Stations
+pub mod Statement
+pub mod Draft
+pub mod Script

@@ -1,0 +1,27 @@
+//! Scripts, the text in which the staff of an exercise write a whole exercise down.
+//!
+//! A script says which stations there are, what their managers order, and what the network loses,
+//! copies and swaps. [`read_script`] answers the script that a text spells, or its first refusal by
+//! the order of lines. No file is opened here, and no move is made.
+//!
+//! The layers above rest on its contract, one function of the text (`specs/Script.antt`,
+//! `Draft.antt`, `Statement.antt`, `Text.antt`).
+#![tactic(auto)]
+
+mod act;
+mod draft;
+mod forms;
+mod line_fault;
+mod moves;
+mod part;
+mod script;
+mod script_fault;
+mod statement;
+mod station_draft;
+mod text;
+mod world_station;
+
+pub use act::{Act, Move};
+pub use script::{LARGEST_SCRIPT, Script, read_script};
+pub use script_fault::ScriptFault;
+pub use world_station::WorldStation;

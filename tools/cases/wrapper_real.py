@@ -1,0 +1,37 @@
+"""What `./siman` of a fresh clone answers with the real toolchain: words, standard input, standard output or how it
+begins, what stands in standard error, and the status, as README.md and docs/TEXTS.md say."""
+
+LINE = "create-entity version=7 exercise=1 stamp=0 status=0 from=1:1:0 to=2:3:7 request=1\n"
+HEX = "07010B0500000000001C000000010001000000020003000700000001"
+TRIAL = """world records=16 sent=8
+explained steps=16
+yes records=16 others=0
+answer 3 request 2
+answer 7 request 6
+answer 9 request 8
+answer 11 request 6
+known 13 change 3
+known 14 change 9
+known 15 change 7
+entity 2:3:7 running
+"""
+CHECKED = """yes records=9 others=0
+answer 2 request 1
+answer 6 request 5
+known 3 change 2
+known 7 change 6
+entity 2:3:7 running
+"""
+NO = "no step=3 cause=13 wrong-state\n"
+REAL = (
+    (["pdu", HEX], None, LINE, "", 0),
+    (["pdu", "07"], None, "refused ", "", 1),
+    (["pdus"], f"{HEX}\n\nno\n{HEX}\n", LINE * 2, "hex: not byte pairs at line 3\n", 2),
+    (["show", "examples/created_and_started.dsrc"], None, "exercise=1 stations=2 records=9\nstation 0 1:1\n", "", 0),
+    (["check", "examples/created_and_started.dsrc", "examples/created_and_started.dsct"], None, CHECKED, "", 0),
+    (["check", "examples/logs_joined_wrong_state.dsrc", "examples/logs_joined.dsct"], None, NO, "", 1),
+    (["show", "examples/missing.dsrc"], None, "", "file: examples/missing.dsrc\n", 2),
+    ([], "examples/lost_copied_swapped.script", TRIAL, "", 0),
+    (["--help"], None, "Shows Simulation Management PDUs", "", 0),
+    (["wrong"], None, "", "error: ", 2),
+)

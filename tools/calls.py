@@ -18,7 +18,16 @@ from pathlib import Path
 TOP = Path(__file__).resolve().parent.parent
 PAGE = TOP / "docs" / "PROMISES.md"
 # Crates that offer no calls to others: programs and tests.
-NO_LIBRARIES = {"siman", "siman_cases", "siman_fixtures", "siman_hostile", "siman_tests"}
+NO_LIBRARIES = {
+    "siman",
+    "siman_agreement",
+    "siman_cases",
+    "siman_fixtures",
+    "siman_hostile",
+    "siman_refusals",
+    "siman_tests",
+    "siman_trials",
+}
 NONE = "nothing"
 
 

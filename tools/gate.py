@@ -54,11 +54,33 @@ def kind_of(pid, words):
     return crate, "proof"
 
 
-def look(seen):
-    """Adds what each process of the gate has taken so far."""
+def parents():
+    """The parent of each process."""
+    found = {}
     for pid in filter(str.isdigit, os.listdir("/proc")):
         try:
-            kind = kind_of(pid, words_of(pid))
+            with open(f"/proc/{pid}/stat") as it:
+                found[pid] = it.read().rpartition(")")[2].split()[1]
+        except (OSError, IndexError):
+            continue
+    return found
+
+
+def is_ours(pid, above):
+    """Whether a process stands below this one."""
+    while pid in above:
+        pid = above[pid]
+        if pid == str(os.getpid()):
+            return True
+    return False
+
+
+def look(seen):
+    """Adds what each process of the gate has taken so far."""
+    above = parents()
+    for pid in above:
+        try:
+            kind = is_ours(pid, above) and kind_of(pid, words_of(pid))
             if kind:
                 spent, began = seconds_of(pid)
                 seen[pid, began] = kind, spent
@@ -79,6 +101,14 @@ def tell(heading, sums):
         print(f"| {name} | {spent:.0f} |")
 
 
+def tell_crates(crates, both):
+    """Prints a table of processor seconds by crate, the most first, with those of its proofs, tests and edits."""
+    print("\n| Crate | Processor seconds | proof | tests | edits |\n|---|---|---|---|---|")
+    for name, spent in crates.most_common():
+        parts = " | ".join(f"{both[name, kind]:.0f}" for kind in ("proof", "tests", "edits"))
+        print(f"| {name} | {spent:.0f} | {parts} |")
+
+
 def main(folder="."):
     load = os.getloadavg()[0]
     seen, ended, began = {}, threading.Event(), time.monotonic()
@@ -89,16 +119,18 @@ def main(folder="."):
     watcher.join()
     clock, used = time.monotonic() - began, resource.getrusage(resource.RUSAGE_CHILDREN)
     whole = used.ru_utime + used.ru_stime
-    crates, kinds = collections.Counter(), collections.Counter()
+    crates, kinds, both = collections.Counter(), collections.Counter(), collections.Counter()
     for (crate, kind), spent in seen.values():
-        crates[f"`{crate}`" if crate else "linking"] += spent
+        name = f"`{crate}`" if crate else "linking"
+        crates[name] += spent
+        both[name, kind] += spent
         kinds[re.sub("^code by (.*)$", r"code, by \1", kind)] += spent
     rest = whole - sum(kinds.values())
     crates["other"] += rest
     kinds["other: the runs, what was too short to be seen"] += rest
     print(f"\n{clock / 60:.1f} minutes of the clock, {whole / 60:.1f} processor minutes, ", end="")
     print(f"{len(os.sched_getaffinity(0))} processors, load {load:.2f} before")
-    tell("Crate", crates)
+    tell_crates(crates, both)
     tell("Kind", kinds)
     return status
 

@@ -11,7 +11,7 @@ lines() {
 
 row() { printf '| %s | %d | %d | %d | %d |\n' "$@"; }
 
-src=0 specs=0 proofs=0 edits=0
+src=0 specs=0 proofs=0 edits=0 shared=
 printf '| Crate | `src` | `specs` | `proofs` | Edits in `must-fail` |\n|---|---|---|---|---|\n'
 for name in *; do
     set -- "$(lines "$name/src" rt)" "$(lines "$name/specs" antt)" "$(lines "$name/proofs" antt)" \
@@ -26,10 +26,12 @@ for name in *; do
         tried=$(row "$cases" "$@")
         continue
     fi
-    if [ "$name" = siman_fixtures ]; then
-        shared=$(row "what both programs share, \`$name\`" "$@")
+    case $name in siman_fixtures | siman_trials | siman_agreement | siman_refusals)
+        shared="${shared:+$shared
+}$(row "what these programs call, \`$name\`" "$@")"
         continue
-    fi
+        ;;
+    esac
     if [ "$name" = siman_hostile ]; then
         hostile=$(row "the program for hostile use, \`$name\`" "$@")
         continue

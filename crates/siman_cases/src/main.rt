@@ -50,7 +50,7 @@ mod trial;
 
 use crate::trial::{Tally, try_cases};
 use exercise_model::Form;
-use siman_fixtures::try_generated;
+use siman_agreement::try_generated;
 use std::alloc::Global;
 use std::io::Write;
 use std::process::ExitCode;

@@ -1,7 +1,8 @@
 //! Files in memory, and what was asked for.
 
 use siman_console::Outside;
-use siman_fixtures::{Calls, File, Given, Kept, WireLine, found, lines_of, read_from, write_to};
+use siman_fixtures::{Calls, File, Given, Kept, found, read_from, write_to};
+use siman_trials::{WireLine, lines_of};
 use std::alloc::Global;
 use std::io;
 use std::io::ErrorKind;

@@ -1,10 +1,10 @@
 //! Runs cases, and tells what is otherwise.
 
 use crate::shelf::{Shelf, filled};
+use siman_agreement::compare_case;
 use siman_console::{Ended, run};
-use siman_fixtures::{
-    Case, Kept, Line, compare, compare_case, first, read_from, read_line, try_post, write_to,
-};
+use siman_fixtures::{Case, Kept, Line, first, read_from, read_line, write_to};
+use siman_trials::{compare, try_post};
 use std::alloc::Global;
 use std::io;
 use std::io::Write;

@@ -1,11 +1,11 @@
 //! A recording with as many entries as there can be, and the texts of faults that no command tells.
 
-use crate::refusals::{station, unmade};
 use dis_records::EntityState;
 use exercise_check::CertificateFault;
 use exercise_model::{ExerciseLog, LogEntry, LogFault, MOST_ENTRIES, Recording, Station};
 use exercise_recording::{RecordingFault, RecordingWriter, WriterFault, read_recording};
 use siman_console::FilesFault;
+use siman_refusals::{station, unmade};
 use std::alloc::Global;
 use std::io;
 use std::io::Write;

@@ -2,10 +2,9 @@
 //! up under load.
 
 mod exercise;
-mod machines;
 
 use crate::load::exercise::put_exercise;
-use crate::load::machines::{put_halves, put_station};
+use siman_refusals::{put_halves, put_station};
 use std::alloc::Global;
 use std::io;
 use std::io::Write;

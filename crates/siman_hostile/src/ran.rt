@@ -1,7 +1,8 @@
 //! Runs of the program on words, files in memory and standard input, where every call goes well.
 
 use siman_console::{Outside, run};
-use siman_fixtures::{Given, Kept, WELL, WireLine, lines_of, read_from, write_to};
+use siman_fixtures::{Given, Kept, WELL, read_from, write_to};
+use siman_trials::{WireLine, lines_of};
 use std::alloc::Global;
 use std::io;
 use std::io::ErrorKind;

@@ -2,7 +2,7 @@
 
 use crate::inputs::is_tried;
 use crate::ran::{Ran, run_words};
-use crate::refusals::unmade;
+use siman_refusals::unmade;
 use std::alloc::{AllocError, Global};
 use std::io;
 use std::io::Write;

@@ -1,11 +1,10 @@
 //! Scripts that are read, run and tried.
 
-use crate::refusals::recordings::unmade;
-use crate::refusals::{Call, Said, refused, usual};
 use exercise_model::ExerciseLog;
 use siman_console::{
     Script, ScriptFault, TrialFault, WorldFault, perform, read_script, run_world, trial,
 };
+use siman_refusals::{Call, Said, refused, unmade, usual};
 use std::alloc::Global;
 use std::io;
 

@@ -1,12 +1,11 @@
 //! Whether the checker and the search answer as the plain ones do.
 
-use crate::calls::{WELL, read_from};
-use crate::case::Case;
 use exercise_audit::{Audit, audit};
 use exercise_check::{Certificate, CheckFault, Checked, check, read_certificate};
 use exercise_model::{ExerciseLog, LARGEST_ENTITY};
 use exercise_recording::RecordingView;
 use plain_check::{plain_audit, plain_cause, plain_check, plain_others, plain_pair, plain_states};
+use siman_fixtures::{Case, WELL, read_from};
 use std::alloc::{AllocError, Global};
 
 /// The number of an entry as the checker reports it.

@@ -1,6 +1,6 @@
 //! Datagrams that are read, written, shown and copied.
 
-use crate::refusals::{Call, Said, refused, usual};
+use crate::call::{Call, Said, refused, usual};
 use siman_pdus::{Body, EncodeFault, Pdu, PduFault, decode, encode, view};
 use std::alloc::Global;
 use std::io;

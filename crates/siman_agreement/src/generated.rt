@@ -2,13 +2,12 @@
 //! plain ones.
 
 use crate::agreement::{compare_audits, compare_checks};
-use crate::random::Random;
-use crate::scene::{Deed, ENTITIES, Scene, begin, place_of, station_of};
 use dis_records::{Address, EntityState};
 use exercise_audit::Audit;
 use exercise_check::{Certificate, CheckFault, NO_LINK, Step};
 use exercise_model::{Cause, ExerciseLog, Form, LogEntry, LogFault, Recording, Station};
 use plain_check::plain_steps;
+use siman_fixtures::{Deed, ENTITIES, Random, Scene, begin, place_of, station_of};
 use std::alloc::{AllocError, Global};
 use std::io;
 use std::io::Write;

@@ -1,8 +1,8 @@
 //! A call of a station at its line, and what is told of its answer.
 
-use crate::post::Call;
 use dis_records::EntityState;
 use exercise_recording::RecordingWriter;
+use siman_fixtures::Call;
 use siman_lines::{IssueFault, MemoryLine, Node, ServeFault, Served, issue, nudge, serve};
 use siman_manager::OrderStatus;
 use siman_worlds::{Act, Move};

@@ -1,8 +1,8 @@
 //! A manager, an application and a station that are called 100,000 times.
 
-use crate::refusals::{
-    CREATE, Post, application, creation, creation_under, manager, ordered, unmade,
-};
+use crate::machines::{application, creation, creation_under, manager, ordered};
+use crate::recordings::{CREATE, unmade};
+use crate::stations::Post;
 use exercise_recording::RecordingWriter;
 use siman_application::Application;
 use siman_lines::{MemoryLine, Node, Served, issue, nudge, serve};
@@ -36,7 +36,7 @@ fn requests(application: &mut Application) -> u32 {
 }
 
 /// Calls a manager and an application, and prints how far they came.
-pub(crate) fn put_halves<W: Write>(alloc: Global, out: &mut W) -> io::Result<()> {
+pub fn put_halves<W: Write>(alloc: Global, out: &mut W) -> io::Result<()> {
     writeln!(out, "orders: {}", orders(&mut manager(alloc)?))?;
     writeln!(out, "requests: {}", requests(&mut application(alloc)?))?;
     Ok(())
@@ -99,7 +99,7 @@ fn nudged<W: Write>(
 }
 
 /// Calls a station at its line, and prints how far it came.
-pub(crate) fn put_station<W: Write>(alloc: Global, out: &mut W) -> io::Result<()> {
+pub fn put_station<W: Write>(alloc: Global, out: &mut W) -> io::Result<()> {
     let Post {
         stations,
         mut node,

@@ -1,6 +1,6 @@
 //! Recordings and certificates that are read, and judged.
 
-use crate::refusals::{Call, Said, refused, usual};
+use crate::call::{Call, Said, refused, usual};
 use dis_records::{Address, EntityState};
 use exercise_audit::{Audit, audit};
 use exercise_check::{
@@ -52,12 +52,12 @@ const TAKEN: [Step; 4] = [
 ];
 
 /// What can't be lent.
-pub(crate) fn unmade() -> io::Error {
+pub fn unmade() -> io::Error {
     io::Error::from(ErrorKind::Other)
 }
 
 /// A station without entities.
-pub(crate) fn station(alloc: Global, site: u16, application: u16) -> io::Result<Station> {
+pub fn station(alloc: Global, site: u16, application: u16) -> io::Result<Station> {
     let Some(address) = Address::new(site, application) else {
         return Err(unmade());
     };
@@ -126,7 +126,7 @@ fn searched(alloc: Global) -> io::Result<Recording> {
 }
 
 /// The file of the recording of a creation.
-pub(crate) fn text(alloc: Global) -> io::Result<Vec<u8>> {
+pub fn recording_text(alloc: Global) -> io::Result<Vec<u8>> {
     let log = made(alloc)?;
     let mut text = Vec::new(alloc);
     match write_recording(&log, &mut text) {
@@ -153,7 +153,7 @@ pub(crate) struct Reading {
 
 impl Reading {
     pub(crate) fn begin(alloc: Global) -> io::Result<Reading> {
-        Ok(Reading { text: text(alloc)? })
+        Ok(Reading { text: recording_text(alloc)? })
     }
 }
 
@@ -174,7 +174,7 @@ pub(crate) struct Seeing {
 
 impl Seeing {
     pub(crate) fn begin(alloc: Global) -> io::Result<Seeing> {
-        Ok(Seeing { text: text(alloc)? })
+        Ok(Seeing { text: recording_text(alloc)? })
     }
 }
 

@@ -1,12 +1,8 @@
 //! Runs the calls of a station at its line, and tells what it left.
 
-use crate::calls::{Calls, Kept, WELL, write_to};
-use crate::case::Case;
-use crate::entries::{Entries, entries_of};
-use crate::file::found;
-use crate::post::Call;
 use crate::post_call::make_call;
 use exercise_recording::{Recording, RecordingWriter};
+use siman_fixtures::{Call, Calls, Case, Entries, Kept, WELL, entries_of, found, write_to};
 use siman_lines::{MemoryLine, Node};
 use siman_worlds::{Beginning, Move, Script, begin_world, read_script};
 use std::alloc::{AllocError, Global};

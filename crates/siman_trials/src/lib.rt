@@ -1,0 +1,10 @@
+//! Stations at their lines, tried: the calls that a case asks for, over a line in memory, with what they
+//! must answer and what must be on the line and in the recording; and lines over a network in memory.
+#![tactic(auto)]
+
+mod post_call;
+mod post_trial;
+mod wire;
+
+pub use post_trial::{compare, try_post};
+pub use wire::{WireLine, lines_of};

@@ -22,6 +22,7 @@ use Rattle.exercise_findings.proofs.Offered.{bytes_same, sends_there, source_her
 use Rattle.exercise_check.specs.declared.certificate.Step.{Step}
 use Rattle.exercise_check.specs.Order.{order_of, first_sender}
 use Rattle.exercise_check.specs.Goodness.{no_step, IsGoodStep, GoodBelow}
+use Rattle.exercise_check.specs.Cursors.{StandsFor}
 use Rattle.exercise_check.specs.Judging.{was_taken, if_taken}
 use Rattle.exercise_check.proofs.Orders.{first_sender-snoc, first_sender-none, length-order-none}
 use Rattle.exercise_check.proofs.Courses.{own_entry}
@@ -44,6 +45,30 @@ own_taken r steps t e own =
     let x = own_entry r t e own in
     ap (λ o. option_map_or (λ (x : Entry). nat_lt (rank r (station_of (event_of x)) e) (count r (station_of (event_of x)) steps)) o false) x.1
     ∙ ap (λ k. nat_lt (rank r k e) (count r k steps)) x.2
+
+-- an entry was taken where the one that its station is to do next comes after it
+pub taken_by_cursor : (r : PlainRecording) (steps : List Step) (e s number : ℕ) (x : Entry) → s ≡ station_of (event_of x)
+    → e < length r.entries → slice_get r.entries e ≡ Some x → StandsFor r s (count r s steps) number → nat_lt e number ≡ was_taken r steps e
+taken_by_cursor r steps e s number x same within at stands = by ∙ sym (own_taken r steps s e own)
+  where
+    own : is_some (own_event r s e) ≡ true
+    own = own_here r s e x at ∙ eq-eqb s _ same
+
+    by : nat_lt e number ≡ nat_lt (rank r s e) (count r s steps)
+    by = ⊎_elim
+        (λ (before : e < number). lt-ltb _ _ before ∙ sym (lt-ltb _ _ (⊎_elim
+        (λ (there : number < length r.entries). omega (arith, passes r s e number own before, stands.rank there))
+        (λ (past : length r.entries ≤ number). omega (arith, passes r s e (length r.entries) own within, stands.none past))
+        (cases_lt number (length r.entries)))))
+        (λ (from : number ≤ e).
+        let there : number < length r.entries = omega (arith, from, within) in
+        le-ltb _ _ from ∙ sym (le-ltb _ _ (⊎_elim
+        (λ (above : number < e). omega (arith, passes r s number e (stands.own there) above, stands.rank there))
+        (λ (most : e ≤ number).
+        let equal : number ≡ e = omega (arith, from, most) in
+        omega (arith, stands.rank there, ap (rank r s) equal))
+        (cases_lt number e))))
+        (cases_lt e number)
 
 -- what sends at a station is one of its entries
 own_sending : (r : PlainRecording) (b : List ℕ) (t e : ℕ) → sends_here r b t e ≡ true → is_some (own_event r t e) ≡ true
@@ -197,7 +222,6 @@ grows r limits b p means before step x good =
 
     still : sends b (event_of x) ≡ false → (o : Option ℕ)
         → if_taken r before (option_and_then (first_send r b) o) ≡ if_taken r (before ++ step ∷ []) (option_and_then (first_send r b) o)
-    unfolding first_send
     still silent None = refl
     still silent (Some t) = still_at t (source_at r b t) refl silent
 

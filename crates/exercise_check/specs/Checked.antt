@@ -4,7 +4,7 @@ use Rattle.exercise_model.specs.Recording.{PlainRecording}
 use Rattle.exercise_model.specs.History.{History}
 use Rattle.exercise_model.specs.Pairing.{ReceivesAble}
 use Rattle.exercise_model.specs.Knowledge.{IsKnownAt}
-pub use Rattle.exercise_findings.specs.Account.{AccountData, TellsAccount}
+use Rattle.exercise_findings.specs.Account.{AccountData}
 
 -- WHAT A YES KNOWS in the run h: for each entry that receives an Able from a recorded station the change behind it is told, and is known there
 -- in the run, as `IsKnown` says; and where a change is told, the entry is one of these

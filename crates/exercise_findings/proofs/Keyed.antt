@@ -541,7 +541,7 @@ before_or : (n : ℕ) (o q : Option ℕ) → before_entry n q ≡ None → befor
 before_or n None q none = none
 before_or n (Some e) q none = refl
 
-first_earlier : (f : ℕ → Bool) (n : ℕ) → IfSome (first_below f n) (λ e. e < n)
+pub first_earlier : (f : ℕ → Bool) (n : ℕ) → IfSome (first_below f n) (λ e. e < n)
 first_earlier f n =
     elim (first_below f n) as (λ o. first_below f n ≡ o → IfSome o (λ e. e < n)) [ None ↦ λ _. tt | Some e ↦ λ is. (passes f n e is).0 ] refl
 

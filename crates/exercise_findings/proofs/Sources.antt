@@ -1,6 +1,6 @@
 -- Where a datagram was sent first by the station that it comes from.
 use Rattle.std.proofs.Common.{◌≡◌, ℕ, zero, suc, ◌+◌, ◌<◌, List, [], ◌∷◌, length, cond, Bool, Option, Some, None, true, false, refl, sym, ap, ◌∙◌, arith}
-use Rattle.std.specs.Prelude.{slice_get, nat_eq, bytes_eq, option_and_then, unwrap_or, if◌then◌else◌}
+use Rattle.std.specs.Prelude.{slice_get, nat_eq, bytes_eq, option_and_then, unwrap_or, IfSome, if◌then◌else◌}
 use Rattle.std.specs.Option.{option_map_or, option_or}
 use Rattle.std.specs.Cmp.Lexicographic.{bytes_decides}
 use Rattle.std.proofs.Math.Numerals.{add-one}
@@ -20,7 +20,7 @@ use Rattle.exercise_model.proofs.Offered.{IsFirst, first_found, sender_found}
 use Rattle.exercise_findings.specs.declared.senders.Datagram.{Datagram}
 use Rattle.exercise_findings.specs.Senders.{Senders, same_datagram, AreSenders}
 use Rattle.exercise_findings.specs.Source.{sends_here, first_send, source_of_pdu, source_of_bytes, source_of_entry, source_of, is_source, first_source, source_by, source_at}
-use Rattle.exercise_findings.proofs.Keyed.{same_first, no_first}
+use Rattle.exercise_findings.proofs.Keyed.{no_first, first_earlier}
 
 -- the entry of a place
 pub entry_within : (entries : List Entry) (i : ℕ) → i < length entries → (e : Entry) × (slice_get entries i ≡ Some e)
@@ -184,3 +184,22 @@ source_here r i e at = ap (option_and_then (source_of_entry r)) at
 pub source_past : (r : PlainRecording) (i : ℕ) → slice_get r.entries i ≡ None → source_of r i ≡ None
 unfolding source_of
 source_past r i past = ap (option_and_then (source_of_entry r)) past
+
+-- a source is an entry
+pub source_within : (r : PlainRecording) (i : ℕ) → IfSome (source_of r i) (λ e. e < length r.entries)
+unfolding source_of first_send
+source_within r i =
+    elim (slice_get r.entries i) as (λ o. IfSome (option_and_then (source_of_entry r) o) (λ e. e < length r.entries)) [
+      | None ↦ tt
+      | Some e ↦ elim e as (λ e. IfSome (source_of_entry r e) (λ e. e < length r.entries)) [
+        | Sent s stamp b ↦ tt
+        | Received s stamp b ↦ elim (meaning r.setting.exercise b) as (λ o. IfSome (option_and_then (source_of_pdu r b) o) (λ e. e < length r.entries)) [
+          | None ↦ tt
+          | Some p ↦ elim (sender_of r p) as (λ o. IfSome (option_and_then (first_send r b) o) (λ e. e < length r.entries)) [
+            | None ↦ tt
+            | Some t ↦ first_earlier (sends_here r b t) (length r.entries)
+          ]
+        ]
+        | Told s x y ↦ tt
+      ]
+    ]

@@ -1,6 +1,6 @@
 //! What the log of each station says of its own entries.
 
-ghost use Rattle.std.specs.Prelude.{◌≡◌, ◌<◌, ◌≤◌, length, IfOk};
+ghost use Rattle.std.specs.Prelude.{◌≡◌, ◌<◌, ◌≤◌, length, IfOk, OnOk, IfSome};
 ghost use Rattle.exercise_model.specs.Recording.{PlainRecording, IsRecording};
 ghost use Rattle.exercise_model.specs.History.{station_at};
 ghost use Rattle.exercise_model.specs.State.{state_after};
@@ -40,7 +40,8 @@ impl<'a, L: ExerciseLog> Model for Findings<'a, L> {
 impl<'a, L: ExerciseLog> Findings<'a, L> {
     /// What is found in a log. Datagrams are looked at where they lie; what is kept takes memory.
     pub fn of(alloc: Global, log: &'a L) -> Result<Findings<'a, L>, AllocError>
-        ensures { IfOk result (λ findings. findings ≡ L.recording log.now) }
+        ensures findings { IfOk result (λ findings. findings ≡ L.recording log.now) }
+        ensures limits { OnOk result (IsRecording (L.recording log.now)) }
     {
         let found = find(alloc, log)?;
         Ok(Findings { log, found })
@@ -79,7 +80,8 @@ impl<'a, L: ExerciseLog> Findings<'a, L> {
     /// For a datagram that was received from a recorded station, the first entry of that station that
     /// sends the same bytes; `None` for all else and past the last entry. It takes no memory.
     pub fn source(&self, entry: usize) -> Option<u32>
-        ensures { result ≡ source_of self.now entry }
+        ensures source { result ≡ source_of self.now entry }
+        ensures within { IfSome result (λ source. source < length self.now.entries) }
     {
         if entry >= self.log.entry_count() {
             return None;

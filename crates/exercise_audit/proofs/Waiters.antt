@@ -4,6 +4,7 @@ use Rattle.std.specs.Prelude.{nat_eq, if◌then◌else◌, unwrap_or, Result, Ok
 use Rattle.std.specs.Option.{option_map_or}
 use Rattle.std.proofs.lemmas.Bool.{eqb-true}
 use Rattle.std.specs.Global.{Vec}
+use Rattle.std.specs.Map.{lookup}
 use Rattle.indexmap.specs.IndexMap.{get, IsUnchanged, Updates}
 use Rattle.exercise_audit.specs.Waiting.{Waiting, waiting_for, Leaves, WaitsOn}
 
@@ -55,7 +56,7 @@ left old new entry updates i = after old new entry None updates i
 
 pub unchanged : (old new : Waiting) → IsUnchanged old new → WaitsOn old new
 unfolding waiting_for
-unchanged old new same i = ?
+unchanged old new same i = ap (λ es. listed (lookup (nat_eq i) es)) same
 
 pub on_err : {A E : Type 0} (result : Result A E) (P : Type 0) → P → OnErr result P
 on_err (Ok a) P p = tt

@@ -17,7 +17,7 @@ pub record AreFromLast (n s : ℕ) (stations : List ℕ) : Type 0 where
 
 -- once entry i is taken those may go on that waited for it, and nobody waits for it any more; all others wait as they did
 pub record IsWoken (i : ℕ) (old new : Waiting) (was ready : List ℕ) : Type 0 where
-  pub ready : ready ≡ was ++ waiting_for old i
+  pub woken : ready ≡ was ++ waiting_for old i
   pub waits : Leaves old new i
 
 -- a station that can't go on waits for this entry, if there is one; all others wait as they did

@@ -14,14 +14,10 @@ fn wake_at(
     alloc: Global,
     waiting: &mut Waiting,
     ready: &mut Vec<usize>,
-    entry: u32,
+    entry: usize,
 ) -> Result<(), AllocError>
     ensures { OnOk result (IsWoken entry waiting.old waiting.new ready.old.items ready.new.items) }
 {
-    // Where nobody waits, which is often, nothing is looked up.
-    if waiting.is_empty() {
-        return Ok(());
-    }
     let woken = wake(alloc, waiting, entry);
     ready.extend_from_slice(woken.as_slice())
 }
@@ -42,7 +38,7 @@ fn wait_for<L: ExerciseLog>(
         return Ok(());
     }
     match course.source(entry) {
-        Some(source) => wait(alloc, waiting, source, station),
+        Some(source) => wait(alloc, waiting, source as usize, station),
         None => Ok(()),
     }
 }
@@ -67,7 +63,7 @@ fn go_on<L: ExerciseLog>(
     };
     match course.go_on(alloc, entry)? {
         Progress::Taken(_) => {
-            wake_at(alloc, waiting, ready, entry as u32)?;
+            wake_at(alloc, waiting, ready, entry)?;
             Ok(true)
         }
         Progress::Barred(cause) => {

@@ -8,7 +8,7 @@ use std::alloc::{AllocError, Global};
 
 /// The stations that wait for each entry. A station waits for one entry at a time, so there are at
 /// most as many as stations.
-pub(crate) type Waiting = IndexMap<u32, Vec<usize>>;
+pub(crate) type Waiting = IndexMap<usize, Vec<usize>>;
 
 /// Nobody waits. It takes no memory.
 #[tactic(auto, unfolding(crate::specs::Waiting::waiting_for))]
@@ -22,7 +22,7 @@ pub(crate) fn no_waiting(alloc: Global) -> Waiting
 pub(crate) fn wait(
     alloc: Global,
     waiting: &mut Waiting,
-    entry: u32,
+    entry: usize,
     station: usize,
 ) -> Result<(), AllocError>
     ensures joins { OnOk result (Joins waiting.old waiting.new entry station) }
@@ -37,10 +37,14 @@ pub(crate) fn wait(
 
 /// Takes out the stations that wait for an entry, and no others. It takes no memory.
 #[tactic(auto, unfolding(crate::specs::Waiting::waiting_for))]
-pub(crate) fn wake(alloc: Global, waiting: &mut Waiting, entry: u32) -> Vec<usize>
+pub(crate) fn wake(alloc: Global, waiting: &mut Waiting, entry: usize) -> Vec<usize>
     ensures woken { result.items ≡ waiting_for waiting.old entry }
     ensures leaves { Leaves waiting.old waiting.new entry }
 {
+    // Where nobody waits, which is often, nothing is looked up.
+    if waiting.is_empty() {
+        return Vec::new(alloc);
+    }
     match waiting.swap_remove(&entry) {
         Some(stations) => stations,
         None => Vec::new(alloc),

@@ -1,9 +1,10 @@
 -- What the search by waiting lists does with its lists at an entry (profile).
-use Rattle.std.specs.Prelude.{◌≡◌, ◌≢◌, ◌⊎◌, ◌+◌, ◌<◌, ℕ, List, ◌++◌, length, slice_get, slice_index_or, IfSome}
+use Rattle.std.specs.Prelude.{◌≡◌, ◌≢◌, ◌⊎◌, ◌+◌, ◌<◌, ℕ, List, ◌++◌, length, slice_get, slice_index_or, Option, Some, None, IfSome}
 use Rattle.exercise_model.specs.declared.cause.Cause.{Cause}
 use Rattle.exercise_model.specs.declared.cause.Cause.TheVariants.{NeverSent}
 use Rattle.exercise_model.specs.Recording.{PlainRecording}
-use Rattle.exercise_model.specs.History.{Event, Send, Get, Tell, event_of, station_of}
+use Rattle.exercise_model.specs.History.{event_of, station_of}
+use Rattle.exercise_findings.specs.Source.{source_of}
 use Rattle.exercise_check.specs.Course.{CourseData, with_step, so_far}
 use Rattle.exercise_audit.specs.declared.blocks.Block.{Block}
 use Rattle.exercise_audit.specs.Audit.{IsBlock, IsDone}
@@ -14,29 +15,19 @@ pub record AreFromLast (n s : ℕ) (stations : List ℕ) : Type 0 where
   pub count : length stations + s ≡ n
   pub each : (j : ℕ) → j < length stations → slice_index_or stations j 0 + j + 1 ≡ n
 
--- after this event those may go on that waited for what it sends, and nobody waits for that any more; all others wait as they did
-abbrev pub Wakes : Waiting → Waiting → List ℕ → List ℕ → Event → Type 0
-Wakes old new was ready (Send s b) = (ready ≡ was ++ waiting_for old b) × Leaves old new b
-Wakes old new was ready (Get s b) = (new ≡ old) × (ready ≡ was)
-Wakes old new was ready (Tell s e y) = (new ≡ old) × (ready ≡ was)
+-- once entry i is taken those may go on that waited for it, and nobody waits for it any more; all others wait as they did
+pub record IsWoken (i : ℕ) (old new : Waiting) (was ready : List ℕ) : Type 0 where
+  pub woken : ready ≡ was ++ waiting_for old i
+  pub waits : Leaves old new i
 
--- the same of entry i
-abbrev pub IsWoken : PlainRecording → ℕ → Waiting → Waiting → List ℕ → List ℕ → Type 0
-IsWoken r i old new was ready = IfSome (slice_get r.entries i) (λ e. Wakes old new was ready (event_of e))
+-- a station that can't go on waits for this entry, if there is one; all others wait as they did
+abbrev pub Waits : ℕ → Waiting → Waiting → Option ℕ → Type 0
+Waits station old new (Some source) = Joins old new source station
+Waits station old new None = new ≡ old
 
--- a station that can't go on by this event waits for what it receives; all others wait as they did
-abbrev pub Waits : ℕ → Waiting → Waiting → Event → Type 0
-Waits station old new (Send s b) = new ≡ old
-Waits station old new (Get s b) = Joins old new b station
-Waits station old new (Tell s e y) = new ≡ old
-
--- the same of entry i
-abbrev pub IsWaiting : PlainRecording → ℕ → ℕ → Waiting → Waiting → Type 0
-IsWaiting r i station old new = IfSome (slice_get r.entries i) (λ e. Waits station old new (event_of e))
-
--- a station that can't go on by entry i for this cause waits for what it receives there, where that was not sent
+-- a station that can't go on by entry i for this cause waits for the source of what it receives there, where that was not sent
 pub record WaitsFor (r : PlainRecording) (i station : ℕ) (cause : Cause) (old new : Waiting) : Type 0 where
-  pub unsent : cause ≡ NeverSent → IsWaiting r i station old new
+  pub unsent : cause ≡ NeverSent → Waits station old new (source_of r i)
   pub other : cause ≢ NeverSent → new ≡ old
 
 -- A STATION GOES ON: it takes one of its entries, and those may go on that waited for what it sends
@@ -45,7 +36,7 @@ pub record GoesOnBy (old new : CourseData) (station : ℕ) (waited waits : Waiti
   pub link : ℕ
   pub own : IfSome (slice_get old.recording.entries place) (λ e. station_of (event_of e) ≡ station)
   pub step : new ≡ with_step old (record { place = place; link = link })
-  pub woken : IsWoken old.recording place waited waits was ready
+  pub woken : IsWoken place waited waits was ready
 
 -- A STATION IS HELD UP: this stands in its way, and it waits for what it is to receive, where that was not sent
 pub record IsHeldUp (c : CourseData) (station : ℕ) (waited waits : Waiting) : Type 0 where

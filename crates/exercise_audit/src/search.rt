@@ -1,79 +1,58 @@
 //! The search by waiting lists: each station goes on as far as it may, and then waits for the
-//! datagram that it is to receive next, if that was not sent so far.
+//! entry that sends what it is to receive next, if that one was not taken so far.
 
 ghost use Rattle.std.specs.Prelude.{◌≡◌, ◌<◌, length, OnOk, IfOk, true, false};
-ghost use Rattle.exercise_audit.specs.Search.{AreFromLast, IsWoken, IsWaiting, WaitsFor, GoesOnBy, Stays};
+ghost use Rattle.exercise_audit.specs.Search.{AreFromLast, IsWoken, WaitsFor, GoesOnBy, Stays};
 
 use crate::waiting::{Waiting, no_waiting, wait, wake};
 use exercise_check::{Course, Progress};
-use exercise_model::{Cause, EntryView, ExerciseLog};
+use exercise_model::{Cause, ExerciseLog};
 use std::alloc::{AllocError, Global};
 
-/// Lets those go on that wait for what an entry sends, if it sends something.
-fn wake_at<'a, L: ExerciseLog>(
+/// Lets those go on that wait for an entry, which is taken.
+fn wake_at(
     alloc: Global,
-    log: &'a L,
-    waiting: &mut Waiting<'a>,
+    waiting: &mut Waiting,
     ready: &mut Vec<usize>,
     entry: usize,
 ) -> Result<(), AllocError>
-    requires { entry < length (L.recording log.now).entries }
-    ensures { OnOk result (IsWoken (L.recording log.now) entry waiting.old waiting.new ready.old.items ready.new.items) }
+    ensures { OnOk result (IsWoken entry waiting.old waiting.new ready.old.items ready.new.items) }
 {
-    if let EntryView::Sent { bytes, .. } = log.entry(entry) {
-        let woken = wake(alloc, waiting, bytes);
-        ready.extend_from_slice(woken.as_slice())?;
-    }
-    Ok(())
+    let woken = wake(alloc, waiting, entry);
+    ready.extend_from_slice(woken.as_slice())
 }
 
-/// Lets a station wait for what an entry receives, if it receives something.
-fn wait_at<'a, L: ExerciseLog>(
+/// Lets a station wait for the source of what an entry receives, if the station can't go on because
+/// that was not sent.
+fn wait_for<L: ExerciseLog>(
     alloc: Global,
-    log: &'a L,
-    waiting: &mut Waiting<'a>,
-    station: usize,
-    entry: usize,
-) -> Result<(), AllocError>
-    requires { entry < length (L.recording log.now).entries }
-    ensures { OnOk result (IsWaiting (L.recording log.now) entry station waiting.old waiting.new) }
-{
-    if let EntryView::Received { bytes, .. } = log.entry(entry) {
-        wait(alloc, waiting, bytes, station)?;
-    }
-    Ok(())
-}
-
-/// Lets a station wait for what an entry receives, if it can't go on because that was not sent.
-fn wait_for<'a, L: ExerciseLog>(
-    alloc: Global,
-    log: &'a L,
-    waiting: &mut Waiting<'a>,
+    course: &Course<'_, L>,
+    waiting: &mut Waiting,
     station: usize,
     entry: usize,
     cause: Cause,
 ) -> Result<(), AllocError>
-    requires { entry < length (L.recording log.now).entries }
-    ensures { OnOk result (WaitsFor (L.recording log.now) entry station cause waiting.old waiting.new) }
+    ensures { OnOk result (WaitsFor course.now.recording entry station cause waiting.old waiting.new) }
 {
-    if cause == Cause::NeverSent {
-        wait_at(alloc, log, waiting, station, entry)?;
+    if cause != Cause::NeverSent {
+        return Ok(());
     }
-    Ok(())
+    match course.source(entry) {
+        Some(source) => wait(alloc, waiting, source as usize, station),
+        None => Ok(()),
+    }
 }
 
 /// Lets a station go on by its next entry, if it has one and may, and answers whether it did. Those
 /// that wait for what it sends may go on then; where it is to receive what was not sent so far, it
 /// waits for that.
-fn go_on<'a, L: ExerciseLog>(
+fn go_on<L: ExerciseLog>(
     alloc: Global,
-    log: &'a L,
     course: &mut Course<'_, L>,
-    waiting: &mut Waiting<'a>,
+    waiting: &mut Waiting,
     ready: &mut Vec<usize>,
     station: usize,
 ) -> Result<bool, AllocError>
-    requires { course.old.recording ≡ L.recording log.now }
     ensures recording { course.new.recording ≡ course.old.recording }
     ensures goes { IfOk result (λ more. more ≡ true → GoesOnBy course.old course.new station waiting.old waiting.new ready.old.items ready.new.items) }
     ensures stays { IfOk result (λ more. more ≡ false → Stays course.old station waiting.old waiting.new) }
@@ -84,31 +63,30 @@ fn go_on<'a, L: ExerciseLog>(
     };
     match course.go_on(alloc, entry)? {
         Progress::Taken(_) => {
-            wake_at(alloc, log, waiting, ready, entry)?;
+            wake_at(alloc, waiting, ready, entry)?;
             Ok(true)
         }
         Progress::Barred(cause) => {
-            wait_for(alloc, log, waiting, station, entry, cause)?;
+            wait_for(alloc, course, waiting, station, entry, cause)?;
             Ok(false)
         }
     }
 }
 
 /// Lets a station go on as far as it may.
-fn go_far<'a, L: ExerciseLog>(
+fn go_far<L: ExerciseLog>(
     alloc: Global,
-    log: &'a L,
     course: &mut Course<'_, L>,
-    waiting: &mut Waiting<'a>,
+    waiting: &mut Waiting,
     ready: &mut Vec<usize>,
     station: usize,
+    entries: usize,
 ) -> Result<(), AllocError>
-    requires { course.old.recording ≡ L.recording log.now }
     ensures { course.new.recording ≡ course.old.recording }
 {
     // It has at most as many entries as there are.
-    for _entry in 0..log.entry_count() {
-        if !go_on(alloc, log, course, waiting, ready, station)? {
+    for _entry in 0..entries {
+        if !go_on(alloc, course, waiting, ready, station)? {
             break;
         }
     }
@@ -134,7 +112,6 @@ pub(crate) fn go_on_by_lists<L: ExerciseLog>(
     log: &L,
     course: &mut Course<'_, L>,
 ) -> Result<(), AllocError>
-    requires { course.old.recording ≡ L.recording log.now }
     ensures { course.new.recording ≡ course.old.recording }
 {
     let (entries, stations) = (log.entry_count(), log.station_count());
@@ -145,7 +122,7 @@ pub(crate) fn go_on_by_lists<L: ExerciseLog>(
         let Some(station) = ready.pop() else {
             break;
         };
-        go_far(alloc, log, course, &mut waiting, &mut ready, station)?;
+        go_far(alloc, course, &mut waiting, &mut ready, station, entries)?;
     }
     Ok(())
 }

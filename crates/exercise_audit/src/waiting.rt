@@ -1,87 +1,51 @@
-//! Stations that wait for datagrams to be sent.
+//! Stations that wait for entries to be taken.
 
-ghost use Rattle.std.specs.Prelude.{◌≡◌, [], ◌∷◌, OnOk, OnErr, nat_eq};
-ghost use Rattle.std.specs.Cmp.Rules.{comparing, hashing};
-ghost use Rattle.std.specs.Cmp.Lexicographic.{pointwise, bytes_decides, nat_list_eq_equiv};
-ghost use Rattle.std.proofs.Common.{ap};
-ghost use borrow.Author.Rules.{rules};
+ghost use Rattle.std.specs.Prelude.{◌≡◌, OnOk, OnErr};
 ghost use Rattle.exercise_audit.specs.Waiting.{waiting_for, NoneWaits, Joins, Leaves, WaitsOn};
 
 use indexmap::IndexMap;
 use std::alloc::{AllocError, Global};
-use std::hash::{BuildHasherDefault, DefaultHasher, Hash, Hasher};
 
-/// A datagram that is waited for. Its bytes are hashed in one write.
-#[derive(Clone, Copy)]
-pub(crate) struct Datagram<'a> {
-    /// Its bytes.
-    pub bytes: &'a [u8],
-}
-
-impl<'a> PartialEq for Datagram<'a> {
-    ghost eq = { λ x y. pointwise nat_eq x.bytes.now y.bytes.now };
-
-    ghost laws = { Prim.search (comparing, rules) };
-
-    fn eq(&self, other: &Datagram<'a>) -> bool {
-        self.bytes == other.bytes
-    }
-}
-
-impl<'a> Eq for Datagram<'a> {
-    ghost laws = { Prim.search (comparing, rules) };
-}
-
-impl<'a> Hash for Datagram<'a> {
-    ghost hash_input = { λ d. d.bytes.now ∷ [] };
-
-    ghost respects_eq = { λ x y h. ap (λ b. b ∷ []) ((bytes_decides x.bytes.now y.bytes.now).0 h) };
-
-    fn hash<H: Hasher>(&self, state: &mut H) {
-        state.write(self.bytes);
-    }
-}
-
-/// The stations that wait for each datagram. The datagrams come from a recording, whose writer may
-/// be a stranger, so the hasher is one for which nobody writes down datagrams that fall together.
-pub(crate) type Waiting<'a> = IndexMap<Datagram<'a>, Vec<usize>, BuildHasherDefault<DefaultHasher>>;
+/// The stations that wait for each entry. A station waits for one entry at a time, so there are at
+/// most as many as stations.
+pub(crate) type Waiting = IndexMap<usize, Vec<usize>>;
 
 /// Nobody waits. It takes no memory.
 #[tactic(auto, unfolding(crate::specs::Waiting::waiting_for))]
-pub(crate) fn no_waiting<'a>(alloc: Global) -> Waiting<'a>
+pub(crate) fn no_waiting(alloc: Global) -> Waiting
     ensures { NoneWaits result }
 {
-    Waiting::with_hasher(alloc, BuildHasherDefault::default())
+    Waiting::new(alloc)
 }
 
-/// Lets a station wait for a datagram. Without memory for that, those wait that did.
-pub(crate) fn wait<'a>(
+/// Lets a station wait for an entry. Without memory for that, those wait that did.
+pub(crate) fn wait(
     alloc: Global,
-    waiting: &mut Waiting<'a>,
-    bytes: &'a [u8],
+    waiting: &mut Waiting,
+    entry: usize,
     station: usize,
 ) -> Result<(), AllocError>
-    ensures joins { OnOk result (Joins waiting.old waiting.new bytes.now station) }
+    ensures joins { OnOk result (Joins waiting.old waiting.new entry station) }
     ensures failed { OnErr result (WaitsOn waiting.old waiting.new) }
 {
     waiting
-        .entry(Datagram { bytes })?
+        .entry(entry)?
         .or_insert(Vec::new(alloc))
         .push(station)?;
     Ok(())
 }
 
-/// Takes out the stations that wait for a datagram, and no others. It takes no memory.
+/// Takes out the stations that wait for an entry, and no others. It takes no memory.
 #[tactic(auto, unfolding(crate::specs::Waiting::waiting_for))]
-pub(crate) fn wake<'a>(alloc: Global, waiting: &mut Waiting<'a>, bytes: &'a [u8]) -> Vec<usize>
-    ensures woken { result.items ≡ waiting_for waiting.old bytes.now }
-    ensures leaves { Leaves waiting.old waiting.new bytes.now }
+pub(crate) fn wake(alloc: Global, waiting: &mut Waiting, entry: usize) -> Vec<usize>
+    ensures woken { result.items ≡ waiting_for waiting.old entry }
+    ensures leaves { Leaves waiting.old waiting.new entry }
 {
-    // Where nobody waits, which is often, no datagram is hashed.
+    // Where nobody waits, which is often, nothing is looked up.
     if waiting.is_empty() {
         return Vec::new(alloc);
     }
-    match waiting.swap_remove(&Datagram { bytes }) {
+    match waiting.swap_remove(&entry) {
         Some(stations) => stations,
         None => Vec::new(alloc),
     }

@@ -17,7 +17,7 @@ use Rattle.exercise_check.specs.declared.checker.CheckFault.{CheckFault}
 use Rattle.exercise_check.specs.declared.checker.CheckFault.TheVariants.{Bad, Memory}
 use Rattle.exercise_check.specs.Order.{order_of, is_next, link_of}
 use Rattle.exercise_check.specs.Goodness.{step_cause, cause_at, IsGood, IsFirstBad, Refuses}
-use Rattle.exercise_check.specs.Checked.{CheckedData, TellsAccount}
+use Rattle.exercise_findings.specs.Account.{AccountData, TellsAccount}
 
 -- who may be heard is all that a step asks of the form, and that is as it was
 same_in_form : (r : PlainRecording) (before : List Step) (step : Step)
@@ -66,7 +66,7 @@ pub refused_alike : (r : PlainRecording) (steps : List Step) (fault : CheckFault
 refused_alike r steps fault first =
     (refused_on r (closed r.setting) (closed_alike r first) steps fault, refused_on (converted r) r.setting (first_alike r first) steps fault)
 
-pub told_alike : (r : PlainRecording) (c : CheckedData) → TellsAccount r c ↔ TellsAccount (converted r) c
+pub told_alike : (r : PlainRecording) (c : AccountData) → TellsAccount r c ↔ TellsAccount (converted r) c
 told_alike r c =
     let alike = read_alike r in (
       λ p. record { states = λ s. p.states s ∙ alike.states s; pairs = λ i. p.pairs i ∙ alike.pairs i; causes = λ i. p.causes i ∙ alike.changes i; others = p.others ∙ alike.others },

@@ -13,14 +13,15 @@ use Rattle.exercise_model.specs.History.{Event, History, event_of, station_of, l
 use Rattle.exercise_model.specs.Cause.{cause_of, get_cause, was_sent, IsAllowed}
 use Rattle.exercise_model.specs.Place.{log_before, own_event}
 use Rattle.exercise_model.proofs.Offered.{same_beginnings, beginning_length, log_before-all, recorded_heard}
+use Rattle.exercise_findings.proofs.Offered.{entry_within}
 use Rattle.exercise_check.specs.declared.certificate.Step.{Step}
 use Rattle.exercise_check.specs.Order.{order_of, is_next, first_sender, link_of, link_number}
 use Rattle.exercise_check.specs.Goodness.{link_cause, event_cause, step_cause, GoodBelow, IsReady}
 use Rattle.exercise_check.specs.declared.course.Progress.{Progress}
 use Rattle.exercise_check.specs.declared.course.Progress.TheVariants.{Taken, Barred}
-use Rattle.exercise_check.specs.declared.cause.Judgement.TheVariants.{Allowed, Forbidden}
+use Rattle.exercise_check.specs.declared.judgement.Judgement.TheVariants.{Allowed, Forbidden}
 use Rattle.exercise_check.specs.Course.{CourseData, with_step, IsNext, GoesOn, Judges}
-use Rattle.exercise_check.specs.Tables.{JudgesNext}
+use Rattle.exercise_check.specs.Judging.{JudgesNext}
 use Rattle.exercise_check.proofs.Goodness.{is_ready, cause_none, good_logs}
 use Rattle.exercise_check.proofs.Orders.{is_some-first_sender}
 
@@ -141,12 +142,6 @@ pub allowed_cause : (r : PlainRecording) (steps : List Step) (step : Step) (e : 
 allowed_cause r steps step e link at next is linked = here_cause r steps step e at ∙ rw (next, is) (ap (link_cause step.link) (sym linked))
 
 -- what going on by a step came to
-
--- the entry of a place
-pub entry_within : (entries : List Entry) (i : ℕ) → i < length entries → (e : Entry) × (slice_get entries i ≡ Some e)
-entry_within [] i within = absurd (omega arith)
-entry_within (e ∷ entries) zero within = (e, refl)
-entry_within (e ∷ entries) (suc i) within = entry_within entries i (omega arith)
 
 pub disordered : (r : PlainRecording) (steps : List Step) (step : Step) (next : Bool) → step.place < length r.entries
     → IfSome (slice_get r.entries step.place) (λ e. next ≡ is_next r steps step.place (event_of e)) → next ≡ false

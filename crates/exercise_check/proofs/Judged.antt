@@ -1,29 +1,49 @@
 -- What a station's log says of its next entry is what the order so far says.
 use Rattle.std.proofs.Common.{◌≡◌, ◌≢◌, ℕ, ◌<◌, List, [], ◌∷◌, length, cond, Option, Some, None, Bool, true, false, refl, sym, ap, ◌∙◌, subst}
-use Rattle.std.specs.Prelude.{option_and_then, IfSome, not, ◌&&◌}
+use Rattle.std.specs.Prelude.{option_and_then, slice_get, IfSome, not, ◌&&◌}
 use Rattle.std.specs.List.{list_any}
 use Rattle.std.proofs.lemmas.Option.{same_Some}
 use Rattle.siman_pdus.specs.declared.pdu.Pdu.{Pdu}
+use Rattle.exercise_model.specs.Entry.{Entry, Received}
 use Rattle.exercise_model.specs.Recording.{PlainRecording}
 use Rattle.exercise_model.specs.Setting.{SettingData, is_recorded, may_be_heard}
-use Rattle.exercise_model.specs.History.{Send, Get, Tell, History, station_at}
+use Rattle.exercise_model.specs.History.{Send, Get, Tell, History, event_of, station_at}
 use Rattle.exercise_model.specs.Meaning.{meaning}
 use Rattle.exercise_model.specs.State.{state_after}
 use Rattle.exercise_model.specs.Cause.{send_cause, get_cause, sends, was_sent, tell_rows, first_cause, cause_of}
-use Rattle.exercise_model.specs.Account.{pair_of_sent}
+use Rattle.exercise_model.specs.Account.{pair_of_sent, pair_of_entry, pair_of}
 use Rattle.exercise_model.specs.declared.cause.Cause.{Cause}
 use Rattle.exercise_model.specs.declared.cause.Cause.TheVariants.{Stranger, NeverSent}
 use Rattle.dis_records.specs.declared.entity_state.EntityState.{EntityState}
 use Rattle.exercise_check.specs.declared.certificate.Step.{Step}
-use Rattle.exercise_check.specs.declared.cause.Judgement.{Judgement}
-use Rattle.exercise_check.specs.declared.cause.Judgement.TheVariants.{Allowed, Forbidden}
+use Rattle.exercise_check.specs.declared.judgement.Judgement.{Judgement}
+use Rattle.exercise_check.specs.declared.judgement.Judgement.TheVariants.{Allowed, Forbidden}
 use Rattle.exercise_check.specs.Order.{order_of, first_sender, sender_link, link_of}
 use Rattle.exercise_check.specs.Goodness.{IsReady}
-use Rattle.exercise_check.specs.Course.{Judges}
-use Rattle.exercise_check.specs.Tables.{event_own_cause, is_never_sent, is_unsent}
+use Rattle.exercise_check.specs.Course.{IsCourse, Judges}
+use Rattle.exercise_findings.specs.Source.{source_of}
+use Rattle.exercise_findings.specs.Tables.{event_own_cause, own_cause}
+use Rattle.exercise_findings.proofs.Offered.{below, cause_here, pair_earlier, pair_here}
+use Rattle.exercise_check.specs.Judging.{judged, is_never_sent, is_unsent, if_taken}
 use Rattle.exercise_model.proofs.Offered.{get_where_sent}
 use Rattle.exercise_check.proofs.Courses.{received_unsent, sender_tells}
+use Rattle.exercise_check.proofs.FirstSenders.{source_first}
 use Rattle.exercise_check.proofs.Orders.{sender_within}
+
+-- ---- a cause and a link make a judgement
+
+judged_is : (cause : Option Cause) (link : Option ℕ) (entries : ℕ) → IfSome link (λ e. e < entries) → Judges cause link entries (judged cause link)
+judged_is (Some cause) link entries within = refl
+judged_is None link entries within = (refl, refl, within)
+
+-- what is found of an entry makes this judgement
+pub own_judged : (r : PlainRecording) (n : ℕ) (e : Entry) → n < length r.entries → slice_get r.entries n ≡ Some e
+    → Judges (event_own_cause r n (event_of e)) (pair_of_entry r n e) (length r.entries) (judged (own_cause r n) (pair_of r n))
+own_judged r n e within at =
+    let earlier = subst (λ o. IfSome o (λ e. e < length r.entries)) (pair_here r n e at) (below (pair_of r n) n (length r.entries) within (pair_earlier r n)) in
+    rw (cause_here r n e at, pair_here r n e at) (judged_is (event_own_cause r n (event_of e)) (pair_of_entry r n e) (length r.entries) earlier)
+
+-- ---- what was sent, and what was told
 
 pub sent_judged : (r : PlainRecording) (before : List Step) (j s : ℕ) (b : List ℕ) (x : Judgement)
     → IsReady r before j (Send s b)
@@ -112,6 +132,15 @@ told_unsent cause entries (Forbidden given) =
 
 not_unsent : (alone : Judgement) → is_unsent alone ≡ false → alone ≢ Forbidden NeverSent
 not_unsent alone e same = absurd (cc (sym e ∙ ap is_unsent same))
+
+-- where it is to have been sent, its source was taken exactly where it was
+pub source_told : (r : PlainRecording) (steps : List Step) (place s stamp : ℕ) (b : List ℕ) (alone : Judgement)
+    → IsCourse (record { recording = r; steps = steps }) → slice_get r.entries place ≡ Some (Received s stamp b)
+    → is_unsent alone ≡ true → Judges (cause_of r.setting [] (Get s b)) None (length r.entries) alone
+    → if_taken r steps (source_of r place) ≡ first_sender r.entries b steps
+source_told r steps place s stamp b alone course at so judged =
+    let u = unsent r.setting b s (told_unsent _ _ alone so judged) in
+    source_first r steps place s stamp b u.pdu course.limits course.good at u.means
 
 -- a datagram that was sent first by this entry
 pub received_from : (r : PlainRecording) (steps : List Step) (place s : ℕ) (b : List ℕ) (alone : Judgement) (e : ℕ) → Some e ≡ first_sender r.entries b steps

@@ -4,10 +4,11 @@ use Rattle.exercise_model.specs.Recording.{PlainRecording, IsRecording}
 use Rattle.exercise_model.specs.History.{History}
 use Rattle.exercise_model.specs.Run.{Explains}
 use Rattle.exercise_model.proofs.Offered.{entries_known}
-use Rattle.exercise_check.specs.Checked.{CheckedData, TellsAccount, TellsKnowledge}
+use Rattle.exercise_findings.specs.Account.{AccountData, TellsAccount}
+use Rattle.exercise_check.specs.Checked.{TellsKnowledge}
 
 -- the changes that a recording says are known in each run that explains it
-pub account_known : (r : PlainRecording) (h : History) (c : CheckedData) → IsRecording r → Explains r h → TellsAccount r c → TellsKnowledge r h c
+pub account_known : (r : PlainRecording) (h : History) (c : AccountData) → IsRecording r → Explains r h → TellsAccount r c → TellsKnowledge r h c
 account_known r h c limits explains account =
     let knows = entries_known r h limits explains in
     record {

@@ -10,7 +10,7 @@ use Rattle.exercise_model.proofs.Offered.{log_before-all, no_log, past_within}
 use Rattle.exercise_check.specs.declared.certificate.Step.{Step}
 use Rattle.exercise_check.specs.declared.cursors.Cursors.{Cursors}
 use Rattle.exercise_check.specs.Order.{order_of}
-use Rattle.exercise_check.specs.Column.{IsColumn}
+use Rattle.exercise_findings.specs.Column.{IsColumn}
 use Rattle.exercise_check.specs.Cursors.{StandsFor, IsNextFrom, IsNextAfter, IsFollower, IsFollowerFrom, AreCursorsFrom, AreCursors}
 use Rattle.exercise_check.proofs.Nexts.{own_here}
 use Rattle.exercise_check.proofs.Courses.{at_entry, from_entry}
@@ -35,7 +35,7 @@ before_more : (r : PlainRecording) (s i : ℕ) (e : Entry) → slice_get r.entri
 before_more r s i e at = length-entries-more r s i ∙ ap (λ b. length (log_before r s i) + (if b then 1 else 0)) (own_here r s i e at)
 
 -- how many of a station were taken after one step more
-taken_more : (r : PlainRecording) (s : ℕ) (steps : List Step) (step : Step) (e : Entry) → slice_get r.entries step.place ≡ Some e
+pub taken_more : (r : PlainRecording) (s : ℕ) (steps : List Step) (step : Step) (e : Entry) → slice_get r.entries step.place ≡ Some e
     → length (log_at s (order_of r (steps ++ step ∷ []))) ≡ length (log_at s (order_of r steps)) + (if s == station_of (event_of e) then 1 else 0)
 taken_more r s steps step e at =
     length-order-more r s steps step ∙ ap (λ b. length (log_at s (order_of r steps)) + (if b then 1 else 0)) (own_here r s step.place e at)

@@ -35,7 +35,7 @@ rises r s i (suc n) =
     omega (arith, next, more, rises r s i n)
 
 -- and more, where the entry is its own
-passes : (r : PlainRecording) (s i j : ℕ) → is_some (own_event r s i) ≡ true → i < j → length (log_before r s i) < length (log_before r s j)
+pub passes : (r : PlainRecording) (s i j : ℕ) → is_some (own_event r s i) ≡ true → i < j → length (log_before r s i) < length (log_before r s j)
 passes r s i j own before =
     let more : length (log_before r s (i + 1)) ≡ length (log_before r s i) + 1 =
     length-entries-more r s i ∙ ap (λ b. length (log_before r s i) + (if b then 1 else 0)) own in

@@ -6,8 +6,8 @@ use Rattle.exercise_model.specs.Recording.{PlainRecording, IsRecording}
 use Rattle.exercise_model.specs.History.{History, event_of}
 use Rattle.exercise_model.specs.Cause.{cause_of}
 use Rattle.exercise_check.specs.declared.certificate.Step.{Step}
-use Rattle.exercise_check.specs.declared.cause.Judgement.{Judgement}
-use Rattle.exercise_check.specs.declared.cause.Judgement.TheVariants.{Allowed, Forbidden}
+use Rattle.exercise_check.specs.declared.judgement.Judgement.{Judgement}
+use Rattle.exercise_check.specs.declared.judgement.Judgement.TheVariants.{Allowed, Forbidden}
 use Rattle.exercise_check.specs.declared.course.Progress.{Progress}
 use Rattle.exercise_check.specs.declared.course.Progress.TheVariants.{Taken, Barred}
 use Rattle.exercise_check.specs.Order.{order_of, is_next, link_of, link_number}

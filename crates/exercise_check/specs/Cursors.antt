@@ -6,7 +6,7 @@ use Rattle.exercise_model.specs.Place.{log_before, own_event}
 use Rattle.exercise_check.specs.declared.certificate.Step.{Step}
 use Rattle.exercise_check.specs.declared.cursors.Cursors.{Cursors}
 use Rattle.exercise_check.specs.Order.{order_of}
-use Rattle.exercise_check.specs.Column.{IsColumn}
+use Rattle.exercise_findings.specs.Column.{IsColumn}
 
 -- This number stands for entry k of station s, counted among its own: it is the number of that entry, or, where the station has no
 -- such entry, that of none.

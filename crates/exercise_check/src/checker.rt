@@ -6,11 +6,12 @@ ghost use Rattle.exercise_model.specs.Headline.{Holds};
 ghost use Rattle.exercise_check.specs.Order.{order_of};
 ghost use Rattle.exercise_check.specs.Goodness.{step_cause, IsGood, Refuses};
 ghost use Rattle.exercise_check.specs.Course.{begun, with_step};
-ghost use Rattle.exercise_check.specs.Checked.{TellsAccount, TellsKnowledge};
+ghost use Rattle.exercise_findings.specs.Account.{TellsAccount};
+ghost use Rattle.exercise_check.specs.Checked.{TellsKnowledge};
 
 use crate::certificate::{Certificate, Step};
-use crate::checked::Checked;
 use crate::course::{Course, Progress};
+use exercise_findings::Account;
 use exercise_model::{Cause, ExerciseLog};
 use std::alloc::{AllocError, Global};
 use std::error::Error;
@@ -116,7 +117,7 @@ pub fn check<L: ExerciseLog>(
     alloc: Global,
     log: &L,
     certificate: &Certificate,
-) -> Result<Checked, CheckFault>
+) -> Result<Account, CheckFault>
     ensures good { OnOk result (IsGood (L.recording log.now) certificate.now.steps.items) }
     ensures explains { let r = L.recording log.now in OnOk result (Explains r (order_of r certificate.now.steps.items)) }
     ensures holds { let r = L.recording log.now in OnOk result (Holds r (order_of r certificate.now.steps.items)) }

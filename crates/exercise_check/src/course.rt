@@ -4,19 +4,16 @@ ghost use Rattle.std.specs.Prelude.{◌≡◌, ◌<◌, ◌==◌, length, slice_
 ghost use Rattle.exercise_model.specs.Cause.{IsAllowed};
 ghost use Rattle.exercise_model.specs.History.{event_of, station_of, log_at, log_of};
 ghost use Rattle.exercise_check.specs.Order.{is_next};
-ghost use Rattle.exercise_check.specs.Checked.{TellsAccount};
+ghost use Rattle.exercise_findings.specs.Account.{TellsAccount};
+ghost use Rattle.exercise_findings.specs.Source.{source_of};
 ghost use Rattle.exercise_check.specs.Course.{CourseData, IsCourse, begun, so_far, IsNext, GoesOn};
-ghost use Rattle.exercise_check.specs.Tables.{Keeps};
+ghost use Rattle.exercise_check.specs.Judging.{Keeps};
 
-use crate::account::account;
-use crate::cause::{Judgement, judge};
 use crate::certificate::{Certificate, Step};
-use crate::checked::Checked;
 use crate::cursors::{Cursors, first_cursors, is_at, next_entry, pass};
-use crate::findings::{Findings, find};
+use crate::judgement::{Judgement, judge};
 use crate::number::link_number;
-use crate::order::station_of;
-use crate::senders::{Senders, no_senders, note_sender};
+use exercise_findings::{Account, Findings};
 use exercise_model::{Cause, ExerciseLog};
 use std::alloc::{AllocError, Global};
 use std::marker::Model;
@@ -28,19 +25,17 @@ use std::marker::Model;
 /// a course begins.
 #[derive(Drop)]
 pub struct Course<'a, L: ExerciseLog> {
-    log: &'a L,
+    found: Findings<'a, L>,
     steps: Vec<Step>,
-    found: Findings,
-    senders: Senders<'a>,
     cursors: Cursors,
 }
 
 impl<'a, L: ExerciseLog> Model for Course<'a, L> {
     ghost Value = { CourseData };
 
-    ghost view = { λ c. record { recording = L.recording c.log.now; steps = c.steps.items } };
+    ghost view = { λ c. record { recording = c.found; steps = c.steps.items } };
 
-    ghost invariant = { λ c. Keeps (L.recording c.log.now) c.steps.items c.found c.senders c.cursors };
+    ghost invariant = { λ c. Keeps c.found c.steps.items c.cursors };
 }
 
 /// What going on by an entry comes to.
@@ -58,15 +53,11 @@ impl<'a, L: ExerciseLog> Course<'a, L> {
     pub fn begin(alloc: Global, log: &'a L) -> Result<Course<'a, L>, AllocError>
         ensures { IfOk result (λ course. course ≡ begun (L.recording log.now)) }
     {
-        // To count the entries shows that the recording keeps its limits.
-        let _entries = log.entry_count();
-        let found = find(alloc, log)?;
+        let found = Findings::of(alloc, log)?;
         let cursors = first_cursors(alloc, log)?;
         Ok(Course {
-            log,
-            steps: Vec::new(alloc),
             found,
-            senders: no_senders(alloc),
+            steps: Vec::new(alloc),
             cursors,
         })
     }
@@ -85,7 +76,7 @@ impl<'a, L: ExerciseLog> Course<'a, L> {
         requires { place < length self.now.recording.entries }
         ensures { IfSome (slice_get self.now.recording.entries place) (λ e. result ≡ is_next self.now.recording self.now.steps place (event_of e)) }
     {
-        let station = station_of(&self.log.entry(place));
+        let station = usize::from(self.found.log().entry(place).station());
         is_at(&self.cursors, station, place)
     }
 
@@ -96,7 +87,14 @@ impl<'a, L: ExerciseLog> Course<'a, L> {
         ensures next { IfSome result (λ place. IsNext self.now place) }
         ensures done { IfNone result (log_at station (so_far self.now) ≡ log_of self.now.recording station) }
     {
-        next_entry(self.log, &self.cursors, station)
+        next_entry(self.found.log(), &self.cursors, station)
+    }
+
+    /// Where what an entry received comes from, as the logs say; see [`Findings::source`].
+    pub fn source(&self, place: usize) -> Option<u32>
+        ensures { result ≡ source_of self.now.recording place }
+    {
+        self.found.source(place)
     }
 
     /// Goes on by an entry that is its station's next one: where its event is allowed after what
@@ -111,29 +109,27 @@ impl<'a, L: ExerciseLog> Course<'a, L> {
         // It lacks memory only where the event is allowed.
         ensures allowed { OnErr result (IfSome (slice_get self.old.recording.entries place) (λ e. IsAllowed self.old.recording.setting (so_far self.old) (event_of e))) }
     {
-        let Findings { causes, pairs, .. } = &self.found;
-        match judge(self.log, causes, pairs, &self.senders, place) {
+        match judge(&self.found, &self.cursors, place) {
             Judgement::Forbidden(cause) => Ok(Progress::Barred(cause)),
             Judgement::Allowed(link) => {
                 let link = link_number(link);
                 self.steps.reserve(1)?;
-                note_sender(&mut self.senders, self.log, place)?;
                 self.steps.push(Step {
                     place: place as u32,
                     link,
                 })?;
-                pass(&mut self.cursors, self.log, place);
+                pass(&mut self.cursors, self.found.log(), place);
                 Ok(Progress::Taken(link))
             }
         }
     }
 
     /// What the recording says.
-    pub fn into_account(self, alloc: Global) -> Result<Checked, AllocError>
-        ensures { IfOk result (λ checked. TellsAccount self.entry.recording checked) }
+    pub fn into_account(self, alloc: Global) -> Result<Account, AllocError>
+        ensures { IfOk result (λ account. TellsAccount self.entry.recording account) }
     {
-        let Course { log, found, .. } = self;
-        account(alloc, log, found)
+        let Course { found, .. } = self;
+        found.into_account(alloc)
     }
 
     /// The steps that were taken.

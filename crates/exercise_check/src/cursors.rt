@@ -6,9 +6,9 @@ ghost use Rattle.exercise_model.specs.Place.{log_before};
 ghost use Rattle.exercise_check.specs.declared.certificate.Step.{Step};
 ghost use Rattle.exercise_check.specs.Order.{order_of, is_next};
 ghost use Rattle.exercise_check.specs.Cursors.{AreCursorsFrom, AreCursors};
+ghost use Rattle.exercise_check.specs.Judging.{was_taken};
 
-use crate::column::replace;
-use crate::order::station_of;
+use exercise_findings::replace;
 use exercise_model::ExerciseLog;
 use std::alloc::{AllocError, Global};
 
@@ -30,9 +30,7 @@ fn go_back<L: ExerciseLog>(cursors: &mut Cursors, log: &L, entry: usize)
     requires tied { AreCursorsFrom (L.recording log.now) (entry + 1) cursors.old }
     ensures { AreCursorsFrom (L.recording log.now) entry cursors.new }
 {
-    // To count the entries shows that the recording keeps its limits.
-    let _entries = log.entry_count();
-    let station = station_of(&log.entry(entry));
+    let station = usize::from(log.entry(entry).station());
     let follower = cursors.next[station];
     replace(&mut cursors.followers, entry, follower);
     replace(&mut cursors.next, station, entry as u32);
@@ -85,6 +83,16 @@ pub(crate) fn is_at(cursors: &Cursors, station: usize, place: usize) -> bool
     cursors.next[station] as usize == place
 }
 
+/// Whether an entry was taken: the next one of its station comes after it.
+pub(crate) fn was_taken<L: ExerciseLog>(log: &L, cursors: &Cursors, entry: usize) -> bool
+    requires within { entry < length (L.recording log.now).entries }
+    requires next { length cursors.now.next.items ≡ length (L.recording log.now).setting.stations }
+    ensures { let r = L.recording log.now in (steps : List Step) → AreCursors r steps cursors.now → result ≡ was_taken r steps entry }
+{
+    let station = usize::from(log.entry(entry).station());
+    cursors.next[station] as usize > entry
+}
+
 /// Moves the cursor of a station on, past the entry of a step that is taken.
 pub(crate) fn pass<L: ExerciseLog>(cursors: &mut Cursors, log: &L, place: usize)
     requires within { place < length (L.recording log.now).entries }
@@ -92,7 +100,7 @@ pub(crate) fn pass<L: ExerciseLog>(cursors: &mut Cursors, log: &L, place: usize)
     requires next { length cursors.old.next.items ≡ length (L.recording log.now).setting.stations }
     ensures { let r = L.recording log.now in (steps : List Step) (link : ℕ) → IfSome (slice_get r.entries place) (λ e. length (log_at (station_of (event_of e)) (order_of r steps)) ≡ length (log_before r (station_of (event_of e)) place)) → AreCursors r steps cursors.old → AreCursors r (steps ++ record { place = place; link = link } ∷ []) cursors.new }
 {
-    let station = station_of(&log.entry(place));
+    let station = usize::from(log.entry(place).station());
     let follower = cursors.followers[place];
     replace(&mut cursors.next, station, follower);
 }

@@ -18,7 +18,7 @@ ghost use Rattle.exercise_model.specs.declared.form.Form.TheVariants.{First};
 ghost use Rattle.exercise_model.specs.Conversion.{converted};
 ghost use Rattle.exercise_check.specs.Order.{order_of};
 ghost use Rattle.exercise_check.specs.Goodness.{step_cause, IsGoodStep, GoodBelow, IsGood, Refuses};
-ghost use Rattle.exercise_check.specs.Checked.{CheckedData, TellsAccount};
+ghost use Rattle.exercise_findings.specs.Account.{AccountData, TellsAccount};
 ghost use Rattle.exercise_check.specs.declared.checker.CheckFault.{CheckFault};
 ghost use Rattle.exercise_check.specs.declared.checker.CheckFault.TheVariants.{Bad};
 ghost use Rattle.exercise_model.specs.declared.cause.Cause.{Cause};
@@ -50,7 +50,7 @@ pub fn conversion_keeps_checks()
     ensures one { (r : PlainRecording) (steps : List Step) (k j : ℕ) (cause other : Cause) → r.setting.form ≡ First → Refuses r steps (Bad k cause) → Refuses (converted r) steps (Bad j other)
         → (k ≡ j) × (cause ≡ other) }
     ensures never { (r : PlainRecording) (steps : List Step) (k : ℕ) (cause : Cause) → r.setting.form ≡ First → IsGood r steps → Refuses (converted r) steps (Bad k cause) → ⊥ }
-    ensures account { (r : PlainRecording) (c : CheckedData) → TellsAccount r c ↔ TellsAccount (converted r) c }
+    ensures account { (r : PlainRecording) (c : AccountData) → TellsAccount r c ↔ TellsAccount (converted r) c }
 {}
 
 /// Laws of the format: what is read as a certificate is its text, whole and within the limit; and

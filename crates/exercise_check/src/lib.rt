@@ -11,42 +11,24 @@
 //! [`text_and_reading_agree`] and [`refusals_hold`] are the laws that tie them.
 #![tactic(auto)]
 
-mod account;
-mod behind;
-mod cause;
 mod certificate;
 mod certificate_fault;
 mod certificate_reading;
 mod certificate_text;
-mod change;
-mod checked;
 mod checker;
-mod column;
 mod course;
 mod cursors;
-mod exchange;
-mod findings;
-mod firsts;
-mod found;
-mod key;
+mod judgement;
 mod laws;
 mod number;
-mod order;
-mod requests;
-mod sender;
-mod senders;
-mod state;
-mod states;
-mod table;
-mod tables;
 
 pub use certificate::{Certificate, NO_LINK, Step};
 pub use certificate_fault::{CertificateFault, CertificateFormatFault, CertificateWriterFault};
 pub use certificate_reading::read_certificate;
 pub use certificate_text::write_certificate;
-pub use checked::Checked;
 pub use checker::{CheckFault, check};
 pub use course::{Course, Progress};
+pub use exercise_findings::Account as Checked;
 pub use laws::{
     conversion_keeps_checks, good_steps_have_no_cause, refusals_hold, text_and_reading_agree,
 };

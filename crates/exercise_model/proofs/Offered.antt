@@ -9,5 +9,6 @@ pub use Rattle.exercise_model.proofs.Counting.{all_events, entry_station, fewer_
 pub use Rattle.exercise_model.proofs.FirstAnswers.{able_changes, first_able_changes, no_change_keeps, others_keep, received_keeps, told_keeps}
 pub use Rattle.exercise_model.proofs.Knowledge.{entries_known}
 pub use Rattle.exercise_model.proofs.Onward.{log_before-more, log_before-none, log_steps, past-append, past-snoc}
-pub use Rattle.exercise_model.proofs.Sentences.{explained_holds, had_where_allowed}
-pub use Rattle.exercise_model.proofs.Wholes.{taken_entry}
+pub use Rattle.exercise_model.proofs.Sentences.{explained_holds, had_where_allowed, own_address}
+pub use Rattle.exercise_model.proofs.Places.{IsFirst, first_found}
+pub use Rattle.exercise_model.proofs.Wholes.{first_is, sender_found, taken_entry}

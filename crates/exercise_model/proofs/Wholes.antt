@@ -95,7 +95,7 @@ key_itself k =
     rw (eq-eqb k.flag k.flag refl, eq-eqb k.request k.request refl, eq-eqb k.site k.site refl, eq-eqb k.application k.application refl, eq-eqb k.entity k.entity refl) refl
 
 -- the first number that passes, where none below it does
-first_is : (test : ℕ → Bool) (n j : ℕ) → j < n → test j ≡ true → ((k : ℕ) → k < j → test k ≡ false) → first_below test n ≡ Some j
+pub first_is : (test : ℕ → Bool) (n j : ℕ) → j < n → test j ≡ true → ((k : ℕ) → k < j → test k ≡ false) → first_below test n ≡ Some j
 unfolding first_below
 first_is test zero j within passes below = absurd (omega arith)
 first_is test (suc n) j within passes below =

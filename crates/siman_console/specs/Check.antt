@@ -13,7 +13,8 @@ use Rattle.exercise_check.specs.declared.certificate_fault.CertificateFormatFaul
 use Rattle.exercise_check.specs.declared.certificate_fault.CertificateFault.{CertificateFault}
 use Rattle.exercise_check.specs.declared.certificate_fault.CertificateFault.TheVariants as certificates
 use Rattle.exercise_check.specs.declared.checker.CheckFault.TheVariants.{Bad}
-use Rattle.exercise_check.specs.Checked.{CheckedData, TellsAccount, TellsKnowledge}
+use Rattle.exercise_findings.specs.Account.{AccountData, TellsAccount}
+use Rattle.exercise_check.specs.Checked.{TellsKnowledge}
 use Rattle.exercise_check.specs.Order.{order_of}
 use Rattle.exercise_check.specs.Goodness.{IsGood, Refuses}
 use Rattle.siman_console.specs.declared.files_fault.FilesFault.{FilesFault}
@@ -42,7 +43,7 @@ pub record SaysYes (recorded : Recorded) (certified : Certified) (old new : Opti
   -- the order that it names is a run that explains the recording: the headline's sentences hold of it
   pub holds : Holds recording (order_of recording steps)
   -- what it tells of the changes behind Ables is what the recording says, and each is known in that run
-  pub knows : (checked : CheckedData) × TellsAccount recording checked × TellsKnowledge recording (order_of recording steps) checked
+  pub knows : (checked : AccountData) × TellsAccount recording checked × TellsKnowledge recording (order_of recording steps) checked
   -- the report of the recording is out, behind what was there
   pub out : Appends old new (report_text recording)
 

@@ -3,7 +3,7 @@
 ghost use Rattle.std.specs.Prelude.{◌≡◌, List, Ok, IfOk, OnOk, IfSome, string_bytes};
 ghost use Rattle.exercise_model.specs.History.{past};
 ghost use Rattle.exercise_model.specs.Run.{IsRun};
-ghost use Rattle.exercise_check.specs.Checked.{TellsAccount};
+ghost use Rattle.exercise_findings.specs.Account.{TellsAccount};
 ghost use Rattle.exercise_check.specs.declared.certificate.Step.{Step};
 ghost use Rattle.exercise_check.specs.Goodness.{IsGood};
 ghost use Rattle.siman_scripts.specs.Script.{script_at};

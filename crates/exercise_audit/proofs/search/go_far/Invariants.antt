@@ -3,6 +3,5 @@ use Rattle.exercise_audit.proofs.search.go_far.Given as goal
 
 abbrev pub invariant-loop-entry : goal.invariant-loop-entry
 invariant-loop-entry g l = record {
-  log : l.course.recording ≡ g.L.ExerciseLog.recording l.log;
   course : l.course.recording ≡ l.fn.course.recording;
 }

@@ -1,5 +1,5 @@
-use Rattle.std.proofs.Common.{sym, subst, refl}
-use Rattle.exercise_model.specs.Recording.{PlainRecording}
+use Rattle.std.proofs.Common.{refl, subst}
+use Rattle.exercise_check.specs.Course.{CourseData}
 use Rattle.exercise_audit.specs.Search.{WaitsFor}
 use Rattle.exercise_audit.proofs.Held.{next_of, barred_held}
 use Rattle.exercise_audit.proofs.Turns.{held_up}
@@ -8,10 +8,13 @@ use Rattle.exercise_audit.proofs.search.go_on.Goals as goal
 pub returns-in_ok-wait_for-in-Barred-clause-stays : goal.returns-in_ok-wait_for-in-Barred-clause-stays
 returns-in_ok-wait_for-in-Barred-clause-stays g c =
     let v = c.args.course.now in
-    let waiting = subst (λ (r : PlainRecording). WaitsFor r c.in-Some.entry c.args.station c.in-Barred.cause c.args.waiting.now c.wait_for.new.waiting)
-    (sym c.requires) c.in_ok-wait_for-in-Barred.ensures in
+    let next = next_of v c.args.station c.in-Some.entry c.in-Some.ensures.within c.in-Some.ensures.own c.in-Some.ensures.next in
+    let goes = rw c.in-Barred.is at c.in_ok-go_on.ensures.judged in
+    let same = (barred_held v c.go_on.new.self c.args.station c.in-Some.entry c.in-Barred.cause next goes).1 in
+    let waiting = subst (λ (v : CourseData). WaitsFor v.recording c.in-Some.entry c.args.station c.in-Barred.cause c.args.waiting.now c.wait_for.new.waiting)
+    same c.in_ok-wait_for-in-Barred.ensures in
     λ _. held_up v c.go_on.new.self c.args.station c.in-Some.entry c.in-Barred.cause c.args.waiting.now c.wait_for.new.waiting c.in-Some.ensures.within
-    c.in-Some.ensures.own c.in-Some.ensures.next (rw c.in-Barred.is at c.in_ok-go_on.ensures.judged) waiting
+    c.in-Some.ensures.own c.in-Some.ensures.next goes waiting
 
 pub returns-in_ok-wait_for-in-Barred-clause-same : goal.returns-in_ok-wait_for-in-Barred-clause-same
 returns-in_ok-wait_for-in-Barred-clause-same g c =

@@ -3,6 +3,5 @@ use Rattle.exercise_audit.proofs.search.go_on_by_lists.Given as goal
 
 abbrev pub invariant-loop-turn : goal.invariant-loop-turn
 invariant-loop-turn g l = record {
-  log : l.course.recording ≡ g.L.ExerciseLog.recording l.log;
   course : l.course.recording ≡ l.fn.course.recording;
 }

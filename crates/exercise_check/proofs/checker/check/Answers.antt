@@ -7,7 +7,7 @@ use Rattle.exercise_check.specs.declared.checker.CheckFault.{CheckFault}
 use Rattle.exercise_check.specs.Course.{CourseData}
 use Rattle.exercise_check.specs.Order.{order_of}
 use Rattle.exercise_check.specs.Goodness.{IsGood, Refuses}
-use Rattle.exercise_check.specs.Checked.{TellsAccount}
+use Rattle.exercise_findings.specs.Account.{TellsAccount}
 use Rattle.exercise_check.proofs.Explained.{good_explains}
 use Rattle.exercise_check.proofs.Known.{account_known}
 use Rattle.exercise_check.proofs.checker.check.Goals as goal

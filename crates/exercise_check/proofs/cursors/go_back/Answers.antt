@@ -7,10 +7,10 @@ use Rattle.exercise_check.proofs.cursors.go_back.Goals as goal
 pub returns : goal.returns
 returns g c =
     let r = g.L.ExerciseLog.recording c.args.log.now in
-    let s : ℕ = c.station_of-station.result in
+    let s : ℕ = c.from-station.result in
     let below : s < length r.setting.stations = grind (arith) in
     let back = gone_back r c.args.entry (shown c.entry.result) s c.index-follower.result.now c.args.cursors.now c.replace.new.column.items c.replace-2.new.column.items
-    c.requires.within c.entry.ensures.entry c.station_of-station.ensures below
+    c.requires.within c.entry.ensures.entry (c.from-station.ensures ∙ c.station.ensures) below
     (c.index-follower.ensures ∙ get_or_default c.args.cursors.now.next.items s _ 0 (omega (arith, below, c.requires.tied.next.count))) c.replace.ensures.count c.replace.ensures.each c.replace-2.ensures.count
     c.replace-2.ensures.each c.requires.tied in
     record { followers = back.0; next = back.1 }

@@ -20,7 +20,7 @@ loop-station-preserved g c =
     let within : s < length r.setting.stations = omega (arith, c.loop-station-test.true, c.station_count-station-end.ensures.count) in
     let old = string_bytes c.loop-station.text in
     let own = c.states.ensures ∙ c.requires.states s ∙ states_of-station r s within in
-    let at = c.address.ensures.address ∙ ap (λ o. o.address) c.station.ensures in
+    let at = c.address.ensures.address ∙ ap (λ o. o.address) c.station.ensures.station in
     let addressed = line-of-same (λ a. flat_map (entity_line a) c.states.result.now) old _ c.address.result
     (station_at r s).address c.in_ok-put_entities.ensures at in
     let step = line-of-same (flat_map (entity_line (station_at r s).address)) old _ c.states.result.now (entities_of r s) addressed own in

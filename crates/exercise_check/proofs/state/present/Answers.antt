@@ -1,6 +1,0 @@
-use Rattle.std.proofs.Common.{sym, ◌∙◌}
-use Rattle.exercise_check.proofs.Reported.{present-none}
-use Rattle.exercise_check.proofs.state.present.Goals as goal
-
-pub loop-page-init : goal.loop-page-init
-loop-page-init c = c.new-entities.ensures.items ∙ sym (present-none _)

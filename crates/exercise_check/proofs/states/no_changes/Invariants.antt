@@ -1,6 +1,0 @@
-use Rattle.exercise_check.specs.States.{AreStatesBelow}
-use Rattle.exercise_check.proofs.states.no_changes.Given as goal
-
--- So many stations have their states.
-abbrev pub invariant-loop-station : goal.invariant-loop-station
-invariant-loop-station g l = AreStatesBelow (g.L.ExerciseLog.recording l.log) 0 l.station l.states.items

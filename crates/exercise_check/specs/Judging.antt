@@ -1,0 +1,55 @@
+-- How the next event of a station is judged by what its log says of it and by the steps so far (profile).
+use Rattle.std.specs.Prelude.{◌≡◌, ℕ, Bool, true, false, List, length, nat_lt, slice_get, Option, Some, None, IfSome, option_and_then, if◌then◌else◌}
+use Rattle.std.specs.Option.{option_map_or}
+use Rattle.exercise_model.specs.declared.cause.Cause.{Cause}
+use Rattle.exercise_model.specs.declared.cause.Cause.TheVariants.{NeverSent}
+use Rattle.exercise_model.specs.Recording.{PlainRecording}
+use Rattle.exercise_model.specs.History.{event_of, station_of, log_at}
+use Rattle.exercise_model.specs.Cause.{cause_of}
+use Rattle.exercise_model.specs.Place.{log_before}
+use Rattle.exercise_check.specs.declared.judgement.Judgement.{Judgement}
+use Rattle.exercise_check.specs.declared.judgement.Judgement.TheVariants.{Allowed, Forbidden}
+use Rattle.exercise_check.specs.declared.certificate.Step.{Step}
+use Rattle.exercise_check.specs.declared.cursors.Cursors.{Cursors}
+use Rattle.exercise_check.specs.Order.{order_of, link_of}
+use Rattle.exercise_check.specs.Goodness.{IsReady}
+use Rattle.exercise_check.specs.Course.{IsCourse, Judges}
+use Rattle.exercise_check.specs.Cursors.{AreCursors}
+
+-- an event that this cause speaks against, or that is allowed, with this link
+abbrev pub judged : Option Cause → Option ℕ → Judgement
+judged (Some cause) link = Forbidden cause
+judged None link = Allowed link
+
+-- it is judged to receive what was never sent
+abbrev pub is_never_sent : Cause → Bool
+is_never_sent NeverSent = true
+is_never_sent cause = false
+
+abbrev pub is_unsent : Judgement → Bool
+is_unsent (Allowed link) = false
+is_unsent (Forbidden cause) = is_never_sent cause
+
+-- entry e was taken by steps: fewer entries of its station stand before it than were taken
+unfoldable pub was_taken : PlainRecording → List Step → ℕ → Bool
+was_taken r steps e =
+    option_map_or (λ x. nat_lt (length (log_before r (station_of (event_of x)) e)) (length (log_at (station_of (event_of x)) (order_of r steps))))
+    (slice_get r.entries e) false
+
+-- an entry, where it was taken
+abbrev pub if_taken : PlainRecording → List Step → Option ℕ → Option ℕ
+if_taken r steps o = option_and_then (λ e. if was_taken r steps e then Some e else None) o
+
+-- What an entry is judged to be after these steps
+abbrev pub JudgesNext : PlainRecording → List Step → ℕ → Judgement → Type 0
+JudgesNext r steps place given = IfSome (slice_get r.entries place) (λ e. Judges (cause_of r.setting (order_of r steps) (event_of e))
+    (link_of r steps place (event_of e)) (length r.entries) given)
+
+-- The station's log stands before the entry as the steps say.
+abbrev pub IsReadyAt : PlainRecording → List Step → ℕ → Type 0
+IsReadyAt r steps place = IfSome (slice_get r.entries place) (λ e. IsReady r steps place (event_of e))
+
+-- WHAT A COURSE KEEPS TO: its recording and steps are those of a course, and the next entry of each station is known
+pub record Keeps (r : PlainRecording) (steps : List Step) (cursors : Cursors) : Type 0 where
+  pub course : IsCourse (record { recording = r; steps = steps })
+  pub next : AreCursors r steps cursors

@@ -1,0 +1,47 @@
+-- Columns: one value for each entry.
+use Rattle.std.proofs.Common.{◌≡◌, ℕ, ◌+◌, ◌<◌, ◌≤◌, List, [], ◌∷◌, ◌++◌, map, Option, Some, None, refl, sym, ap, ◌∙◌, subst, ⊎_elim, arith}
+use Rattle.std.specs.Prelude.{slice_index_or, IfSome, OnOk, OnErr, Result, Ok, Err, if◌then◌else◌}
+use Rattle.std.proofs.Math.ListN.{get_or-eq_default}
+use Rattle.std.proofs.lemmas.List.{length_push, get_or_append_left, get_or_at, get_or-map, length-map}
+use Rattle.std.proofs.lemmas.Bool.{cases_lt, ne_eqb}
+use Rattle.exercise_findings.specs.Number.{entry_number, entry_of, IsNumberOf}
+use Rattle.exercise_findings.specs.Column.{IsColumn}
+
+-- a column without entries
+pub column_none : {X : Type 0} (d : X) (P : ℕ → X → Type 0) → IsColumn d P 0 []
+column_none d P = record { count = refl; each = λ j l. absurd (omega arith) }
+
+-- a column goes on by one value
+pub column_more : {X : Type 0} (d : X) (P : ℕ → X → Type 0) (n : ℕ) (xs : List X) (x : X)
+    → IsColumn d P n xs → P n x → IsColumn d P (n + 1) (xs ++ x ∷ [])
+column_more d P n xs x column here = record {
+  count = length_push xs x ∙ ap (λ k. k + 1) column.count;
+  each = λ j l. ⊎_elim
+      (λ (below : j < n). subst (P j) (sym (get_or_append_left xs (x ∷ []) d j (omega (arith, column.count)))) (column.each j below))
+      (λ (at : n ≤ j). let same : n ≡ j = omega arith in
+      subst (λ m. P m (slice_index_or (xs ++ x ∷ []) m d)) same (subst (P n) (sym (get_or_at xs x [] d n column.count)) here))
+      (cases_lt j n);
+}
+
+-- the number of an entry, which is below the one that stands for none, gives the entry
+pub number_back : (o : Option ℕ) → IfSome o (λ e. e < 4294967295) → entry_of (entry_number o) ≡ o
+number_back None few = refl
+number_back (Some e) few = ap (λ b. if b then None else Some e) (ne_eqb e 4294967295 (λ same. absurd (omega (arith, few, same))))
+
+-- what a column of numbers says at any place, where nothing is said past its end
+pub column_told : (f : ℕ → Option ℕ) (n i : ℕ) (xs : List ℕ) → IsColumn 0 (IsNumberOf f) n xs → ((k : ℕ) → n ≤ k → f k ≡ None)
+    → slice_index_or (map entry_of xs) i None ≡ f i
+column_told f n i xs column none = ⊎_elim
+    (λ (below : i < n). get_or-map entry_of xs i 0 None (omega (arith, below, column.count)) ∙ column.each i below)
+    (λ (past : n ≤ i). get_or-eq_default (map entry_of xs) None (omega (arith, past, column.count, length-map xs entry_of)) ∙ sym (none i past))
+    (cases_lt i n)
+
+pub on_ok : {A E : Type 0} {P Q : Type 0} (result : Result A E) → (P → Q) → OnOk result P → OnOk result Q
+on_ok (Ok a) f p = f p
+on_ok (Err e) f p = tt
+
+pub on_err : {A E : Type 0} {P : Type 0} (result : Result A E) → P → OnErr result P
+on_err (Ok a) p = tt
+on_err (Err e) p = p
+
+pub ruleset column_steps = (column_none, column_more)

@@ -1,0 +1,12 @@
+mod Keyed
+mod Columns
+mod Ables
+mod Recorded
+mod Changed
+mod EntityStates
+mod Tied
+mod Reported
+mod Reused
+mod Sources
+mod Looks
+pub mod Offered

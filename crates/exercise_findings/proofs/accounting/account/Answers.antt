@@ -1,0 +1,20 @@
+use Rattle.std.proofs.Common.{[], None, length, ap, ◌∙◌}
+use Rattle.std.specs.Prelude.{slice_index_or}
+use Rattle.exercise_model.specs.Account.{pair_of, change_behind}
+use Rattle.exercise_model.proofs.Offered.{states-all}
+use Rattle.exercise_findings.proofs.Columns.{column_told}
+use Rattle.exercise_findings.proofs.Ables.{behind_past}
+use Rattle.exercise_findings.proofs.Looks.{others_whole, pair_past}
+use Rattle.exercise_findings.proofs.accounting.account.Goals as goal
+
+pub returns : goal.returns
+returns g c =
+    let r = g.L.ExerciseLog.recording c.args.log.now in
+    let n = length r.entries in
+    record {
+      states = λ s. ap (λ checked. slice_index_or checked.states s []) c.of.ensures ∙ ap (λ xs. slice_index_or xs s []) c.in_ok-told.ensures.states ∙ states-all r s;
+      pairs = λ i. ap (λ checked. slice_index_or checked.pairs i None) c.of.ensures ∙ column_told (pair_of r) n i c.args.found.pairs.items c.requires.pairs (pair_past r);
+      causes = λ i. ap (λ checked. slice_index_or checked.causes i None) c.of.ensures
+          ∙ column_told (change_behind r) n i c.in_ok-told.told.1.items c.in_ok-told.ensures.changes (behind_past r);
+      others = ap (λ checked. checked.others) c.of.ensures ∙ c.requires.others ∙ others_whole r;
+    }

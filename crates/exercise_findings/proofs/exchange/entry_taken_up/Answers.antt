@@ -1,0 +1,10 @@
+use Rattle.std.proofs.Common.{◌<◌, sym, ◌∙◌, subst}
+use Rattle.std.specs.Prelude.{IfSome}
+use Rattle.exercise_findings.proofs.Keyed.{under_earlier}
+use Rattle.exercise_findings.proofs.exchange.entry_taken_up.Goals as goal
+
+pub returns-in-Some-clause-earlier : goal.returns-in-Some-clause-earlier
+returns-in-Some-clause-earlier g c =
+    let r = g.L.ExerciseLog.recording c.args.log.now in
+    subst (λ o. IfSome o (λ e. e < c.args.before)) (sym (c.first_before.ensures ∙ c.requires.tied c.in-Some.key))
+    (under_earlier r c.in-Some.key c.args.before)

@@ -1,0 +1,38 @@
+use Rattle.std.proofs.Common.{length, Some, sym, ap, ◌∙◌, ◌<◌, subst, arith, ⊎_elim}
+use Rattle.std.specs.Prelude.{IfSome}
+use Rattle.std.proofs.lemmas.Option.{slice_get_past}
+use Rattle.exercise_model.specs.Entry.{Sent, Received, Told}
+use Rattle.exercise_model.specs.Held.{shown}
+use Rattle.exercise_findings.proofs.Sources.{source_here, source_past, source_whole, source_within}
+use Rattle.exercise_findings.proofs.findings.Findings.source.Goals as goal
+
+pub returns-then-entry-entry_count-clause-source : goal.returns-then-entry-entry_count-clause-source
+returns-then-entry-entry_count-clause-source g c =
+    let r = g.L.ExerciseLog.recording c.self.inside.log.now in
+    rw (← c.self.view_is) (sym (source_past r c.args.entry (slice_get_past r.entries c.args.entry (omega (arith, c.entry_count.ensures.count, c.if-entry-entry_count.true)))))
+
+pub returns-in-Received-clause-source : goal.returns-in-Received-clause-source
+returns-in-Received-clause-source g c =
+    let r = g.L.ExerciseLog.recording c.self.inside.log.now in
+    let b = c.in-Received.bytes.now in
+    let at = c.entry.ensures.entry ∙ ap (λ e. Some (shown e)) c.in-Received.is in
+    rw (← c.self.view_is) (c.first_source.ensures r (length r.entries) c.self.invariant.whole.senders
+    ∙ source_whole r b ∙ sym (source_here r c.args.entry (Received c.in-Received.station c.in-Received.stamp b) at))
+
+pub returns-in-Sent-clause-source : goal.returns-in-Sent-clause-source
+returns-in-Sent-clause-source g c =
+    let r = g.L.ExerciseLog.recording c.self.inside.log.now in
+    rw (← c.self.view_is) (⊎_elim
+    (λ sent. sym (source_here r c.args.entry (Sent sent.0 sent.1 sent.2.now) (c.entry.ensures.entry ∙ ap (λ e. Some (shown e)) sent.3)))
+    (λ told. sym (source_here r c.args.entry (Told told.0 told.1 told.2) (c.entry.ensures.entry ∙ ap (λ e. Some (shown e)) told.3)))
+    c.in-Sent.is)
+
+pub returns-in-Received-clause-within : goal.returns-in-Received-clause-within
+returns-in-Received-clause-within g c =
+    let r = g.L.ExerciseLog.recording c.self.inside.log.now in
+    let b = c.in-Received.bytes.now in
+    let at = c.entry.ensures.entry ∙ ap (λ e. Some (shown e)) c.in-Received.is in
+    rw (← c.self.view_is) (subst (λ o. IfSome o (λ e. e < length r.entries))
+    (sym (c.first_source.ensures r (length r.entries) c.self.invariant.whole.senders
+    ∙ source_whole r b ∙ sym (source_here r c.args.entry (Received c.in-Received.station c.in-Received.stamp b) at)))
+    (source_within r c.args.entry))

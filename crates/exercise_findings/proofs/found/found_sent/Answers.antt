@@ -1,0 +1,13 @@
+use Rattle.std.proofs.Common.{length, arith}
+use Rattle.exercise_findings.proofs.Keyed.{firsts_tell}
+use Rattle.exercise_findings.proofs.found.found_sent.Goals as goal
+
+pub taken_up-taken-requires-clause-tied : goal.taken_up-taken-requires-clause-tied
+taken_up-taken-requires-clause-tied g c =
+    let r = g.L.ExerciseLog.recording c.args.log.now in
+    firsts_tell r c.args.entry c.args.entry c.args.tables.now.firsts (omega arith) c.requires.tied.firsts
+
+pub change_by-requires-clause-tied : goal.change_by-requires-clause-tied
+change_by-requires-clause-tied g c =
+    let r = g.L.ExerciseLog.recording c.args.log.now in
+    firsts_tell r c.args.entry c.args.entry c.args.tables.now.firsts (omega arith) c.requires.tied.firsts

@@ -1,0 +1,6 @@
+use Rattle.exercise_findings.specs.Tables.{IsPass}
+use Rattle.exercise_findings.proofs.pass.find.Given as goal
+
+-- What was found so far is what a pass finds in the entries so far.
+abbrev pub invariant-loop-entry : goal.invariant-loop-entry
+invariant-loop-entry g l = IsPass (g.L.ExerciseLog.recording l.log) l.entry l.found

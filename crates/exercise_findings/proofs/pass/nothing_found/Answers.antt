@@ -1,0 +1,27 @@
+use Rattle.std.proofs.Common.{ℕ, List, Option, None, refl, sym, subst, arith}
+use Rattle.exercise_model.specs.declared.cause.Cause.{Cause}
+use Rattle.exercise_model.specs.Account.{pair_of}
+use Rattle.exercise_findings.specs.declared.behind.Able.{Able}
+use Rattle.exercise_findings.specs.Column.{IsColumn}
+use Rattle.exercise_findings.specs.Number.{IsNumberOf}
+use Rattle.exercise_findings.specs.Behind.{AreBehind}
+use Rattle.exercise_findings.specs.Tables.{IsOwnCause}
+use Rattle.exercise_findings.proofs.Ables.{behind_none}
+use Rattle.exercise_findings.proofs.Columns.{column_none}
+use Rattle.exercise_findings.proofs.Reused.{none_kept}
+use Rattle.exercise_findings.proofs.Sources.{no_senders}
+use Rattle.exercise_findings.proofs.pass.nothing_found.Goals as goal
+
+pub returns : goal.returns
+returns g c =
+    let r = g.L.ExerciseLog.recording c.args.log.now in
+    record {
+      tied = c.in_ok-tables.ensures;
+      requests = none_kept r c.no_requests.result c.no_requests.ensures;
+      causes = subst (λ (xs : List (Option Cause)). IsColumn None (IsOwnCause r) 0 xs) (sym c.new.ensures.items) (column_none None (IsOwnCause r));
+      pairs = subst (λ (xs : List ℕ). IsColumn 0 (IsNumberOf (pair_of r)) 0 xs) (sym c.new-2.ensures.items) (column_none 0 (IsNumberOf (pair_of r)));
+      ables = subst (λ (xs : List Able). AreBehind r 0 xs) (sym c.new-3.ensures.items) (behind_none r);
+      senders = no_senders r c.no_senders.result c.no_senders.ensures;
+      others = refl;
+      few = omega arith;
+    }

@@ -1,0 +1,12 @@
+pub mod Number
+pub mod Column
+pub mod Sent
+pub mod Firsts
+pub mod Behind
+pub mod TakenUp
+pub mod Requests
+pub mod Source
+pub mod Senders
+pub mod States
+pub mod Tables
+pub mod Account

@@ -1,0 +1,68 @@
+-- The requests that stations send under one request identifier, kept in a table (profile).
+use Rattle.std.specs.Prelude.{◌≡◌, ℕ, List, Bool, false, ◌&&◌, ◌==◌, Option, Some, None, is_some, option_map, option_and_then, slice_get, if◌then◌else◌}
+use Rattle.std.specs.Option.{option_map_or}
+use Rattle.std.specs.declared.hash.BuildHasherDefault.{BuildHasherDefault}
+use Rattle.std.specs.declared.hash.DefaultHasher.{DefaultHasher}
+use Rattle.indexmap.specs.IndexMap.{IndexMap, get}
+use Rattle.siman_pdus.specs.declared.pdu.Pdu.{Pdu}
+use Rattle.siman_pdus.specs.Role.{is_request_body, request_id_of}
+use Rattle.exercise_model.specs.Entry.{Sent}
+use Rattle.exercise_model.specs.Recording.{PlainRecording}
+use Rattle.exercise_model.specs.History.{Event, Send, Get, Tell, event_of}
+use Rattle.exercise_model.specs.Meaning.{meaning}
+use Rattle.exercise_model.specs.Cause.{is_reused}
+use Rattle.exercise_model.specs.Place.{first_below, log_before}
+use Rattle.exercise_findings.specs.declared.requests.Identifier.{Identifier}
+use Rattle.exercise_findings.specs.declared.requests.Kept.{Kept}
+
+-- two identifiers are the same
+abbrev pub same_identifier : Identifier → Identifier → Bool
+same_identifier k l = (k.station == l.station) && (k.request == l.request)
+
+-- the identifier under which station s sends p, where it is a request
+abbrev pub identifier_of : ℕ → Pdu → Option Identifier
+identifier_of s p = if is_request_body p.body then option_map (λ id. record { station = s; request = id }) (request_id_of p.body) else None
+
+-- p, where station s sends it as a request under this identifier
+abbrev pub request_under : Identifier → ℕ → Pdu → Option Pdu
+request_under k s p = if option_map_or (same_identifier k) (identifier_of s p) false then Some p else None
+
+-- the request that an event sends under an identifier
+abbrev pub request_by : PlainRecording → Identifier → Event → Option Pdu
+request_by r k (Send s b) = option_and_then (request_under k s) (meaning r.setting.exercise b)
+request_by r k (Get s b) = None
+request_by r k (Tell s e y) = None
+
+-- the request that entry i sends under an identifier
+unfoldable pub request_at : PlainRecording → Identifier → ℕ → Option Pdu
+request_at r k i = option_and_then (λ e. request_by r k (event_of e)) (slice_get r.entries i)
+
+-- the entry of the first request below n under an identifier
+unfoldable pub first_request : PlainRecording → Identifier → ℕ → Option ℕ
+first_request r k n = first_below (λ i. is_some (request_at r k i)) n
+
+-- below n the identifier is used for another order than that of entry j
+abbrev pub is_mixed : PlainRecording → Identifier → ℕ → ℕ → Bool
+is_mixed r k n j = option_map_or (λ f. is_reused r.setting.exercise f (log_before r k.station n)) (request_at r k j) false
+
+-- what is kept of an identifier: the entry of its first request below n, and whether it is used for another order
+abbrev pub kept_of : PlainRecording → Identifier → ℕ → ℕ → Kept
+kept_of r k n j = record { first = j; mixed = is_mixed r k n j }
+
+abbrev pub kept_under : PlainRecording → Identifier → ℕ → Option Kept
+kept_under r k n = option_map (kept_of r k n) (first_request r k n)
+
+-- what notes them
+abbrev pub Requests : Type 0
+Requests = IndexMap Identifier Kept (BuildHasherDefault DefaultHasher)
+
+-- THE TIE: under each identifier the table has what is kept of it
+abbrev pub AreRequests : PlainRecording → ℕ → Requests → Type 0
+AreRequests r n requests = (k : Identifier) → get same_identifier requests k ≡ kept_under r k n
+
+-- Entry n is the Send of p by station s.
+pub record IsSendOf (r : PlainRecording) (n s : ℕ) (p : Pdu) : Type 0 where
+  pub bytes : List ℕ
+  pub stamp : ℕ
+  pub at : slice_get r.entries n ≡ Some (Sent s stamp bytes)
+  pub means : meaning r.setting.exercise bytes ≡ Some p

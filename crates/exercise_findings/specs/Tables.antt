@@ -1,0 +1,69 @@
+-- What a pass over a log finds, entry by entry, and how it is kept (profile).
+use Rattle.std.specs.Prelude.{◌≡◌, ◌≤◌, ℕ, Bool, false, List, [], length, take, slice_get, Option, None, option_and_then}
+use Rattle.std.specs.Option.{option_map_or}
+use Rattle.exercise_model.specs.declared.cause.Cause.{Cause}
+use Rattle.exercise_model.specs.Recording.{PlainRecording, IsRecording}
+use Rattle.exercise_model.specs.History.{Event, Send, Get, Tell, event_of, station_at}
+use Rattle.exercise_model.specs.Meaning.{meaning}
+use Rattle.exercise_model.specs.State.{state_after}
+use Rattle.exercise_model.specs.Cause.{send_cause, cause_of, tell_rows, first_cause}
+use Rattle.exercise_model.specs.Place.{log_before}
+use Rattle.exercise_model.specs.Account.{pair_of, change_at, is_other, others_among}
+use Rattle.exercise_findings.specs.declared.tables.Tables.{Tables}
+use Rattle.exercise_findings.specs.declared.pass.Pass.{Pass}
+use Rattle.exercise_findings.specs.declared.found.Found.{Found}
+use Rattle.exercise_findings.specs.Firsts.{key_at, AreFirsts}
+use Rattle.exercise_findings.specs.Number.{IsNumberOf}
+use Rattle.exercise_findings.specs.Column.{IsColumn}
+use Rattle.exercise_findings.specs.Behind.{behind_at, AreBehind}
+use Rattle.exercise_findings.specs.Requests.{AreRequests}
+use Rattle.exercise_findings.specs.Source.{source_at}
+use Rattle.exercise_findings.specs.Senders.{AreSenders}
+use Rattle.exercise_findings.specs.States.{AreStates}
+
+-- THE TIE of the tables, after the entries below n
+pub record AreTied (r : PlainRecording) (n : ℕ) (t : Tables) : Type 0 where
+  pub firsts : AreFirsts r n t.firsts
+  pub states : AreStates r n t.states.items
+
+-- The first cause that the log of its station has against the event of entry j: all but whether a datagram that was received was sent before, which it judges as if nothing had been.
+abbrev pub event_own_cause : PlainRecording → ℕ → Event → Option Cause
+event_own_cause r j (Send s b) = option_and_then (send_cause r.setting.exercise (station_at r s) (log_before r s j)) (meaning r.setting.exercise b)
+event_own_cause r j (Get s b) = cause_of r.setting [] (Get s b)
+event_own_cause r j (Tell s e y) = first_cause (tell_rows y (state_after r.setting.exercise (station_at r s) (log_before r s j) e))
+
+unfoldable pub own_cause : PlainRecording → ℕ → Option Cause
+own_cause r j = option_and_then (λ e. event_own_cause r j (event_of e)) (slice_get r.entries j)
+
+abbrev pub IsOwnCause : PlainRecording → ℕ → Option Cause → Type 0
+IsOwnCause r j cause = cause ≡ own_cause r j
+
+-- the datagram of entry j is "other"
+unfoldable pub other_at : PlainRecording → ℕ → Bool
+other_at r j = option_map_or (is_other r.setting.exercise) (slice_get r.entries j) false
+
+-- What entry n is found to be
+pub record IsFound (r : PlainRecording) (n : ℕ) (f : Found) : Type 0 where
+  pub cause : f.cause ≡ own_cause r n
+  pub pair : f.pair ≡ pair_of r n
+  pub change : f.change ≡ change_at r n
+  pub key : f.key ≡ key_at r n
+  pub behind : f.behind ≡ behind_at r n
+  pub source : f.is_source ≡ source_at r n
+  pub other : f.other ≡ other_at r n
+
+-- WHAT A PASS FINDS in the entries below n
+pub record IsPass (r : PlainRecording) (n : ℕ) (f : Pass) : Type 0 where
+  pub tied : AreTied r n f.tables
+  pub requests : AreRequests r n f.requests
+  pub causes : IsColumn None (IsOwnCause r) n f.causes.items
+  pub pairs : IsColumn 0 (IsNumberOf (pair_of r)) n f.pairs.items
+  pub ables : AreBehind r n f.ables.items
+  pub senders : AreSenders r n f.senders
+  pub others : f.others ≡ others_among r.setting.exercise (take n r.entries)
+  pub few : f.others ≤ n
+
+-- WHAT IS FOUND in a whole log
+pub record AreFindings (r : PlainRecording) (f : Pass) : Type 0 where
+  pub limits : IsRecording r
+  pub whole : IsPass r (length r.entries) f

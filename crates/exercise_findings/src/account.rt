@@ -1,0 +1,89 @@
+//! The account of a recording: what it says of itself.
+
+use crate::number::entry_of;
+use dis_records::EntityState;
+use std::marker::Model;
+
+/// The account of a recording. It is read from each station's log alone, so each run that explains
+/// the recording says the same, and every good certificate gives the same.
+#[derive(Drop)]
+pub struct Account {
+    states: Vec<Vec<(u16, EntityState)>>,
+    pairs: Vec<u32>,
+    causes: Vec<u32>,
+    others: u32,
+}
+
+impl Model for Account {
+    ghost use Rattle.std.specs.Prelude.{map};
+    ghost use Rattle.exercise_findings.specs.Account.{AccountData};
+    ghost use Rattle.exercise_findings.specs.Number.{entry_of};
+
+    ghost Value = { AccountData };
+
+    ghost view = { λ c. record { states = map (λ v. v.items) c.states.items; pairs = map entry_of c.pairs.items; causes = map entry_of c.causes.items; others = c.others } };
+}
+
+impl Account {
+    ghost use Rattle.std.specs.Prelude.{◌≡◌, map, slice_index_or, [], None};
+    ghost use Rattle.exercise_findings.specs.Account.{AccountData};
+    ghost use Rattle.exercise_findings.specs.Number.{entry_of};
+
+    /// What these parts say, entries as numbers.
+    pub(crate) fn of(
+        states: Vec<Vec<(u16, EntityState)>>,
+        pairs: Vec<u32>,
+        causes: Vec<u32>,
+        others: u32,
+    ) -> Account
+        ensures { let c : AccountData = record { states = map (λ v. v.items) states.items; pairs = map entry_of pairs.items; causes = map entry_of causes.items; others = others } in result ≡ c }
+    {
+        Account {
+            states,
+            pairs,
+            causes,
+            others,
+        }
+    }
+
+    /// The entities of the station of an index, from 0, that are not Absent at the end,
+    /// by rising numbers, with their states; none past the last station. It takes no memory.
+    pub fn states(&self, station: usize) -> &[(u16, EntityState)]
+        ensures { result.now ≡ slice_index_or self.now.states station [] }
+    {
+        match self.states.get(station) {
+            Some(entities) => entities.as_slice(),
+            None => &[],
+        }
+    }
+
+    /// For an answer that was sent, the entry of the request that it takes up; `None` for all else
+    /// and past the last entry. It takes no memory.
+    pub fn pair(&self, entry: usize) -> Option<u32>
+        ensures { result ≡ slice_index_or self.now.pairs entry None }
+    {
+        match self.pairs.get(entry) {
+            Some(pair) => entry_of(*pair),
+            None => None,
+        }
+    }
+
+    /// For an Able Acknowledge that was received, the entry of the first Able that its originator's
+    /// station sent under its key: the Change that it tells of. `None` for all else and past the last
+    /// entry. It takes no memory.
+    pub fn cause(&self, entry: usize) -> Option<u32>
+        ensures { result ≡ slice_index_or self.now.causes entry None }
+    {
+        match self.causes.get(entry) {
+            Some(cause) => entry_of(*cause),
+            None => None,
+        }
+    }
+
+    /// How many datagrams are "other". It takes no memory.
+    pub fn others(&self) -> u32
+        ensures { result ≡ self.now.others }
+    {
+        self.others
+    }
+}

@@ -1,0 +1,63 @@
+//! What a recording says, read from each station's log alone.
+
+ghost use Rattle.std.specs.Prelude.{◌≡◌, length, map, IfOk};
+ghost use Rattle.exercise_model.specs.Account.{change_behind, entities_of, values_below};
+ghost use Rattle.exercise_findings.specs.Account.{TellsAccount};
+ghost use Rattle.exercise_findings.specs.Column.{IsColumn};
+ghost use Rattle.exercise_findings.specs.Number.{IsNumberOf};
+ghost use Rattle.exercise_findings.specs.Tables.{AreTied, IsPass};
+
+use crate::behind::changes_behind;
+use crate::account::Account;
+use crate::pass::Pass;
+use crate::state::entities;
+use crate::tables::Tables;
+use dis_records::EntityState;
+use exercise_model::ExerciseLog;
+use std::alloc::{AllocError, Global};
+
+/// The entities of each station that are not Absent after its log.
+#[tactic(auto, using(exercise_model::proofs::Offered::account_steps))]
+fn states<L: ExerciseLog>(
+    alloc: Global,
+    log: &L,
+    tables: &Tables,
+) -> Result<Vec<Vec<(u16, EntityState)>>, AllocError>
+    requires { let r = L.recording log.now in AreTied r (length r.entries) tables.now }
+    ensures { let r = L.recording log.now in IfOk result (λ states. map (λ v. v.items) states.items ≡ values_below (entities_of r) (length r.setting.stations)) }
+{
+    let mut states = Vec::new(alloc);
+    for station in 0..log.station_count() {
+        states.push(entities(alloc, log, tables, station)?)?;
+    }
+    Ok(states)
+}
+
+/// The states at the end, and the number of the change behind each entry.
+fn states_and_changes<L: ExerciseLog>(
+    alloc: Global,
+    log: &L,
+    found: &Pass<'_>,
+) -> Result<(Vec<Vec<(u16, EntityState)>>, Vec<u32>), AllocError>
+    requires { let r = L.recording log.now in IsPass r (length r.entries) found.now }
+    ensures states { let r = L.recording log.now in IfOk result (λ told. map (λ v. v.items) told.0.items ≡ values_below (entities_of r) (length r.setting.stations)) }
+    ensures changes { let r = L.recording log.now in IfOk result (λ told. IsColumn 0 (IsNumberOf (change_behind r)) (length r.entries) told.1.items) }
+{
+    let changes = changes_behind(alloc, log, &found.tables.firsts, &found.ables)?;
+    let states = states(alloc, log, &found.tables)?;
+    Ok((states, changes))
+}
+
+/// What a recording says, of which this was found.
+pub(crate) fn account<L: ExerciseLog>(
+    alloc: Global,
+    log: &L,
+    found: Pass<'_>,
+) -> Result<Account, AllocError>
+    requires { let r = L.recording log.now in IsPass r (length r.entries) found }
+    ensures { IfOk result (λ checked. TellsAccount (L.recording log.now) checked) }
+{
+    let told = states_and_changes(alloc, log, &found)?;
+    let Pass { pairs, others, .. } = found;
+    Ok(Account::of(told.0, pairs, told.1, others))
+}

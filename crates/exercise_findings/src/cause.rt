@@ -1,0 +1,183 @@
+//! Why the event of an entry may not happen, as far as its station's log says.
+
+ghost use Rattle.std.specs.Prelude.{◌≡◌, ◌<◌, ◌≤◌, ◌&&◌, ℕ, List, [], length, option_map, IsTrue};
+ghost use Rattle.siman_pdus.specs.Answers.{is_answer_to};
+ghost use Rattle.siman_pdus.specs.Reading.{pdu_of};
+ghost use Rattle.siman_pdus.specs.Role.{is_request_body};
+ghost use Rattle.siman_pdus.specs.declared.pdu.Pdu.{Pdu};
+ghost use Rattle.exercise_model.specs.History.{station_at};
+ghost use Rattle.exercise_model.specs.Setting.{SettingData, is_recorded};
+ghost use Rattle.exercise_model.specs.State.{state_after};
+ghost use Rattle.exercise_model.specs.Cause.{is_reused, is_changed_answer, is_hopeless, is_hopeless_for, is_impossible, send_cause, get_cause, tell_rows, first_cause};
+ghost use Rattle.exercise_model.specs.Place.{log_before};
+ghost use Rattle.exercise_findings.specs.Firsts.{TellFirsts};
+ghost use Rattle.exercise_findings.specs.TakenUp.{request_of_sent};
+ghost use Rattle.exercise_findings.specs.Tables.{AreTied};
+
+use crate::change::{is_change, was_able, was_unable};
+use crate::firsts::Firsts;
+use crate::state::state_before;
+use crate::tables::Tables;
+use dis_records::{EntityState, Kind, Scope};
+use exercise_model::{
+    Cause, Change, ExerciseLog, Form, is_answer, is_entity, is_from, key_of, responds,
+};
+use siman_pdus::{ABLE, PduView, UNABLE, answers};
+
+/// Whether a PDU that a station sends at an entry is an Able after an Unable under its key, or an
+/// Unable after an Able.
+#[tactic(auto, unfolding(exercise_model::specs::Cause::is_changed_answer))]
+fn is_changed_answer<L: ExerciseLog>(
+    log: &L,
+    firsts: &Firsts,
+    station: u16,
+    before: usize,
+    pdu: &PduView<'_>,
+) -> bool
+    requires at { station < length (L.recording log.now).setting.stations }
+    requires tied { TellFirsts (L.recording log.now) before firsts.now }
+    ensures { let r = L.recording log.now in result ≡ is_changed_answer r.setting.exercise (pdu_of pdu.now) (log_before r station before) }
+{
+    let Some(key) = key_of(pdu) else {
+        return false;
+    };
+    if responds(ABLE, pdu) {
+        was_unable(log, firsts, station, before, &key)
+    } else if responds(UNABLE, pdu) {
+        was_able(log, firsts, station, before, &key)
+    } else {
+        false
+    }
+}
+
+/// Whether an entity in a state stands against being changed so.
+fn is_hopeless_for(kind: Kind, entity: u16, state: EntityState) -> bool
+    ensures { result ≡ is_hopeless_for kind entity state }
+{
+    let absent = state == EntityState::Absent;
+    match kind {
+        Kind::CreateEntity => !(is_entity(entity) && absent),
+        _ => absent,
+    }
+}
+
+/// Whether a change can't be made at an entry of a station.
+fn is_hopeless<L: ExerciseLog>(
+    log: &L,
+    tables: &Tables,
+    station: u16,
+    before: usize,
+    change: Change,
+) -> bool
+    requires at { station < length (L.recording log.now).setting.stations }
+    requires within { before ≤ length (L.recording log.now).entries }
+    requires tied { AreTied (L.recording log.now) before tables.now }
+    ensures { let r = L.recording log.now in result ≡ is_hopeless change.kind change.scope (state_after r.setting.exercise (station_at r station) (log_before r station before)) }
+{
+    match change.scope {
+        Scope::One(entity) => {
+            let state = state_before(log, tables, station, before, entity);
+            is_hopeless_for(change.kind, entity, state)
+        }
+        Scope::All => change.kind == Kind::CreateEntity,
+    }
+}
+
+/// Whether a PDU that a station sends at an entry would be a change, and one that can't be made of
+/// the request that it answers.
+#[tactic(auto, unfolding(exercise_model::specs::Cause::is_impossible))]
+fn is_impossible<L: ExerciseLog>(
+    log: &L,
+    tables: &Tables,
+    station: u16,
+    before: usize,
+    pdu: &PduView<'_>,
+    request: &PduView<'_>,
+) -> bool
+    requires at { station < length (L.recording log.now).setting.stations }
+    requires within { before ≤ length (L.recording log.now).entries }
+    requires tied { AreTied (L.recording log.now) before tables.now }
+    requires answers { IsTrue (is_answer_to (pdu_of pdu.now) (pdu_of request.now)) }
+    ensures { let r = L.recording log.now in result ≡ is_impossible r.setting.exercise (station_at r station) (log_before r station before) (pdu_of pdu.now) (pdu_of request.now) }
+{
+    is_change(log, &tables.firsts, station, before, pdu)
+        && is_hopeless(log, tables, station, before, Change::of(pdu, request))
+}
+
+/// The first cause against a PDU that a station sends at an entry: a request that reuses its
+/// identifier or not, or an answer that takes up this request, if there is one.
+#[tactic(auto, unfolding(exercise_model::specs::Cause::send_cause))]
+pub(crate) fn judge_sent<L: ExerciseLog>(
+    log: &L,
+    tables: &Tables,
+    station: u16,
+    before: usize,
+    pdu: &PduView<'_>,
+    reused: bool,
+    taken: &Option<(u32, PduView<'_>)>,
+) -> Option<Cause>
+    requires at { station < length (L.recording log.now).setting.stations }
+    requires within { before < length (L.recording log.now).entries }
+    requires tied { AreTied (L.recording log.now) before tables.now }
+    requires reused { let r = L.recording log.now in reused ≡ (is_request_body (pdu_of pdu.now).body && is_reused r.setting.exercise (pdu_of pdu.now) (log_before r station before)) }
+    requires request { option_map (λ t. pdu_of t.1) taken.now ≡ request_of_sent (L.recording log.now) station before (pdu_of pdu.now) }
+    ensures { let r = L.recording log.now in result ≡ send_cause r.setting.exercise (station_at r station) (log_before r station before) (pdu_of pdu.now) }
+{
+    if !is_from(log.station(usize::from(station)).address(), pdu) {
+        return Some(Cause::WrongSender);
+    }
+    if reused {
+        return Some(Cause::ReusedIdentifier);
+    }
+    if !is_answer(pdu) {
+        return None;
+    }
+    let Some((_, request)) = taken else {
+        return Some(Cause::NoRequest);
+    };
+    if !answers(pdu, request) {
+        Some(Cause::WrongAnswer)
+    } else if is_changed_answer(log, &tables.firsts, station, before, pdu) {
+        Some(Cause::ChangedAnswer)
+    } else if is_impossible(log, tables, station, before, pdu, request) {
+        Some(Cause::Impossible)
+    } else {
+        None
+    }
+}
+
+/// The first cause against a PDU that a station receives in a recording of this form, from a
+/// recorded station or not, as if nothing had been sent before.
+#[tactic(auto, unfolding(exercise_model::specs::Cause::get_cause, exercise_model::specs::Cause::was_sent, exercise_model::specs::Setting::may_be_heard))]
+pub(crate) fn judge_unsent(form: Form, recorded: bool) -> Option<Cause>
+    ensures { (w : SettingData) (b : List ℕ) (p : Pdu) → form ≡ w.form → recorded ≡ is_recorded w p → result ≡ get_cause w [] b p }
+{
+    if recorded {
+        Some(Cause::NeverSent)
+    } else if form == Form::Open {
+        None
+    } else {
+        Some(Cause::Stranger)
+    }
+}
+
+/// The first cause against a state that a station tells at an entry.
+pub(crate) fn judge_told<L: ExerciseLog>(
+    log: &L,
+    tables: &Tables,
+    station: u16,
+    before: usize,
+    entity: u16,
+    state: EntityState,
+) -> Option<Cause>
+    requires at { station < length (L.recording log.now).setting.stations }
+    requires within { before ≤ length (L.recording log.now).entries }
+    requires tied { AreTied (L.recording log.now) before tables.now }
+    ensures { let r = L.recording log.now in result ≡ first_cause (tell_rows state (state_after r.setting.exercise (station_at r station) (log_before r station before) entity)) }
+{
+    if state == state_before(log, tables, station, before, entity) {
+        None
+    } else {
+        Some(Cause::WrongState)
+    }
+}

@@ -1,0 +1,80 @@
+//! What a station sent under one key before an entry.
+
+ghost use Rattle.std.specs.Prelude.{◌≡◌, ◌<◌, length, option_map, option_and_then};
+ghost use Rattle.siman_pdus.specs.Reading.{pdu_of};
+ghost use Rattle.exercise_model.specs.Change.{able, unable, was_acknowledged, is_change};
+ghost use Rattle.exercise_model.specs.Place.{log_before, own_event};
+ghost use Rattle.exercise_findings.specs.Sent.{meant_by_send};
+ghost use Rattle.exercise_findings.specs.Firsts.{TellFirsts};
+
+use crate::firsts::{Firsts, first_before};
+use crate::key::acknowledged_key;
+use exercise_model::{AcknowledgeKey, EntryView, ExerciseLog, key_of, meaning_view, responds};
+use siman_pdus::{ABLE, PduView, UNABLE};
+
+/// What an entry of a station sends, if it sends something that is not "other".
+#[tactic(auto, unfolding(exercise_model::specs::Place::own_event))]
+pub(crate) fn sent_by<L: ExerciseLog>(log: &L, station: u16, entry: usize) -> Option<PduView<'_>>
+    requires { entry < length (L.recording log.now).entries }
+    ensures { let r = L.recording log.now in option_map pdu_of result ≡ option_and_then (meant_by_send r.setting.exercise) (own_event r station entry) }
+{
+    match log.entry(entry) {
+        EntryView::Sent {
+            station: at,
+            bytes,
+            ..
+        } if at == station => meaning_view(log.exercise(), bytes),
+        _ => None,
+    }
+}
+
+/// Whether a station sent, before an entry, an Able under this key.
+#[tactic(auto, using(crate::proofs::Keyed::key_steps))]
+pub(crate) fn was_able<L: ExerciseLog>(
+    log: &L,
+    firsts: &Firsts,
+    station: u16,
+    before: usize,
+    key: &AcknowledgeKey,
+) -> bool
+    requires at { station < length (L.recording log.now).setting.stations }
+    requires tied { TellFirsts (L.recording log.now) before firsts.now }
+    ensures { let r = L.recording log.now in result ≡ was_acknowledged r.setting.exercise able key.now (log_before r station before) }
+{
+    first_before(firsts, &acknowledged_key(station, ABLE, key), before).is_some()
+}
+
+/// Whether a station sent, before an entry, an Unable under this key.
+#[tactic(auto, using(crate::proofs::Keyed::key_steps))]
+pub(crate) fn was_unable<L: ExerciseLog>(
+    log: &L,
+    firsts: &Firsts,
+    station: u16,
+    before: usize,
+    key: &AcknowledgeKey,
+) -> bool
+    requires at { station < length (L.recording log.now).setting.stations }
+    requires tied { TellFirsts (L.recording log.now) before firsts.now }
+    ensures { let r = L.recording log.now in result ≡ was_acknowledged r.setting.exercise unable key.now (log_before r station before) }
+{
+    first_before(firsts, &acknowledged_key(station, UNABLE, key), before).is_some()
+}
+
+/// Whether a PDU that a station sends at an entry is the first Able under its key.
+#[tactic(auto, unfolding(exercise_model::specs::Change::is_change))]
+pub(crate) fn is_change<L: ExerciseLog>(
+    log: &L,
+    firsts: &Firsts,
+    station: u16,
+    before: usize,
+    pdu: &PduView<'_>,
+) -> bool
+    requires at { station < length (L.recording log.now).setting.stations }
+    requires tied { TellFirsts (L.recording log.now) before firsts.now }
+    ensures { let r = L.recording log.now in result ≡ is_change r.setting.exercise (pdu_of pdu.now) (log_before r station before) }
+{
+    match key_of(pdu) {
+        Some(key) if responds(ABLE, pdu) => { !was_able(log, firsts, station, before, &key) }
+        _ => false,
+    }
+}

@@ -1,0 +1,108 @@
+//! Which request an answer takes up.
+
+ghost use Rattle.std.specs.Prelude.{◌≡◌, ◌<◌, ◌≤◌, length, option_map, option_and_then, IfSome, None, if◌then◌else◌};
+ghost use Rattle.siman_pdus.specs.Reading.{pdu_of};
+ghost use Rattle.exercise_model.specs.History.{station_at};
+ghost use Rattle.exercise_model.specs.Account.{pair_of_sent};
+ghost use Rattle.exercise_model.specs.Exchange.{request_brought, request_taken_up};
+ghost use Rattle.exercise_model.specs.Place.{log_before, own_event, entry_taken_up};
+ghost use Rattle.exercise_findings.specs.TakenUp.{request_of_sent};
+ghost use Rattle.exercise_findings.specs.Firsts.{TellFirsts};
+
+use crate::firsts::{Firsts, first_before};
+use crate::key::answered_key;
+use dis_records::Address;
+use exercise_model::{EntryView, ExerciseLog, is_answer, is_asked, meaning_view};
+use siman_pdus::PduView;
+
+/// The request that an entry brings to a station for an answer.
+#[tactic(auto, unfolding(exercise_model::specs::Place::own_event))]
+fn request_brought<'a, L: ExerciseLog>(
+    log: &'a L,
+    station: u16,
+    address: Address,
+    answer: &PduView<'_>,
+    entry: usize,
+) -> Option<PduView<'a>>
+    requires { entry < length (L.recording log.now).entries }
+    ensures { let r = L.recording log.now in option_map pdu_of result ≡ option_and_then (request_brought r.setting.exercise address (pdu_of answer.now)) (own_event r station entry) }
+{
+    match log.entry(entry) {
+        EntryView::Received {
+            station: at,
+            bytes,
+            ..
+        } if at == station => match meaning_view(log.exercise(), bytes) {
+            Some(request) if is_asked(address, answer, &request) => Some(request),
+            _ => None,
+        },
+        _ => None,
+    }
+}
+
+/// The entry of the request that an answer takes up: the first under the answer's key.
+#[tactic(auto, using(crate::proofs::Keyed::key_steps))]
+fn entry_taken_up<L: ExerciseLog>(
+    log: &L,
+    firsts: &Firsts,
+    station: u16,
+    before: usize,
+    answer: &PduView<'_>,
+) -> Option<u32>
+    requires at { station < length (L.recording log.now).setting.stations }
+    requires tied { TellFirsts (L.recording log.now) before firsts.now }
+    ensures entry { result ≡ entry_taken_up (L.recording log.now) station (pdu_of answer.now) before }
+    ensures earlier { IfSome result (λ e. e < before) }
+{
+    match answered_key(station, answer) {
+        Some(key) => first_before(firsts, &key, before),
+        None => None,
+    }
+}
+
+/// The request that an answer takes up, with its entry: the first that comes before an entry.
+fn request_taken_up<'a, L: ExerciseLog>(
+    log: &'a L,
+    firsts: &Firsts,
+    station: u16,
+    before: usize,
+    answer: &PduView<'_>,
+) -> Option<(u32, PduView<'a>)>
+    requires at { station < length (L.recording log.now).setting.stations }
+    requires within { before ≤ length (L.recording log.now).entries }
+    requires tied { TellFirsts (L.recording log.now) before firsts.now }
+    ensures request { let r = L.recording log.now in option_map (λ t. pdu_of t.1) result ≡ request_taken_up r.setting.exercise (station_at r station).address (pdu_of answer.now) (log_before r station before) }
+    ensures entry { let r = L.recording log.now in option_map (λ t. t.0) result ≡ entry_taken_up r station (pdu_of answer.now) before }
+    ensures earlier { IfSome result (λ t. t.0 < before) }
+{
+    let Some(entry) = entry_taken_up(log, firsts, station, before, answer) else {
+        return None;
+    };
+    let address = log.station(usize::from(station)).address();
+    match request_brought(log, station, address, answer, entry as usize) {
+        Some(request) => Some((entry, request)),
+        None => None,
+    }
+}
+
+/// The request that a PDU takes up which a station sends at an entry, with its entry, where the PDU
+/// is an answer. Whoever asks for the request is handed what was looked up here.
+pub(crate) fn taken_up<'a, L: ExerciseLog>(
+    log: &'a L,
+    firsts: &Firsts,
+    station: u16,
+    before: usize,
+    pdu: &PduView<'_>,
+) -> Option<(u32, PduView<'a>)>
+    requires at { station < length (L.recording log.now).setting.stations }
+    requires within { before ≤ length (L.recording log.now).entries }
+    requires tied { TellFirsts (L.recording log.now) before firsts.now }
+    ensures request { option_map (λ t. pdu_of t.1) result ≡ request_of_sent (L.recording log.now) station before (pdu_of pdu.now) }
+    ensures entry { option_map (λ t. t.0) result ≡ pair_of_sent (L.recording log.now) station before (pdu_of pdu.now) }
+{
+    if is_answer(pdu) {
+        request_taken_up(log, firsts, station, before, pdu)
+    } else {
+        None
+    }
+}

@@ -1,0 +1,121 @@
+//! What the log of each station says of its own entries.
+
+ghost use Rattle.std.specs.Prelude.{◌≡◌, ◌<◌, ◌≤◌, length, IfOk, OnOk, IfSome};
+ghost use Rattle.exercise_model.specs.Recording.{PlainRecording, IsRecording};
+ghost use Rattle.exercise_model.specs.History.{station_at};
+ghost use Rattle.exercise_model.specs.State.{state_after};
+ghost use Rattle.exercise_model.specs.Place.{log_before};
+ghost use Rattle.exercise_model.specs.Account.{pair_of, change_at};
+ghost use Rattle.exercise_findings.specs.Account.{TellsAccount};
+ghost use Rattle.exercise_findings.specs.Source.{source_of};
+ghost use Rattle.exercise_findings.specs.Tables.{AreFindings, own_cause};
+
+use crate::account::Account;
+use crate::accounting::account;
+use crate::made::{change_made_at, state_made_before};
+use crate::number::entry_of;
+use crate::pass::{Pass, find};
+use crate::senders::first_source;
+use dis_records::EntityState;
+use exercise_model::{Cause, Change, EntryView, ExerciseLog};
+use std::alloc::{AllocError, Global};
+use std::marker::Model;
+
+/// What the log of each station says of its own entries, found in one pass over the logs of a
+/// recording. Contracts see the recording; what is kept of it is nobody else's business.
+#[derive(Drop)]
+pub struct Findings<'a, L: ExerciseLog> {
+    log: &'a L,
+    found: Pass<'a>,
+}
+
+impl<'a, L: ExerciseLog> Model for Findings<'a, L> {
+    ghost Value = { PlainRecording };
+
+    ghost view = { λ f. L.recording f.log.now };
+
+    ghost invariant = { λ f. AreFindings (L.recording f.log.now) f.found };
+}
+
+impl<'a, L: ExerciseLog> Findings<'a, L> {
+    /// What is found in a log. Datagrams are looked at where they lie; what is kept takes memory.
+    pub fn of(alloc: Global, log: &'a L) -> Result<Findings<'a, L>, AllocError>
+        ensures findings { IfOk result (λ findings. findings ≡ L.recording log.now) }
+        ensures limits { OnOk result (IsRecording (L.recording log.now)) }
+    {
+        let found = find(alloc, log)?;
+        Ok(Findings { log, found })
+    }
+
+    /// The log.
+    pub fn log(&self) -> &'a L
+        ensures { L.recording result.now ≡ self.now }
+    {
+        self.log
+    }
+
+    /// The first cause that the log of its station has against an entry: of 5 to 13, where a
+    /// datagram that was received is judged as if nothing had been sent before. `None` past the last
+    /// entry. It takes no memory.
+    pub fn cause(&self, entry: usize) -> Option<Cause>
+        ensures { result ≡ own_cause self.now entry }
+    {
+        match self.found.causes.get(entry) {
+            Some(cause) => *cause,
+            None => None,
+        }
+    }
+
+    /// For an answer that was sent, the entry of the request that it takes up; `None` for all else
+    /// and past the last entry. It takes no memory.
+    pub fn pair(&self, entry: usize) -> Option<u32>
+        ensures { result ≡ pair_of self.now entry }
+    {
+        match self.found.pairs.get(entry) {
+            Some(pair) => entry_of(*pair),
+            None => None,
+        }
+    }
+
+    /// For a datagram that was received from a recorded station, the first entry of that station that
+    /// sends the same bytes; `None` for all else and past the last entry. It takes no memory.
+    pub fn source(&self, entry: usize) -> Option<u32>
+        ensures source { result ≡ source_of self.now entry }
+        ensures within { IfSome result (λ source. source < length self.now.entries) }
+    {
+        if entry >= self.log.entry_count() {
+            return None;
+        }
+        match self.log.entry(entry) {
+            EntryView::Received { bytes, .. } => first_source(&self.found.senders, bytes),
+            EntryView::Sent { .. } | EntryView::Told { .. } => None,
+        }
+    }
+
+    /// What an entry changes at its station: something where it is the first Able under its key and
+    /// answers the request that it takes up. `None` for all else and past the last entry. It takes no
+    /// memory.
+    pub fn change(&self, entry: usize) -> Option<Change>
+        ensures { result ≡ change_at self.now entry }
+    {
+        change_made_at(self.log, &self.found.tables.firsts, entry)
+    }
+
+    /// The state of an entity of a station before an entry; Absent for a number that no entity has.
+    /// It looks at each entry before. It takes no memory.
+    pub fn state_before(&self, station: u16, entity: u16, entry: usize) -> EntityState
+        requires at { station < length self.now.setting.stations }
+        requires within { entry ≤ length self.now.entries }
+        ensures { result ≡ state_after self.now.setting.exercise (station_at self.now station) (log_before self.now station entry) entity }
+    {
+        state_made_before(self.log, &self.found.tables.firsts, station, entity, entry)
+    }
+
+    /// The account of the recording.
+    pub fn into_account(self, alloc: Global) -> Result<Account, AllocError>
+        ensures { IfOk result (λ account. TellsAccount self.entry account) }
+    {
+        let Findings { log, found } = self;
+        account(alloc, log, found)
+    }
+}

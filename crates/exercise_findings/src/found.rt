@@ -1,0 +1,172 @@
+//! What one entry is found to be, by one look at its datagram.
+
+ghost use Rattle.std.specs.Prelude.{◌≡◌, ◌<◌, ◌+◌, ◌&&◌, ℕ, List, [], length, option_map, None, true, false, OnOk, IfOk};
+ghost use Rattle.siman_pdus.specs.Reading.{pdu_of};
+ghost use Rattle.siman_pdus.specs.Role.{is_request_body};
+ghost use Rattle.exercise_model.specs.Account.{pair_of_sent, sender_of};
+ghost use Rattle.exercise_model.specs.Cause.{send_cause, get_cause, is_reused};
+ghost use Rattle.exercise_model.specs.History.{station_at};
+ghost use Rattle.exercise_model.specs.Place.{log_before};
+ghost use Rattle.exercise_model.specs.Setting.{is_from};
+ghost use Rattle.exercise_model.specs.State.{change_by};
+ghost use Rattle.exercise_findings.specs.Firsts.{sent_key, received_key};
+ghost use Rattle.exercise_findings.specs.Behind.{key_behind};
+ghost use Rattle.exercise_findings.specs.Requests.{AreRequests};
+ghost use Rattle.exercise_findings.specs.Tables.{AreTied, IsFound};
+
+use crate::behind::key_behind;
+use crate::cause::{judge_sent, judge_told, judge_unsent};
+use crate::exchange::taken_up;
+use crate::key::{Key, received_key, sent_key};
+use crate::requests::{Requests, note_request};
+use crate::sender::sender_of;
+use crate::state::change_by;
+use crate::tables::Tables;
+use exercise_model::{Cause, Change, EntryView, ExerciseLog, is_from, meaning_view};
+use siman_pdus::PduView;
+use std::alloc::AllocError;
+
+/// What one entry is found to be.
+#[derive(Clone, Copy)]
+pub(crate) struct Found {
+    /// The first cause that its station's log has against it.
+    pub cause: Option<Cause>,
+    /// The entry of the request that it takes up, where it is an answer that was sent.
+    pub pair: Option<u32>,
+    /// What it changes at its station.
+    pub change: Option<Change>,
+    /// What it is looked up by.
+    pub key: Option<Key>,
+    /// What the change behind it is looked up by, where it is an Able Acknowledge that was received.
+    pub behind: Option<Key>,
+    /// Whether it sends what comes from its own station.
+    pub is_source: bool,
+    /// Whether its datagram is "other".
+    pub other: bool,
+}
+
+/// An entry that this cause speaks against, or none, and of which nothing else is found.
+fn judged(cause: Option<Cause>) -> Found
+    ensures { result ≡ record { cause = cause; pair = None; change = None; key = None; behind = None; is_source = false; other = false } }
+{
+    Found {
+        cause,
+        pair: None,
+        change: None,
+        key: None,
+        behind: None,
+        is_source: false,
+        other: false,
+    }
+}
+
+/// An entry with a datagram that is "other".
+fn found_other() -> Found
+    ensures { result ≡ record { cause = None; pair = None; change = None; key = None; behind = None; is_source = false; other = true } }
+{
+    Found {
+        other: true,
+        ..judged(None)
+    }
+}
+
+/// The entry of a request that was taken up.
+fn pair_of(taken: &Option<(u32, PduView<'_>)>) -> Option<u32>
+    ensures { result ≡ option_map (λ t. t.0) taken.now }
+{
+    match taken {
+        Some((entry, _)) => Some(*entry),
+        None => None,
+    }
+}
+
+/// What a PDU is found to be that a station sends at an entry, a request that reuses its identifier
+/// or not.
+fn found_sent<L: ExerciseLog>(
+    log: &L,
+    tables: &Tables,
+    station: u16,
+    entry: usize,
+    pdu: &PduView<'_>,
+    reused: bool,
+) -> Found
+    requires at { station < length (L.recording log.now).setting.stations }
+    requires within { entry < length (L.recording log.now).entries }
+    requires tied { AreTied (L.recording log.now) entry tables.now }
+    requires reused { let r = L.recording log.now in reused ≡ (is_request_body (pdu_of pdu.now).body && is_reused r.setting.exercise (pdu_of pdu.now) (log_before r station entry)) }
+    ensures cause { let r = L.recording log.now in result.cause ≡ send_cause r.setting.exercise (station_at r station) (log_before r station entry) (pdu_of pdu.now) }
+    ensures pair { result.pair ≡ pair_of_sent (L.recording log.now) station entry (pdu_of pdu.now) }
+    ensures change { let r = L.recording log.now in result.change ≡ change_by r.setting.exercise (station_at r station) (log_before r station entry) (pdu_of pdu.now) }
+    ensures key { result.key ≡ sent_key station (pdu_of pdu.now) }
+    ensures behind { result.behind ≡ None }
+    ensures source { result.is_source ≡ is_from (station_at (L.recording log.now) station).address (pdu_of pdu.now) }
+    ensures other { result.other ≡ false }
+{
+    let address = log.station(usize::from(station)).address();
+    let taken = taken_up(log, &tables.firsts, station, entry, pdu);
+    Found {
+        cause: judge_sent(log, tables, station, entry, pdu, reused, &taken),
+        pair: pair_of(&taken),
+        change: change_by(log, &tables.firsts, station, entry, pdu, &taken),
+        key: sent_key(station, pdu),
+        behind: None,
+        is_source: is_from(address, pdu),
+        other: false,
+    }
+}
+
+/// What a PDU is found to be that a station receives.
+fn found_received<L: ExerciseLog>(log: &L, station: u16, pdu: &PduView<'_>) -> Found
+    requires { station < length (L.recording log.now).setting.stations }
+    ensures cause { (b : List ℕ) → result.cause ≡ get_cause (L.recording log.now).setting [] b (pdu_of pdu.now) }
+    ensures pair { result.pair ≡ None }
+    ensures change { result.change ≡ None }
+    ensures key { let r = L.recording log.now in result.key ≡ received_key station (station_at r station).address (pdu_of pdu.now) }
+    ensures behind { let p = pdu_of pdu.now in result.behind ≡ key_behind (sender_of (L.recording log.now) p) p }
+    ensures source { result.is_source ≡ false }
+    ensures other { result.other ≡ false }
+{
+    let address = log.station(usize::from(station)).address();
+    let sender = sender_of(log, pdu);
+    Found {
+        key: received_key(station, address, pdu),
+        behind: key_behind(sender, pdu),
+        ..judged(judge_unsent(log.form(), sender.is_some()))
+    }
+}
+
+/// What the next entry of a log is found to be.
+pub(crate) fn find_at<L: ExerciseLog>(
+    log: &L,
+    tables: &Tables,
+    requests: &mut Requests,
+    entry: usize,
+) -> Result<Found, AllocError>
+    requires within { entry < length (L.recording log.now).entries }
+    requires tied { AreTied (L.recording log.now) entry tables.now }
+    requires requests { AreRequests (L.recording log.now) entry requests.old }
+    ensures found { IfOk result (IsFound (L.recording log.now) entry) }
+    ensures requests { OnOk result (AreRequests (L.recording log.now) (entry + 1) requests.new) }
+{
+    match log.entry(entry) {
+        EntryView::Sent { station, bytes, .. } => match meaning_view(log.exercise(), bytes) {
+            Some(pdu) => {
+                let reused = note_request(requests, log, station, entry, &pdu)?;
+                Ok(found_sent(log, tables, station, entry, &pdu, reused))
+            }
+            None => Ok(found_other()),
+        },
+        EntryView::Received { station, bytes, .. } => match meaning_view(log.exercise(), bytes) {
+            Some(pdu) => Ok(found_received(log, station, &pdu)),
+            None => Ok(found_other()),
+        },
+        EntryView::Told {
+            station,
+            entity,
+            state,
+        } => {
+            let cause = judge_told(log, tables, station, entry, entity, state);
+            Ok(judged(cause))
+        }
+    }
+}

@@ -1,0 +1,36 @@
+//! What a log says of its own entries, found in one pass over it.
+//!
+//! [`Findings`] answers of each entry the first cause that its station's log has against it, the
+//! request that it takes up, what it changes and where it comes from; the state of an entity at a
+//! place; and the [`Account`] of the whole recording. Each station's log is read alone, and logs are
+//! joined by equal bytes alone: it knows neither certificates nor an order between stations, so no
+//! certificate can change what it says. Its tables lie over the bytes of the log, under keys that
+//! strangers may have chosen. [`replace`] is an inner door to the crates above, which keep columns
+//! of their own.
+#![tactic(auto)]
+
+mod account;
+mod accounting;
+mod behind;
+mod cause;
+mod change;
+mod column;
+mod exchange;
+mod findings;
+mod firsts;
+mod found;
+mod key;
+mod made;
+mod number;
+mod pass;
+mod requests;
+mod sender;
+mod senders;
+mod state;
+mod states;
+mod table;
+mod tables;
+
+pub use account::Account;
+pub use column::replace;
+pub use findings::Findings;

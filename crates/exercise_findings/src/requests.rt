@@ -1,0 +1,116 @@
+//! The requests that each station sends under each request identifier, kept in a table.
+
+ghost use Rattle.std.specs.Prelude.{◌≡◌, ◌<◌, ◌+◌, ◌&&◌, not, true, length, option_map, option_and_then, OnOk, IfOk, None, Some, false, if◌then◌else◌};
+ghost use Rattle.std.specs.Option.{option_map_or};
+ghost use Rattle.siman_pdus.specs.Reading.{pdu_of};
+ghost use Rattle.siman_pdus.specs.Role.{is_request_body};
+ghost use Rattle.siman_pdus.specs.Same.{is_same_order};
+ghost use Rattle.indexmap.specs.IndexMap.{get};
+ghost use Rattle.exercise_model.specs.Cause.{is_other_order, is_reused};
+ghost use Rattle.exercise_model.specs.Place.{log_before, own_event};
+ghost use Rattle.exercise_findings.specs.Sent.{meant_by_send};
+ghost use Rattle.exercise_findings.specs.declared.requests.Identifier.{Identifier};
+ghost use Rattle.exercise_findings.specs.declared.requests.Kept.{Kept};
+ghost use Rattle.exercise_findings.specs.Requests.{same_identifier, identifier_of, AreRequests, IsSendOf};
+
+use crate::change::sent_by;
+use crate::table::{Table, keep_first};
+use exercise_model::ExerciseLog;
+use siman_pdus::{PduView, is_request, request_id, same_order};
+use std::alloc::{AllocError, Global};
+use std::hash::BuildHasherDefault;
+
+/// What the requests of one station have in common that are looked up together.
+#[derive(Clone, Copy, PartialEq, Eq, Hash)]
+pub(crate) struct Identifier {
+    /// The station, from 0.
+    pub station: u16,
+    /// The request identifier.
+    pub request: u32,
+}
+
+/// What is kept of the requests under one identifier.
+#[derive(Clone, Copy)]
+pub(crate) struct Kept {
+    /// The entry of the first of them.
+    pub first: u32,
+    /// Whether one of them is another order than the first.
+    pub mixed: bool,
+}
+
+/// What is kept under each identifier.
+pub(crate) type Requests = Table<Identifier, Kept>;
+
+/// No requests. It takes no memory.
+pub(crate) fn no_requests(alloc: Global) -> Requests
+    ensures { (k : Identifier) → get same_identifier result k ≡ None }
+{
+    Requests::with_hasher(alloc, BuildHasherDefault::default())
+}
+
+/// The identifier under which a station sends a PDU, where it is a request.
+fn identifier_of(station: u16, pdu: &PduView<'_>) -> Option<Identifier>
+    ensures { result ≡ identifier_of station (pdu_of pdu.now) }
+{
+    if !is_request(pdu) {
+        return None;
+    }
+    match request_id(pdu) {
+        Some(request) => Some(Identifier { station, request }),
+        None => None,
+    }
+}
+
+/// Keeps that one of the requests under an identifier is another order than the first.
+fn keep_mixed(requests: &mut Requests, identifier: Identifier, first: u32) -> Result<(), AllocError>
+    ensures { OnOk result ((k : Identifier) → get same_identifier requests.new k ≡ (if same_identifier identifier k then Some (record { first = first; mixed = true }) else get same_identifier requests.old k)) }
+{
+    requests.insert(identifier, Kept { first, mixed: true })?;
+    Ok(())
+}
+
+/// Whether a PDU is another order than what an entry of a station sends.
+fn differs<L: ExerciseLog>(log: &L, station: u16, entry: usize, pdu: &PduView<'_>) -> bool
+    requires { entry < length (L.recording log.now).entries }
+    ensures { let r = L.recording log.now in result ≡ option_map_or (λ q. not (is_same_order (pdu_of pdu.now) q)) (option_and_then (meant_by_send r.setting.exercise) (own_event r station entry)) false }
+{
+    match sent_by(log, station, entry) {
+        Some(other) => !same_order(pdu, &other),
+        None => false,
+    }
+}
+
+/// Keeps what an entry of a station sends, and tells whether that is a request under an identifier
+/// that the station used for another order before.
+pub(crate) fn note_request<L: ExerciseLog>(
+    requests: &mut Requests,
+    log: &L,
+    station: u16,
+    entry: usize,
+    pdu: &PduView<'_>,
+) -> Result<bool, AllocError>
+    requires few { entry < 4294967295 }
+    requires within { entry < length (L.recording log.now).entries }
+    requires sends { IsSendOf (L.recording log.now) entry station (pdu_of pdu.now) }
+    requires tied { AreRequests (L.recording log.now) entry requests.old }
+    ensures tied { OnOk result (AreRequests (L.recording log.now) (entry + 1) requests.new) }
+    ensures reused { let r = L.recording log.now in IfOk result (λ reused. reused ≡ (is_request_body (pdu_of pdu.now).body && is_reused r.setting.exercise (pdu_of pdu.now) (log_before r station entry))) }
+{
+    let Some(identifier) = identifier_of(station, pdu) else {
+        return Ok(false);
+    };
+    let only = Kept {
+        first: entry as u32,
+        mixed: false,
+    };
+    let kept = keep_first(requests, identifier, only)?;
+    let first = kept.first as usize;
+    if kept.mixed || first == entry {
+        return Ok(kept.mixed);
+    }
+    let reused = differs(log, station, first, pdu);
+    if reused {
+        keep_mixed(requests, identifier, kept.first)?;
+    }
+    Ok(reused)
+}

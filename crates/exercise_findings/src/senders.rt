@@ -1,0 +1,94 @@
+//! Where each datagram was sent first, kept in a table under its bytes.
+
+ghost use Rattle.std.specs.Prelude.{◌≡◌, ◌<◌, ◌+◌, ◌∷◌, [], ℕ, None, length, OnOk, bytes_eq};
+ghost use Rattle.std.specs.Cmp.Rules.{comparing, hashing};
+ghost use Rattle.std.specs.Cmp.Lexicographic.{bytes_decides};
+ghost use Rattle.std.proofs.Common.{ap};
+ghost use Rattle.indexmap.specs.IndexMap.{get};
+ghost use Rattle.exercise_model.specs.Recording.{PlainRecording};
+ghost use Rattle.exercise_findings.specs.declared.senders.Datagram.{Datagram};
+ghost use Rattle.exercise_findings.specs.Source.{source_at, first_source};
+ghost use Rattle.exercise_findings.specs.Senders.{same_datagram, AreSenders};
+ghost use borrow.Author.Rules.{rules};
+
+use crate::table::{Table, keep_first};
+use exercise_model::{EntryView, ExerciseLog};
+use std::alloc::{AllocError, Global};
+use std::hash::{BuildHasherDefault, Hash, Hasher};
+
+/// The bytes of a datagram where they lie, as a key: two are the same where their bytes are. They
+/// are hashed in one write.
+#[derive(Clone, Copy)]
+pub(crate) struct Datagram<'a> {
+    /// The bytes.
+    pub bytes: &'a [u8],
+}
+
+impl<'a> PartialEq for Datagram<'a> {
+    ghost eq = { λ x y. bytes_eq x.bytes.now y.bytes.now };
+
+    ghost laws = { Prim.search (comparing, rules) };
+
+    fn eq(&self, other: &Datagram<'a>) -> bool {
+        self.bytes == other.bytes
+    }
+}
+
+impl<'a> Eq for Datagram<'a> {
+    ghost laws = { Prim.search (comparing, rules) };
+}
+
+impl<'a> Hash for Datagram<'a> {
+    ghost hash_input = { λ d. d.bytes.now ∷ [] };
+
+    ghost respects_eq = { λ x y h. ap (λ b. b ∷ []) ((bytes_decides x.bytes.now y.bytes.now).0 h) };
+
+    fn hash<H: Hasher>(&self, state: &mut H) {
+        state.write(self.bytes);
+    }
+}
+
+/// The entry by which each datagram was sent first by the station that it comes from.
+pub(crate) type Senders<'a> = Table<Datagram<'a>, u32>;
+
+/// No datagrams. It takes no memory.
+pub(crate) fn no_senders<'a>(alloc: Global) -> Senders<'a>
+    ensures { (d : Datagram) → get same_datagram result d ≡ None }
+{
+    Senders::with_hasher(alloc, BuildHasherDefault::default())
+}
+
+/// Keeps the datagram of the next entry, where the entry is a source: its station sends it, and it
+/// comes from that station.
+pub(crate) fn note_sender<'a, L: ExerciseLog>(
+    senders: &mut Senders<'a>,
+    log: &'a L,
+    entry: usize,
+    is_source: bool,
+) -> Result<(), AllocError>
+    requires within { entry < length (L.recording log.now).entries }
+    requires source { is_source ≡ source_at (L.recording log.now) entry }
+    requires tied { AreSenders (L.recording log.now) entry senders.old }
+    ensures { OnOk result (AreSenders (L.recording log.now) (entry + 1) senders.new) }
+{
+    if !is_source {
+        return Ok(());
+    }
+    match log.entry(entry) {
+        EntryView::Sent { bytes, .. } => {
+            keep_first(senders, Datagram { bytes }, entry as u32)?;
+            Ok(())
+        }
+        EntryView::Received { .. } | EntryView::Told { .. } => Ok(()),
+    }
+}
+
+/// The entry by which a datagram of these bytes was sent first by the station that it comes from.
+pub(crate) fn first_source(senders: &Senders<'_>, datagram: &[u8]) -> Option<u32>
+    ensures { (r : PlainRecording) (n : ℕ) → AreSenders r n senders.now → result ≡ first_source r datagram.now n }
+{
+    match senders.get(&Datagram { bytes: datagram }) {
+        Some(entry) => Some(*entry),
+        None => None,
+    }
+}

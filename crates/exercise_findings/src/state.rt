@@ -1,0 +1,129 @@
+//! The state of an entity of a station before an entry, and after the whole of the logs.
+
+ghost use Rattle.std.specs.Prelude.{◌≡◌, ◌<◌, ◌≤◌, ◌+◌, ◌*◌, length, [], ◌∷◌, ◌++◌, if◌then◌else◌, option_map, IfOk, OnOk};
+ghost use Rattle.siman_pdus.specs.Reading.{pdu_of};
+ghost use Rattle.exercise_model.specs.Station.{is_absent};
+ghost use Rattle.exercise_model.specs.History.{station_at};
+ghost use Rattle.exercise_model.specs.State.{change_by, state_after, present_below};
+ghost use Rattle.exercise_model.specs.Place.{log_before};
+ghost use Rattle.exercise_model.specs.Account.{entities_of};
+ghost use Rattle.exercise_findings.specs.Firsts.{TellFirsts};
+ghost use Rattle.exercise_findings.specs.TakenUp.{request_of_sent};
+ghost use Rattle.exercise_findings.specs.States.{has_page, known_in};
+ghost use Rattle.exercise_findings.specs.Tables.{AreTied};
+
+use crate::change::is_change;
+use crate::firsts::Firsts;
+use crate::states::{Held, PAGE, PAGES, States, known_in};
+use crate::tables::Tables;
+use dis_records::EntityState;
+use exercise_model::{Change, ExerciseLog};
+use siman_pdus::PduView;
+use std::alloc::{AllocError, Global};
+
+/// What a PDU changes that a station sends at an entry, and that takes up this request, if there is
+/// one.
+#[tactic(auto, unfolding(exercise_model::specs::State::change_by))]
+pub(crate) fn change_by<L: ExerciseLog>(
+    log: &L,
+    firsts: &Firsts,
+    station: u16,
+    before: usize,
+    pdu: &PduView<'_>,
+    taken: &Option<(u32, PduView<'_>)>,
+) -> Option<Change>
+    requires at { station < length (L.recording log.now).setting.stations }
+    requires tied { TellFirsts (L.recording log.now) before firsts.now }
+    requires request { option_map (λ t. pdu_of t.1) taken.now ≡ request_of_sent (L.recording log.now) station before (pdu_of pdu.now) }
+    ensures { let r = L.recording log.now in result ≡ change_by r.setting.exercise (station_at r station) (log_before r station before) (pdu_of pdu.now) }
+{
+    match taken {
+        Some((_, request)) if is_change(log, firsts, station, before, pdu) => {
+            Change::carried_out(pdu, request)
+        }
+        _ => None,
+    }
+}
+
+/// The state of an entity of a station before an entry.
+pub(crate) fn state_before<L: ExerciseLog>(
+    log: &L,
+    tables: &Tables,
+    station: u16,
+    before: usize,
+    entity: u16,
+) -> EntityState
+    requires at { station < length (L.recording log.now).setting.stations }
+    requires within { before ≤ length (L.recording log.now).entries }
+    requires tied { AreTied (L.recording log.now) before tables.now }
+    ensures { let r = L.recording log.now in result ≡ state_after r.setting.exercise (station_at r station) (log_before r station before) entity }
+{
+    known_in(&tables.states[usize::from(station)], entity)
+}
+
+/// Adds an entity with its state at the end, where it is not Absent.
+fn push_present(
+    entities: &mut Vec<(u16, EntityState)>,
+    entity: u16,
+    state: EntityState,
+) -> Result<(), AllocError>
+    ensures { OnOk result (entities.new.items ≡ entities.old.items ++ (if is_absent state then [] else (entity, state) ∷ [])) }
+{
+    if state != EntityState::Absent {
+        entities.push((entity, state))?;
+    }
+    Ok(())
+}
+
+/// Whether something is kept of the entities of a page.
+fn has_page(pages: &[Vec<Held>], page: u16) -> bool
+    ensures { result ≡ has_page pages.now page }
+{
+    let page = usize::from(page);
+    page < pages.len() && !pages[page].is_empty()
+}
+
+/// Adds the entities of the next page that are not Absent at the end.
+fn push_page(
+    entities: &mut Vec<(u16, EntityState)>,
+    states: &States,
+    page: u16,
+) -> Result<(), AllocError>
+    requires page { page < 256 }
+    requires so_far { entities.old.items ≡ present_below (known_in states.now) (page * 256) }
+    ensures { OnOk result (entities.new.items ≡ present_below (known_in states.now) ((page + 1) * 256)) }
+{
+    if states.rest == EntityState::Absent && !has_page(&states.pages, page) {
+        return Ok(());
+    }
+    for place in 0..PAGE {
+        let entity = page * PAGE + place;
+        push_present(entities, entity, known_in(states, entity))?;
+    }
+    Ok(())
+}
+
+/// The entities that are not Absent, by rising numbers.
+fn present(alloc: Global, states: &States) -> Result<Vec<(u16, EntityState)>, AllocError>
+    ensures { IfOk result (λ entities. entities.items ≡ present_below (known_in states.now) 65536) }
+{
+    let mut entities = Vec::new(alloc);
+    for page in 0..PAGES {
+        push_page(&mut entities, states, page)?;
+    }
+    Ok(entities)
+}
+
+/// The entities of a station that are not Absent after its log, by rising numbers.
+pub(crate) fn entities<L: ExerciseLog>(
+    alloc: Global,
+    log: &L,
+    tables: &Tables,
+    station: usize,
+) -> Result<Vec<(u16, EntityState)>, AllocError>
+    requires at { station < length (L.recording log.now).setting.stations }
+    requires tied { let r = L.recording log.now in AreTied r (length r.entries) tables.now }
+    ensures { let r = L.recording log.now in IfOk result (λ entities. entities.items ≡ entities_of r station) }
+{
+    present(alloc, &tables.states[station])
+}

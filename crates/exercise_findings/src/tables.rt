@@ -1,0 +1,51 @@
+//! What a pass over a log keeps of the entries behind it, to look it up for the entries ahead.
+
+ghost use Rattle.std.specs.Prelude.{◌≡◌, ◌<◌, ◌+◌, length, OnOk, IfOk};
+ghost use Rattle.exercise_model.specs.Account.{change_at};
+ghost use Rattle.exercise_findings.specs.Firsts.{key_at};
+ghost use Rattle.exercise_findings.specs.Tables.{AreTied};
+
+use crate::firsts::{Firsts, no_firsts, note_entry};
+use crate::key::Key;
+use crate::states::{States, no_changes, note_change};
+use exercise_model::{Change, ExerciseLog};
+use std::alloc::{AllocError, Global};
+
+/// What is kept of the entries so far.
+#[derive(Drop)]
+pub(crate) struct Tables {
+    /// The first entry under each key.
+    pub firsts: Firsts,
+    /// The states of the entities of each station.
+    pub states: Vec<States>,
+}
+
+/// What is kept before the first entry.
+pub(crate) fn no_tables<L: ExerciseLog>(alloc: Global, log: &L) -> Result<Tables, AllocError>
+    ensures { IfOk result (λ tables. AreTied (L.recording log.now) 0 tables) }
+{
+    let states = no_changes(alloc, log)?;
+    Ok(Tables {
+        firsts: no_firsts(alloc),
+        states,
+    })
+}
+
+/// Keeps the next entry of a log, which makes this change and has this key.
+pub(crate) fn note_tables<L: ExerciseLog>(
+    tables: &mut Tables,
+    log: &L,
+    entry: usize,
+    change: Option<Change>,
+    key: Option<Key>,
+) -> Result<(), AllocError>
+    requires few { entry < 4294967295 }
+    requires within { entry < length (L.recording log.now).entries }
+    requires tied { AreTied (L.recording log.now) entry tables.old }
+    requires change { change ≡ change_at (L.recording log.now) entry }
+    requires key { key ≡ key_at (L.recording log.now) entry }
+    ensures { OnOk result (AreTied (L.recording log.now) (entry + 1) tables.new) }
+{
+    note_change(&mut tables.states, log, change, entry)?;
+    note_entry(&mut tables.firsts, log, entry, key)
+}

@@ -156,8 +156,8 @@ stays r b t e before step x good source silent =
           subst (λ k. count r k before ≡ rank r k step.place) (sym same) good.next in
           let mine : is_some (own_event r t step.place) ≡ true = own_here r t step.place x good.at ∙ near in
           let apart : rank r t e ≡ count r t before → ⊥ = λ is.
-              let at : e ≡ step.place = same_rank r t e step.place own mine (is ∙ next) in
-              absurd (cc (sym silent ∙ own_sends r b t step.place x good.at (ap (sends_here r b t) (sym at) ∙ source))) in
+          let at : e ≡ step.place = same_rank r t e step.place own mine (is ∙ next) in
+          absurd (cc (sym silent ∙ own_sends r b t step.place x good.at (ap (sends_here r b t) (sym at) ∙ source))) in
           ⊎_elim
           (λ (less : rank r t e < count r t before). lt-ltb _ _ less ∙ sym (lt-ltb _ _ (omega (arith, less))))
           (λ (most : count r t before ≤ rank r t e). ⊎_elim

@@ -7,8 +7,8 @@ ghost use Rattle.exercise_findings.specs.Column.{IsColumn};
 ghost use Rattle.exercise_findings.specs.Number.{IsNumberOf};
 ghost use Rattle.exercise_findings.specs.Tables.{AreTied, IsPass};
 
-use crate::behind::changes_behind;
 use crate::account::Account;
+use crate::behind::changes_behind;
 use crate::pass::Pass;
 use crate::state::entities;
 use crate::tables::Tables;

@@ -11,15 +11,14 @@ mod machines;
 mod recordings;
 mod stations;
 
-pub use call::{Call, Said, put_call, refused, usual};
-pub use load::{put_halves, put_station};
-pub use recordings::{recording_text, station, unmade};
-
 use crate::datagrams::{Copying, Decoding, Encoding, Showing};
 use crate::files::Carrying;
 use crate::machines::{Beginning, Ordering, Taking};
 use crate::recordings::{Checking, Pushing, Reading, ReadingSteps, Searching, Seeing};
 use crate::stations::{Issuing, Nudging, Serving};
+pub use call::{Call, Said, put_call, refused, usual};
+pub use load::{put_halves, put_station};
+pub use recordings::{recording_text, station, unmade};
 use std::alloc::Global;
 use std::io;
 use std::io::Write;

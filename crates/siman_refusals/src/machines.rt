@@ -3,9 +3,9 @@
 ghost use Rattle.std.specs.Prelude.{IsTrue};
 ghost use Rattle.siman_pdus.specs.Role.{is_request_body};
 
+use crate::call::{Call, Said, refused, usual};
 use crate::datagrams::read;
 use crate::recordings::{ABLE, CREATE, station, unmade};
-use crate::call::{Call, Said, refused, usual};
 use dis_records::{Address, EntityId, EntityState, FixedDatum, VariableDatum, Version};
 use exercise_model::Station;
 use siman_application::{AppFault, Application};

@@ -153,7 +153,9 @@ pub(crate) struct Reading {
 
 impl Reading {
     pub(crate) fn begin(alloc: Global) -> io::Result<Reading> {
-        Ok(Reading { text: recording_text(alloc)? })
+        Ok(Reading {
+            text: recording_text(alloc)?,
+        })
     }
 }
 
@@ -174,7 +176,9 @@ pub(crate) struct Seeing {
 
 impl Seeing {
     pub(crate) fn begin(alloc: Global) -> io::Result<Seeing> {
-        Ok(Seeing { text: recording_text(alloc)? })
+        Ok(Seeing {
+            text: recording_text(alloc)?,
+        })
     }
 }
 

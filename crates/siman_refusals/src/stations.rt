@@ -1,8 +1,8 @@
 //! Stations that serve, issue and nudge at a line over memory.
 
+use crate::call::{Call, Said, failed, refused, usual};
 use crate::machines::{creation, ordered};
 use crate::recordings::{ABLE, CREATE, station, unmade};
-use crate::call::{Call, Said, failed, refused, usual};
 use dis_records::EntityState;
 use exercise_model::Station;
 use exercise_recording::RecordingWriter;

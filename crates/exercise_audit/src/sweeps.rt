@@ -23,8 +23,6 @@ fn let_go_on<L: ExerciseLog>(
     ensures held { IfOk result (λ more. more ≡ false → IsHeld course.old.recording (so_far course.old) station) }
     ensures same { IfOk result (λ more. more ≡ false → course.new ≡ course.old) }
 {
-    // To count the steps shows that each of them is good.
-    let _steps = course.len();
     let Some(entry) = course.next_entry(station) else {
         return Ok(false);
     };
@@ -87,8 +85,6 @@ fn block_at<L: ExerciseLog>(
     ensures done { IfOk result (λ found. IfNone found (IsDone course.old.recording (so_far course.old) station)) }
     ensures same { course.new ≡ course.old }
 {
-    // To count the steps shows that each of them is good.
-    let _steps = course.len();
     let Some(entry) = course.next_entry(station) else {
         return Ok(None);
     };

@@ -86,6 +86,7 @@ impl<'a, L: ExerciseLog> Course<'a, L> {
         ensures own { IfSome result (λ place. IfSome (slice_get self.now.recording.entries place) (λ e. station_of (event_of e) ≡ station)) }
         ensures next { IfSome result (λ place. IsNext self.now place) }
         ensures done { IfNone result (log_at station (so_far self.now) ≡ log_of self.now.recording station) }
+        ensures course { IsCourse self.now }
     {
         next_entry(self.found.log(), &self.cursors, station)
     }

@@ -22,7 +22,7 @@ use Rattle.exercise_model.specs.Place.{event_at, own_event, log_before, first_be
 use Rattle.exercise_model.proofs.Offered.{log_before-more, log_before-none}
 use Rattle.exercise_findings.specs.Sent.{meant_by_send}
 use Rattle.exercise_findings.specs.declared.requests.Identifier.{Identifier}
-use Rattle.exercise_findings.specs.declared.requests.Kept.{Kept}
+use Rattle.exercise_findings.specs.declared.requests.KeptIdentifier.{KeptIdentifier}
 use Rattle.exercise_findings.specs.Requests.{same_identifier, identifier_of, request_under, request_by, request_at, first_request, is_mixed, kept_of, kept_under, Requests, AreRequests, IsSendOf}
 use Rattle.exercise_findings.proofs.Keyed.{passes}
 
@@ -310,7 +310,7 @@ kept_again r k n j q at first =
     ] refl (first_is r k n j first).1)
 
 -- what is kept under its identifier once a request is taken to be its first where there is none
-abbrev pub taken_first : PlainRecording → Identifier → ℕ → Kept
+abbrev pub taken_first : PlainRecording → Identifier → ℕ → KeptIdentifier
 taken_first r k n = unwrap_or (kept_under r k n) (record { first = n; mixed = false })
 
 -- THE NEXT REQUEST UNDER AN IDENTIFIER: the first stays, and it is mixed where the next one reuses it
@@ -406,7 +406,7 @@ requests_still r n s q requests send none tied k =
     ∙ ap (kept_under r k) (sym (add-one n))
 
 -- an entry that sends a request
-pub requests_more : (r : PlainRecording) (n s : ℕ) (q : Pdu) (l : Identifier) (v : Kept) (old new : Requests) → IsSendOf r n s q
+pub requests_more : (r : PlainRecording) (n s : ℕ) (q : Pdu) (l : Identifier) (v : KeptIdentifier) (old new : Requests) → IsSendOf r n s q
     → identifier_of s q ≡ Some l → kept_under r l (suc n) ≡ Some v
     → ((k : Identifier) → get same_identifier new k ≡ (if same_identifier l k then Some v else get same_identifier old k))
     → AreRequests r n old → AreRequests r (n + 1) new
@@ -421,11 +421,11 @@ requests_more r n s q l v old new send is kept writes tied k =
     ∙ ap (kept_under r k) (sym (add-one n))
 
 -- what is known once the first is kept: all, where it is mixed or is the request itself
-pub record Settled (r : PlainRecording) (k : Identifier) (n : ℕ) (q : Pdu) (kept : Kept) : Type 0 where
+pub record Settled (r : PlainRecording) (k : Identifier) (n : ℕ) (q : Pdu) (kept : KeptIdentifier) : Type 0 where
   pub reused : kept.mixed ≡ is_reused r.setting.exercise q (log_before r k.station n)
   pub after : kept_under r k (suc n) ≡ Some kept
 
-pub settled : (r : PlainRecording) (k : Identifier) (n : ℕ) (q : Pdu) (kept : Kept) → request_at r k n ≡ Some q → kept ≡ taken_first r k n
+pub settled : (r : PlainRecording) (k : Identifier) (n : ℕ) (q : Pdu) (kept : KeptIdentifier) → request_at r k n ≡ Some q → kept ≡ taken_first r k n
     → (kept.mixed || nat_eq kept.first n) ≡ true → Settled r k n q kept
 settled r k n q kept at is so =
     let reused : (taken_first r k n).mixed ≡ used r k.station q n =
@@ -435,11 +435,11 @@ settled r k n q kept at is so =
     → (unwrap_or (option_map (kept_of r k n) o) (record { first = n; mixed = false })).mixed ≡ used r k.station q n) [
       | None ↦ λ none _. sym (unused r k.station k.request q (request_has r k n q at) n none)
       | Some j ↦ λ first so. by_first j (first_is r k n j first) so
-    ] refl (subst (λ (x : Kept). (x.mixed || nat_eq x.first n) ≡ true) is so) in
+    ] refl (subst (λ (x : KeptIdentifier). (x.mixed || nat_eq x.first n) ≡ true) is so) in
     record {
-      reused = ap (λ (x : Kept). x.mixed) is ∙ reused;
+      reused = ap (λ (x : KeptIdentifier). x.mixed) is ∙ reused;
       after = kept_more r k n q at ∙ ap (λ (b : Bool). Some (record { first = (taken_first r k n).first; mixed = b })) (sym reused)
-          ∙ ap (λ (x : Kept). Some x) (sym is);
+          ∙ ap (λ (x : KeptIdentifier). Some x) (sym is);
     }
   where
     by_first : (j : ℕ) → (j < n) × (is_some (request_at r k j) ≡ true) → (is_mixed r k n j || nat_eq j n) ≡ true → is_mixed r k n j ≡ used r k.station q n
@@ -461,16 +461,16 @@ settled r k n q kept at is so =
         below l = grind (arith, nat_tests)
 
 -- else the first tells
-pub record Unsettled (r : PlainRecording) (k : Identifier) (n : ℕ) (q : Pdu) (kept : Kept) : Type 0 where
+pub record Unsettled (r : PlainRecording) (k : Identifier) (n : ℕ) (q : Pdu) (kept : KeptIdentifier) : Type 0 where
   pub earlier : kept.first < n
   pub reused : option_map_or (other q) (option_and_then (meant_by_send r.setting.exercise) (own_event r k.station kept.first)) false
       ≡ is_reused r.setting.exercise q (log_before r k.station n)
   pub after : kept_under r k (suc n) ≡ Some (record { first = kept.first; mixed = is_reused r.setting.exercise q (log_before r k.station n) })
 
-pub unsettled : (r : PlainRecording) (k : Identifier) (n : ℕ) (q : Pdu) (kept : Kept) → request_at r k n ≡ Some q → kept ≡ taken_first r k n
+pub unsettled : (r : PlainRecording) (k : Identifier) (n : ℕ) (q : Pdu) (kept : KeptIdentifier) → request_at r k n ≡ Some q → kept ≡ taken_first r k n
     → kept.mixed ≡ false → nat_eq kept.first n ≡ false → Unsettled r k n q kept
 unsettled r k n q kept at is pure far =
-    subst (λ (x : Kept). Unsettled r k n q x) (sym is)
+    subst (λ (x : KeptIdentifier). Unsettled r k n q x) (sym is)
     (elim (first_request r k n) as (λ o. first_request r k n ≡ o
     → (unwrap_or (option_map (kept_of r k n) o) (record { first = n; mixed = false })).mixed ≡ false
     → nat_eq (unwrap_or (option_map (kept_of r k n) o) (record { first = n; mixed = false })).first n ≡ false
@@ -479,7 +479,7 @@ unsettled r k n q kept at is pure far =
     → Unsettled r k n q (unwrap_or (option_map (kept_of r k n) o) (record { first = n; mixed = false }))) [
       | None ↦ λ _ _ far _. absurd (cc (sym far ∙ eq-eqb n n refl))
       | Some j ↦ λ first pure _ after. by_first j (first_is r k n j first) pure after
-    ] refl (subst (λ (x : Kept). x.mixed ≡ false) is pure) (subst (λ (x : Kept). nat_eq x.first n ≡ false) is far) (kept_more r k n q at))
+    ] refl (subst (λ (x : KeptIdentifier). x.mixed ≡ false) is pure) (subst (λ (x : KeptIdentifier). nat_eq x.first n ≡ false) is far) (kept_more r k n q at))
   where
     by_first : (j : ℕ) → (j < n) × (is_some (request_at r k j) ≡ true) → is_mixed r k n j ≡ false
         → kept_under r k (suc n) ≡ Some (record { first = j; mixed = used r k.station q n }) → Unsettled r k n q (kept_of r k n j)

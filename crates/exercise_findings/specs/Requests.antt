@@ -13,7 +13,7 @@ use Rattle.exercise_model.specs.Meaning.{meaning}
 use Rattle.exercise_model.specs.Cause.{is_reused}
 use Rattle.exercise_model.specs.Place.{first_below, log_before}
 use Rattle.exercise_findings.specs.declared.requests.Identifier.{Identifier}
-use Rattle.exercise_findings.specs.declared.requests.Kept.{Kept}
+use Rattle.exercise_findings.specs.declared.requests.KeptIdentifier.{KeptIdentifier}
 
 -- two identifiers are the same
 abbrev pub same_identifier : Identifier → Identifier → Bool
@@ -46,15 +46,15 @@ abbrev pub is_mixed : PlainRecording → Identifier → ℕ → ℕ → Bool
 is_mixed r k n j = option_map_or (λ f. is_reused r.setting.exercise f (log_before r k.station n)) (request_at r k j) false
 
 -- what is kept of an identifier: the entry of its first request below n, and whether it is used for another order
-abbrev pub kept_of : PlainRecording → Identifier → ℕ → ℕ → Kept
+abbrev pub kept_of : PlainRecording → Identifier → ℕ → ℕ → KeptIdentifier
 kept_of r k n j = record { first = j; mixed = is_mixed r k n j }
 
-abbrev pub kept_under : PlainRecording → Identifier → ℕ → Option Kept
+abbrev pub kept_under : PlainRecording → Identifier → ℕ → Option KeptIdentifier
 kept_under r k n = option_map (kept_of r k n) (first_request r k n)
 
 -- what notes them
 abbrev pub Requests : Type 0
-Requests = IndexMap Identifier Kept (BuildHasherDefault DefaultHasher)
+Requests = IndexMap Identifier KeptIdentifier (BuildHasherDefault DefaultHasher)
 
 -- THE TIE: under each identifier the table has what is kept of it
 abbrev pub AreRequests : PlainRecording → ℕ → Requests → Type 0

@@ -10,7 +10,7 @@ ghost use Rattle.exercise_model.specs.Cause.{is_other_order, is_reused};
 ghost use Rattle.exercise_model.specs.Place.{log_before, own_event};
 ghost use Rattle.exercise_findings.specs.Sent.{meant_by_send};
 ghost use Rattle.exercise_findings.specs.declared.requests.Identifier.{Identifier};
-ghost use Rattle.exercise_findings.specs.declared.requests.Kept.{Kept};
+ghost use Rattle.exercise_findings.specs.declared.requests.KeptIdentifier.{KeptIdentifier};
 ghost use Rattle.exercise_findings.specs.Requests.{same_identifier, identifier_of, AreRequests, IsSendOf};
 
 use crate::change::sent_by;
@@ -31,7 +31,7 @@ pub(crate) struct Identifier {
 
 /// What is kept of the requests under one identifier.
 #[derive(Clone, Copy)]
-pub(crate) struct Kept {
+pub(crate) struct KeptIdentifier {
     /// The entry of the first of them.
     pub first: u32,
     /// Whether one of them is another order than the first.
@@ -39,7 +39,7 @@ pub(crate) struct Kept {
 }
 
 /// What is kept under each identifier.
-pub(crate) type Requests = Table<Identifier, Kept>;
+pub(crate) type Requests = Table<Identifier, KeptIdentifier>;
 
 /// No requests. It takes no memory.
 pub(crate) fn no_requests(alloc: Global) -> Requests
@@ -65,7 +65,7 @@ fn identifier_of(station: u16, pdu: &PduView<'_>) -> Option<Identifier>
 fn keep_mixed(requests: &mut Requests, identifier: Identifier, first: u32) -> Result<(), AllocError>
     ensures { OnOk result ((k : Identifier) → get same_identifier requests.new k ≡ (if same_identifier identifier k then Some (record { first = first; mixed = true }) else get same_identifier requests.old k)) }
 {
-    requests.insert(identifier, Kept { first, mixed: true })?;
+    requests.insert(identifier, KeptIdentifier { first, mixed: true })?;
     Ok(())
 }
 
@@ -99,7 +99,7 @@ pub(crate) fn note_request<L: ExerciseLog>(
     let Some(identifier) = identifier_of(station, pdu) else {
         return Ok(false);
     };
-    let only = Kept {
+    let only = KeptIdentifier {
         first: entry as u32,
         mixed: false,
     };

@@ -17,7 +17,7 @@ use Rattle.siman_application.specs.Outfit.{Outfit}
 use Rattle.siman_application.specs.Distinct.{Placed, is_for, is_under_key, first_under, distinct}
 use Rattle.siman_application.specs.Answer.{Knowledge, answer}
 use Rattle.siman_application.specs.Play.{known, reply}
-use Rattle.siman_application.specs.OwnLog.{Turn, Tells, Orders, Passes, Takes, Loses, taken_in, sent_after, log_in}
+use Rattle.siman_application.specs.OwnLog.{OwnTurn, Tells, Orders, Passes, Takes, Loses, taken_in, sent_after, log_in}
 use Rattle.siman_application.proofs.Answered.{for_parts, is_answer, answer_stamped, outside}
 use Rattle.siman_application.proofs.Played.{IsKeyOf, other_key}
 use Rattle.siman_application.proofs.Replies.{for_at}
@@ -155,7 +155,7 @@ acks_taken a r p q s stamp n k b qs log to key text (Fresh own none reply_is sam
     ∙ sym (ap (acked_as a n k) (ap (first_under r) same ∙ first_more r q (distinct a qs)))
 
 -- WHICH ACKNOWLEDGES a log of turns sends under the key of an answer to r: those of the first of the distinct requests under the key of r
-pub acks_turns : (a : Outfit) (s : ℕ) (ts : List Turn) → AreMeant a true ts → (r p : Pdu) → GoesTo r p → (n : ℕ) (k : AcknowledgeKey) → IsKeyOf k p
+pub acks_turns : (a : Outfit) (s : ℕ) (ts : List OwnTurn) → AreMeant a true ts → (r p : Pdu) → GoesTo r p → (n : ℕ) (k : AcknowledgeKey) → IsKeyOf k p
     → was_acknowledged a.exercise n k (log_in a s ts) ≡ acked_as a n k (first_under r (distinct a (taken_in ts)))
 acks_turns a s [] are r p to n k key = ack_start a.exercise n k ∙ sym (ap (acked_as a n k) (none_under r))
 acks_turns a s (Tells e y ∷ ts) are r p to n k key = ack_tell a.exercise n k s e y (log_in a s ts) ∙ acks_turns a s ts are r p to n k key

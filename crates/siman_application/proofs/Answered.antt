@@ -29,7 +29,7 @@ use Rattle.siman_application.specs.Distinct.{is_for}
 use Rattle.siman_application.specs.Answer.{Knowledge, has_place, is_free, chosen, is_meant, own_number, answer_pdu, plain_answer, created, obeyed, data_answer, held_records, told_of, ids_of, answer_by, answer, with_stamp}
 use Rattle.exercise_model.specs.State.{change_of}
 use Rattle.siman_application.specs.Listed.{IsPossible}
-use Rattle.siman_application.proofs.Cut.{cut_is}
+use Rattle.siman_application.proofs.DataThatFits.{cut_is}
 
 pub equal_self : (n : ℕ) → (n == n) ≡ true
 equal_self n = grind (arith, nat_tests)

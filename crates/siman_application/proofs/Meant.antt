@@ -11,7 +11,7 @@ use Rattle.exercise_model.specs.Meaning.{meaning}
 use Rattle.siman_application.specs.Outfit.{Outfit}
 use Rattle.siman_application.specs.Ranges.{IsOutfitInRange}
 use Rattle.siman_application.specs.Play.{reply}
-use Rattle.siman_application.specs.OwnLog.{Turn, Tells, Orders, Passes, Takes, Loses, taken_in, IsOrder, IsRead, is_due, AreTurns}
+use Rattle.siman_application.specs.OwnLog.{OwnTurn, Tells, Orders, Passes, Takes, Loses, taken_in, IsOrder, IsRead, is_due, AreTurns}
 use Rattle.siman_application.proofs.Answered.{equal_self}
 use Rattle.siman_application.proofs.Replies.{Each, reply_read}
 use Rattle.siman_application.proofs.Meanings.{request_means}
@@ -31,7 +31,7 @@ pub record IsOrdered (a : Outfit) (p : Pdu) : Type 0 where
   pub request : is_request_body p.body ≡ true
 
 -- the turns, where `later` says that a reply is due later on
-abbrev pub AreMeant : Outfit → Bool → List Turn → Type 0
+abbrev pub AreMeant : Outfit → Bool → List OwnTurn → Type 0
 AreMeant a later [] = Unit {0}
 AreMeant a later (Tells e y ∷ ts) = AreMeant a later ts
 AreMeant a later (Orders p ∷ ts) = IsOrdered a p × AreMeant a later ts
@@ -48,7 +48,7 @@ ordered a p is = record {
   request = is.request;
 }
 
-pub taken_in_range : (a : Outfit) (later : Bool) (ts : List Turn) → AreTurns a later ts → Each IsInRange (taken_in ts)
+pub taken_in_range : (a : Outfit) (later : Bool) (ts : List OwnTurn) → AreTurns a later ts → Each IsInRange (taken_in ts)
 taken_in_range a later [] are = tt
 taken_in_range a later (Tells e y ∷ ts) are = taken_in_range a later ts are
 taken_in_range a later (Orders p ∷ ts) are = taken_in_range a later ts are.1
@@ -57,7 +57,7 @@ taken_in_range a later (Takes b q stamp ∷ ts) are = ((taken b q are.0).ranges,
 taken_in_range a later (Loses b q stamp ∷ ts) are = ((taken b q are.0).ranges, taken_in_range a true ts are.4)
 
 -- THE TURNS OF A STATION ARE MEANT
-pub meant_turns : (a : Outfit) → IsOutfitInRange a → (later : Bool) (ts : List Turn) → AreTurns a later ts → AreMeant a later ts
+pub meant_turns : (a : Outfit) → IsOutfitInRange a → (later : Bool) (ts : List OwnTurn) → AreTurns a later ts → AreMeant a later ts
 meant_turns a own later [] are = tt
 meant_turns a own later (Tells e y ∷ ts) are = meant_turns a own later ts are
 meant_turns a own later (Orders p ∷ ts) are = (ordered a p are.0, meant_turns a own later ts are.1)

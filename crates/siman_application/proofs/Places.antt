@@ -12,7 +12,7 @@ use Rattle.siman_pdus.specs.Role.{request_id_of}
 use Rattle.siman_application.specs.declared.kept.KeptRequest.{KeptRequest}
 use Rattle.siman_application.specs.declared.kept.RequestKey.{RequestKey}
 use Rattle.siman_application.specs.Distinct.{Placed, is_under_key, first_under}
-use Rattle.siman_application.specs.Kept.{IsKey, AreKeyed, IsPlace, kept_after, requests, requests_before, stamped, stamped_at}
+use Rattle.siman_application.specs.KeptRequests.{IsKey, AreKeyed, IsPlace, kept_after, requests, requests_before, stamped, stamped_at}
 
 -- The first request under a key, looked for from the oldest on.
 

@@ -33,7 +33,7 @@ use Rattle.siman_application.specs.Outfit.{Outfit}
 use Rattle.siman_application.specs.Distinct.{Placed, is_for, is_under_key, first_under}
 use Rattle.siman_application.specs.Answer.{Knowledge, answer_by, answer}
 use Rattle.siman_application.specs.Listed.{IsPossible, after}
-use Rattle.siman_application.specs.Kept.{AreFor, AreSpelled}
+use Rattle.siman_application.specs.KeptRequests.{AreFor, AreSpelled}
 use Rattle.siman_application.specs.Play.{is_for_entities, play, known, state_over}
 use Rattle.siman_application.proofs.Answered.{IsFor, IsAnswer, for_parts, is_answer, equal_self, outside}
 

@@ -31,10 +31,10 @@ use Rattle.siman_application.specs.Ranges.{IsOutfitInRange}
 use Rattle.siman_application.specs.Records.{fixed_id, variable_id, last_under, stored, found, fitting, cut_records}
 use Rattle.siman_application.specs.Distinct.{Placed, is_for, is_under_key, first_under, distinct}
 use Rattle.siman_application.specs.Answer.{Knowledge, chosen, is_meant, own_number, answer_pdu, plain_answer, created, obeyed, no_datums, data_answer, held_records, told_of, ids_of, brought, answer_by, answer}
-use Rattle.siman_application.specs.Kept.{AreFor}
+use Rattle.siman_application.specs.KeptRequests.{AreFor}
 use Rattle.siman_application.specs.Play.{is_for_entities, fixed_after, variable_after, known, answer_under, reply_after, reply}
 use Rattle.siman_application.proofs.Answered.{for_parts, is_answer, is_chosen, outside}
-use Rattle.siman_application.proofs.Cut.{cut_is, cut_fits, data_size}
+use Rattle.siman_application.proofs.DataThatFits.{cut_is, cut_fits, data_size}
 
 -- Records under identifiers.
 

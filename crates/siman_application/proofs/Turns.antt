@@ -19,7 +19,7 @@ use Rattle.siman_application.specs.Outfit.{Outfit}
 use Rattle.siman_application.specs.Distinct.{Placed, is_for, is_under_key, first_under, with_request, distinct}
 use Rattle.siman_application.specs.Answer.{answer}
 use Rattle.siman_application.specs.Play.{known, reply, reply_after, answer_under}
-use Rattle.siman_application.specs.OwnLog.{Turn, Tells, Orders, Passes, Takes, Loses, taken_in, sent_after, log_in, is_due}
+use Rattle.siman_application.specs.OwnLog.{OwnTurn, Tells, Orders, Passes, Takes, Loses, taken_in, sent_after, log_in, is_due}
 use Rattle.siman_application.proofs.Answered.{for_parts}
 use Rattle.siman_application.proofs.Played.{equal_swaps, pair_swaps}
 use Rattle.siman_application.proofs.Meanings.{taken_means}
@@ -194,7 +194,7 @@ course a ds q stamp = course_by a ds q stamp (is_for a q) refl (first_under q ds
 -- The request that is taken up.
 
 -- each datagram that was passed and means a request for the station under the key of q is the same order
-abbrev pub PassedAlike : Outfit → Pdu → List Turn → Type 0
+abbrev pub PassedAlike : Outfit → Pdu → List OwnTurn → Type 0
 PassedAlike a q [] = Unit {0}
 PassedAlike a q (Tells e y ∷ ts) = PassedAlike a q ts
 PassedAlike a q (Orders o ∷ ts) = PassedAlike a q ts
@@ -204,7 +204,7 @@ PassedAlike a q (Takes b p stamp ∷ ts) = PassedAlike a q ts
 PassedAlike a q (Loses b p stamp ∷ ts) = PassedAlike a q ts
 
 -- what is taken is the same order as what was passed before under its key
-abbrev pub AreSettled : Outfit → List Turn → Type 0
+abbrev pub AreSettled : Outfit → List OwnTurn → Type 0
 AreSettled a [] = Unit {0}
 AreSettled a (Tells e y ∷ ts) = AreSettled a ts
 AreSettled a (Orders o ∷ ts) = AreSettled a ts
@@ -213,7 +213,7 @@ AreSettled a (Takes b q stamp ∷ ts) = (is_for a q ≡ true → PassedAlike a q
 AreSettled a (Loses b q stamp ∷ ts) = (is_for a q ≡ true → PassedAlike a q ts) × AreSettled a ts
 
 -- what is taken up by an answer to r, where the first of the distinct requests under its key is this: the same order as that; without one, at most what was passed
-abbrev pub TakesUp : Outfit → Pdu → List Turn → Option Placed → Option Pdu → Type 0
+abbrev pub TakesUp : Outfit → Pdu → List OwnTurn → Option Placed → Option Pdu → Type 0
 TakesUp a r ts None None = Unit {0}
 TakesUp a r ts None (Some f) = (is_under_key r f ≡ true) × ((q : Pdu) → PassedAlike a q ts → is_under_key q f ≡ true → IsSameOrder f q)
 TakesUp a r ts (Some g) None = ⊥
@@ -265,7 +265,7 @@ pub same_itself : (q : Pdu) → IsSameOrder q q
 same_itself q = refl
 
 -- a passed datagram
-up_passed : (a : Outfit) (r p : Pdu) (b : List ℕ) (ts : List Turn) (o : Option Placed) (u c : Option Pdu) → Brought a r p b c → TakesUp a r ts o u
+up_passed : (a : Outfit) (r p : Pdu) (b : List ℕ) (ts : List OwnTurn) (o : Option Placed) (u c : Option Pdu) → Brought a r p b c → TakesUp a r ts o u
     → TakesUp a r (Passes b ∷ ts) o (option_or u c)
 up_passed a r p b ts None None c (Nothing e) up = subst (TakesUp a r (Passes b ∷ ts) None) (sym e) tt
 up_passed a r p b ts None None c (Request f e m own under) up =
@@ -297,7 +297,7 @@ brings_it a r p q s b goes e own under =
     ∙ ap (λ (v : Bool). if v then Some q else None) (under_asked a r p q goes own under)
 
 -- the same, after more turns that pass nothing
-up_later : (a : Outfit) (r : Pdu) (ts us : List Turn) → ((q : Pdu) → PassedAlike a q us → PassedAlike a q ts) → (o : Option Placed) (u : Option Pdu)
+up_later : (a : Outfit) (r : Pdu) (ts us : List OwnTurn) → ((q : Pdu) → PassedAlike a q us → PassedAlike a q ts) → (o : Option Placed) (u : Option Pdu)
     → TakesUp a r ts o u → TakesUp a r us o u
 up_later a r ts us less None None up = tt
 up_later a r ts us less None (Some f) up = (up.0, λ q alike u. up.1 q (less q alike) u)
@@ -305,19 +305,19 @@ up_later a r ts us less (Some g) None up = absurd up
 up_later a r ts us less (Some g) (Some f) up = up
 
 -- nothing new is taken up
-up_kept : (a : Outfit) (r : Pdu) (ts : List Turn) (o : Option Placed) (u c : Option Pdu) → (o ≡ None → c ≡ None) → TakesUp a r ts o u
+up_kept : (a : Outfit) (r : Pdu) (ts : List OwnTurn) (o : Option Placed) (u c : Option Pdu) → (o ≡ None → c ≡ None) → TakesUp a r ts o u
     → TakesUp a r ts o (option_or u c)
 up_kept a r ts None None c none up = subst (TakesUp a r ts None) (sym (none refl)) tt
 up_kept a r ts None (Some f) c none up = up
 up_kept a r ts (Some g) None c none up = absurd up
 up_kept a r ts (Some g) (Some f) c none up = up
 
-up_joined : (a : Outfit) (r q : Pdu) (ds : List Pdu) (ts : List Turn) (u c : Option Pdu) → PassedAlike a q ts → c ≡ Some q → is_under_key r q ≡ true
+up_joined : (a : Outfit) (r q : Pdu) (ds : List Pdu) (ts : List OwnTurn) (u c : Option Pdu) → PassedAlike a q ts → c ≡ Some q → is_under_key r q ≡ true
     → TakesUp a r ts None u → TakesUp a r ts (Some (record { request = q; before = ds })) (option_or u c)
 up_joined a r q ds ts None c alike is under up = subst (TakesUp a r ts (Some (record { request = q; before = ds }))) (sym is) (same_itself q)
 up_joined a r q ds ts (Some f) c alike is under up = up.1 q alike (sym (under_same r q f (same_key_of r q under)) ∙ up.0)
 
-up_fresh : (a : Outfit) (r q : Pdu) (ds : List Pdu) (ts : List Turn) (o : Option Placed) (u c : Option Pdu) → PassedAlike a q ts → TakesUp a r ts o u
+up_fresh : (a : Outfit) (r q : Pdu) (ds : List Pdu) (ts : List OwnTurn) (o : Option Placed) (u c : Option Pdu) → PassedAlike a q ts → TakesUp a r ts o u
     → (b : Bool) → is_under_key r q ≡ b
     → (b ≡ true → c ≡ Some q) → (b ≡ false → c ≡ None)
     → TakesUp a r ts (option_or o (if b then Some (record { request = q; before = ds }) else None)) (option_or u c)
@@ -330,7 +330,7 @@ up_fresh a r q ds ts (Some g) (Some f) c alike up b under is none = up
 known_key : (a : Outfit) (r q : Pdu) (ds : List Pdu) (f : Placed) → first_under q ds ≡ Some f → first_under r ds ≡ None → is_under_key r q ≡ true → ⊥
 known_key a r q ds f first none under = let clash : None ≡ Some f = sym none ∙ first_same r q (same_key_of r q under) ds ∙ first in absurd cc
 
-up_taken : (a : Outfit) (r p q : Pdu) (s stamp : ℕ) (b : List ℕ) (ds : List Pdu) (ts : List Turn) (u : Option Pdu) → GoesTo r p → reading b ≡ Some q
+up_taken : (a : Outfit) (r p q : Pdu) (s stamp : ℕ) (b : List ℕ) (ds : List Pdu) (ts : List OwnTurn) (u : Option Pdu) → GoesTo r p → reading b ≡ Some q
     → (is_for a q ≡ true → PassedAlike a q ts) → Course a ds q stamp
     → TakesUp a r ts (first_under r ds) u
     → TakesUp a r ts (first_under r (with_request a ds q)) (option_or u (request_brought a.exercise a.station.address p (Get s b)))
@@ -362,7 +362,7 @@ unfolding first_under request_taken_up
 up_start a r p s = tt
 
 -- THE REQUEST THAT IS TAKEN UP in a log of turns
-pub up_turns : (a : Outfit) (s : ℕ) (later : Bool) (ts : List Turn) → AreMeant a later ts → AreSettled a ts → (r p : Pdu) → GoesTo r p
+pub up_turns : (a : Outfit) (s : ℕ) (later : Bool) (ts : List OwnTurn) → AreMeant a later ts → AreSettled a ts → (r p : Pdu) → GoesTo r p
     → TakesUp a r ts (first_under r (distinct a (taken_in ts))) (request_taken_up a.exercise a.station.address p (log_in a s ts))
 up_turns a s later [] are settled r p goes = up_start a r p s
 up_turns a s later (Tells e y ∷ ts) are settled r p goes =

@@ -4,8 +4,8 @@ use Rattle.std.specs.Borrow.{MutBor, Bor, Fml}
 use Rattle.std.specs.Io.BufRead.{Rests}
 use Rattle.siman_pdus.specs.declared.pdu.Pdu.{Pdu}
 use Rattle.siman_application.specs.declared.fault.AppFault.{AppFault}
-use Rattle.siman_application.specs.Standing.{Standing, Leaves}
+use Rattle.siman_application.specs.Application.{ApplicationData, Leaves}
 use Rattle.siman_application.specs.contracts.application.Application.{the_row}
 
-abbrev pub EndsTaken : MutBor Standing → Pdu → Result (Option (Bor Pdu)) AppFault → Fml
+abbrev pub EndsTaken : MutBor ApplicationData → Pdu → Result (Option (Bor Pdu)) AppFault → Fml
 EndsTaken s q result = Rests the_row s (λ new. Leaves s.now q result new)

@@ -5,9 +5,9 @@ pub mod Holding
 pub mod Answer
 pub mod Play
 pub mod Listed
-pub mod Kept
+pub mod KeptRequests
 pub mod Knows
-pub mod Standing
+pub mod Application
 pub mod Ranges
 pub mod Lending
 pub mod OwnLog

@@ -18,20 +18,20 @@ use Rattle.siman_application.specs.Play.{reply}
 use Rattle.siman_application.specs.Ranges.{IsOutfitInRange}
 
 -- what a station does in one turn
-pub data Turn : Type 0 where
+pub data OwnTurn : Type 0 where
   -- it tells the state of an entity
-  Tells : (entity : ℕ) (state : EntityState) → Turn
+  Tells : (entity : ℕ) (state : EntityState) → OwnTurn
   -- its manager half sends an order
-  Orders : (order : Pdu) → Turn
+  Orders : (order : Pdu) → OwnTurn
   -- it gets a datagram that its application does not take
-  Passes : (bytes : List ℕ) → Turn
+  Passes : (bytes : List ℕ) → OwnTurn
   -- it gets a datagram whose PDU its application takes, and sends the reply at once with this timestamp, if one is due
-  Takes : (bytes : List ℕ) (pdu : Pdu) (stamp : ℕ) → Turn
+  Takes : (bytes : List ℕ) (pdu : Pdu) (stamp : ℕ) → OwnTurn
   -- the same, and the reply that is due is not sent
-  Loses : (bytes : List ℕ) (pdu : Pdu) (stamp : ℕ) → Turn
+  Loses : (bytes : List ℕ) (pdu : Pdu) (stamp : ℕ) → OwnTurn
 
 -- the PDUs that the application took in these turns, the last first
-abbrev pub taken_in : List Turn → List Pdu
+abbrev pub taken_in : List OwnTurn → List Pdu
 taken_in [] = []
 taken_in (Tells e y ∷ ts) = taken_in ts
 taken_in (Orders p ∷ ts) = taken_in ts
@@ -45,7 +45,7 @@ sent_after s None log = log
 sent_after s (Some p) log = Send s (pdu_text p) ∷ log
 
 -- THE LOG OF THESE TURNS at station s
-abbrev pub log_in : Outfit → ℕ → List Turn → History
+abbrev pub log_in : Outfit → ℕ → List OwnTurn → History
 log_in a s [] = []
 log_in a s (Tells e y ∷ ts) = Tell s e y ∷ log_in a s ts
 log_in a s (Orders p ∷ ts) = Send s (pdu_text p) ∷ log_in a s ts
@@ -66,11 +66,11 @@ pub record IsRead (b : List ℕ) (q : Pdu) : Type 0 where
   pub read : reading b ≡ Some q
 
 -- a reply is due to a PDU that is taken after these turns
-abbrev pub is_due : Outfit → List Turn → Pdu → ℕ → Bool
+abbrev pub is_due : Outfit → List OwnTurn → Pdu → ℕ → Bool
 is_due a ts q stamp = is_some (reply a (taken_in ts) q stamp)
 
 -- THE TURNS OF A STATION, where `later` says that a reply is due later on. What it orders is an order, what it takes is read so, and no reply is missing but the last that is due.
-abbrev pub AreTurns : Outfit → Bool → List Turn → Type 0
+abbrev pub AreTurns : Outfit → Bool → List OwnTurn → Type 0
 AreTurns a later [] = Unit {0}
 AreTurns a later (Tells e y ∷ ts) = AreTurns a later ts
 AreTurns a later (Orders p ∷ ts) = IsOrder a p × AreTurns a later ts
@@ -79,14 +79,14 @@ AreTurns a later (Takes b q stamp ∷ ts) = IsRead b q × (stamp < 2 ^ 32) × Ar
 AreTurns a later (Loses b q stamp ∷ ts) = IsRead b q × (stamp < 2 ^ 32) × (is_due a ts q stamp ≡ true) × (later ≡ false) × AreTurns a true ts
 
 -- A LOG THAT SUCH A STATION WRITES in these turns, and the PDUs that its application took
-pub record IsOwnLog (a : Outfit) (s : ℕ) (ts : List Turn) (h : History) (qs : List Pdu) : Type 0 where
+pub record IsOwnLog (a : Outfit) (s : ℕ) (ts : List OwnTurn) (h : History) (qs : List Pdu) : Type 0 where
   pub outfit : IsOutfitInRange a
   pub turns : AreTurns a false ts
   pub log_is : log_in a s ts ≡ h
   pub taken_is : taken_in ts ≡ qs
 
 -- no reply is missing
-abbrev pub MissNone : List Turn → Type 0
+abbrev pub MissNone : List OwnTurn → Type 0
 MissNone [] = Unit {0}
 MissNone (Tells e y ∷ ts) = MissNone ts
 MissNone (Orders p ∷ ts) = MissNone ts
@@ -95,7 +95,7 @@ MissNone (Takes b q stamp ∷ ts) = MissNone ts
 MissNone (Loses b q stamp ∷ ts) = ⊥
 
 -- the application took each PDU that came
-abbrev pub TakesAll : List Turn → Type 0
+abbrev pub TakesAll : List OwnTurn → Type 0
 TakesAll [] = Unit {0}
 TakesAll (Tells e y ∷ ts) = TakesAll ts
 TakesAll (Orders p ∷ ts) = TakesAll ts
@@ -117,7 +117,7 @@ AreOneOrder a h =
     → is_request_body p.body ≡ true → is_request_body q.body ≡ true → is_under_key q p ≡ true → IsSameOrder p q
 
 -- One of the two: so the first request under a key that a log gets is the order that the application answers.
-abbrev pub IsClear : Outfit → List Turn → History → Type 0
+abbrev pub IsClear : Outfit → List OwnTurn → History → Type 0
 IsClear a ts h = TakesAll ts ⊎ AreOneOrder a h
 
 -- No answer that the log sends has a cause against it, after the events before it.

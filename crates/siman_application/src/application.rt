@@ -11,7 +11,7 @@ ghost use Rattle.siman_pdus.specs.Spelling.{HasCarriedStatus, pdu_size};
 ghost use Rattle.siman_application.specs.Lending.{EndsTaken};
 ghost use Rattle.siman_application.specs.Play.{state_over, fixed_after, variable_after, reply_after};
 ghost use Rattle.siman_application.specs.Ranges.{IsOutfitInRange};
-ghost use Rattle.siman_application.specs.Standing.{Standing, Leaves, came, is_new};
+ghost use Rattle.siman_application.specs.Application.{ApplicationData, Leaves, came, is_new};
 
 use crate::entities::Entities;
 use crate::entity_list::MOST_ENTITIES;
@@ -42,13 +42,13 @@ pub struct Application {
 }
 
 impl Model for Application {
-    ghost use Rattle.siman_application.specs.Standing.{Standing};
+    ghost use Rattle.siman_application.specs.Application.{ApplicationData};
 
-    ghost Value = { Standing };
+    ghost Value = { ApplicationData };
 
     ghost use Rattle.indexmap.specs.IndexMap.{values};
     ghost use Rattle.siman_application.specs.Holding.{held_in};
-    ghost use Rattle.siman_application.specs.Kept.{AreRight};
+    ghost use Rattle.siman_application.specs.KeptRequests.{AreRight};
 
     ghost view = { λ a. record { outfit = a.outfit; kept = values a.kept } };
 

@@ -4,7 +4,7 @@ ghost use Rattle.std.specs.Prelude.{◌≡◌, ◌<◌, ◌++◌, [], ◌∷◌,
 ghost use Rattle.indexmap.specs.IndexMap.{values, index_map_len, spare};
 ghost use Rattle.siman_pdus.specs.Role.{is_request_body};
 ghost use Rattle.siman_application.specs.Distinct.{first_under};
-ghost use Rattle.siman_application.specs.Kept.{IsKey, AreKeyed, IsPlace, requests, stamped_at};
+ghost use Rattle.siman_application.specs.KeptRequests.{IsKey, AreKeyed, IsPlace, requests, stamped_at};
 ghost use Rattle.siman_application.specs.declared.kept.KeptRequest.{KeptRequest};
 
 use indexmap::IndexMap;

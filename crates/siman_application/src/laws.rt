@@ -8,16 +8,16 @@ ghost use Rattle.exercise_model.specs.State.{state_after};
 ghost use Rattle.siman_application.specs.Outfit.{Outfit};
 ghost use Rattle.siman_application.specs.Distinct.{is_for, first_under, distinct};
 ghost use Rattle.siman_application.specs.Play.{state_over, reply, reply_after};
-ghost use Rattle.siman_application.specs.Standing.{Standing, Takes, came};
-ghost use Rattle.siman_application.specs.OwnLog.{Turn, IsOwnLog, MissNone, IsClear, AnswersStand};
+ghost use Rattle.siman_application.specs.Application.{ApplicationData, Takes, came};
+ghost use Rattle.siman_application.specs.OwnLog.{OwnTurn, IsOwnLog, MissNone, IsClear, AnswersStand};
 
 /// The steps that the contracts of an [`Application`](crate::Application) cite come, over every
 /// list of PDUs, to the distinct requests among them and to the reply that is told by these alone.
 pub fn requests_are_told_once()
     // The requests that are kept after one more PDU are the distinct ones,
-    ensures steps { (old new : Standing) (qs : List Pdu) (q : Pdu) → Takes old q new → came old ≡ distinct old.outfit qs → came new ≡ distinct new.outfit (q ∷ qs) }
+    ensures steps { (old new : ApplicationData) (qs : List Pdu) (q : Pdu) → Takes old q new → came old ≡ distinct old.outfit qs → came new ≡ distinct new.outfit (q ∷ qs) }
     // and the reply is the one that is told of the list of PDUs.
-    ensures reply { (s : Standing) (qs : List Pdu) (q : Pdu) (stamp : ℕ) → came s ≡ distinct s.outfit qs → reply_after s.outfit (came s) q stamp ≡ reply s.outfit qs q stamp }
+    ensures reply { (s : ApplicationData) (qs : List Pdu) (q : Pdu) (stamp : ℕ) → came s ≡ distinct s.outfit qs → reply_after s.outfit (came s) q stamp ≡ reply s.outfit qs q stamp }
     // A PDU that is not for the station, or comes under a known key, leaves what the list leaves without it,
     ensures repeated { (a : Outfit) (q : Pdu) (newer older : List Pdu) → (is_for a q && is_none (first_under q (distinct a older))) ≡ false
         → distinct a (newer ++ q ∷ older) ≡ distinct a (newer ++ older) }
@@ -32,7 +32,7 @@ pub fn requests_are_told_once()
 /// the law asks of numbers is what their types say ([`Application::begin`](crate::Application::begin),
 /// [`siman_pdus::numbers_are_in_range`]).
 pub fn own_logs_stand()
-    ensures answers { (a : Outfit) (s : ℕ) (ts : List Turn) (h : History) (qs : List Pdu) → IsOwnLog a s ts h qs → IsClear a ts h → AnswersStand a h }
-    ensures states { (a : Outfit) (s : ℕ) (ts : List Turn) (h : History) (qs : List Pdu) → IsOwnLog a s ts h qs → IsClear a ts h → MissNone ts
+    ensures answers { (a : Outfit) (s : ℕ) (ts : List OwnTurn) (h : History) (qs : List Pdu) → IsOwnLog a s ts h qs → IsClear a ts h → AnswersStand a h }
+    ensures states { (a : Outfit) (s : ℕ) (ts : List OwnTurn) (h : History) (qs : List Pdu) → IsOwnLog a s ts h qs → IsClear a ts h → MissNone ts
         → (e : ℕ) → state_after a.exercise a.station h e ≡ state_over a (distinct a qs) e }
 {}

@@ -9,7 +9,7 @@ ghost use Rattle.siman_application.specs.Answer.{answer, brought, no_datums};
 ghost use Rattle.siman_application.specs.Holding.{held_by, held_in, stored_in};
 ghost use Rattle.siman_application.specs.Knows.{knows};
 ghost use Rattle.siman_application.specs.Listed.{after, states_in};
-ghost use Rattle.siman_application.specs.Kept.{AreRight, IsKey, requests, stamped_at};
+ghost use Rattle.siman_application.specs.KeptRequests.{AreRight, IsKey, requests, stamped_at};
 ghost use Rattle.siman_application.specs.Play.{known, reply_after};
 
 use crate::answering::{Outcome, answer};

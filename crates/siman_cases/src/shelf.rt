@@ -1,7 +1,7 @@
 //! Files in memory, and what was asked for.
 
 use siman_console::Outside;
-use siman_fixtures::{Calls, File, Given, Kept, found, read_from, write_to};
+use siman_fixtures::{Calls, File, Given, Written, found, read_from, write_to};
 use siman_trials::{WireLine, lines_of};
 use std::alloc::Global;
 use std::io;
@@ -41,7 +41,7 @@ pub(crate) fn filled(
 impl<'a> Outside for Shelf<'a> {
     type File = Given<'a>;
 
-    type Made = Kept;
+    type Made = Written;
 
     type Line = WireLine;
 
@@ -57,7 +57,7 @@ impl<'a> Outside for Shelf<'a> {
         }
     }
 
-    fn make(&mut self, name: &str) -> io::Result<Kept> {
+    fn make(&mut self, name: &str) -> io::Result<Written> {
         self.asked.push_str("make ")?;
         self.asked.push_str(name)?;
         self.asked.push('\n')?;
@@ -72,7 +72,7 @@ impl<'a> Outside for Shelf<'a> {
         }
     }
 
-    fn close(&mut self, file: Kept) {
+    fn close(&mut self, file: Written) {
         self.left = Some(file.bytes);
     }
 

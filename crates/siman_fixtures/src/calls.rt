@@ -58,22 +58,22 @@ impl Read for Given<'_> {
 
 /// What was written by such calls.
 #[derive(Drop)]
-pub struct Kept {
+pub struct Written {
     pub bytes: Vec<u8>,
     calls: Calls,
     made: u64,
 }
 
 /// A writer of such calls, to which nothing was written.
-pub fn write_to(alloc: Global, calls: Calls) -> Kept {
-    Kept {
+pub fn write_to(alloc: Global, calls: Calls) -> Written {
+    Written {
         bytes: Vec::new(alloc),
         calls,
         made: 0,
     }
 }
 
-impl Write for Kept {
+impl Write for Written {
     fn write(&mut self, buf: &[u8]) -> io::Result<usize> {
         self.made = self.made.wrapping_add(1);
         if self.made == self.calls.fails_at {

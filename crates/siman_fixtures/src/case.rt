@@ -3,7 +3,7 @@
 use crate::calls::{Calls, WELL};
 use crate::file::File;
 use crate::lines::{Line, Part};
-use crate::post::{Post, nobody};
+use crate::station_case::{StationCase, nobody};
 use std::alloc::Global;
 use std::io;
 use std::io::{ErrorKind, Write};
@@ -42,7 +42,7 @@ pub struct Case {
     pub asked: Option<String>,
     pub status: u8,
     pub half_told: bool,
-    pub post: Post,
+    pub post: StationCase,
     part: Part,
 }
 

@@ -11,15 +11,15 @@ mod entries;
 mod file;
 mod letter;
 mod lines;
-mod post;
 mod random;
 mod scene;
+mod station_case;
 
-pub use calls::{Calls, Given, Kept, WELL, read_from, write_to};
+pub use calls::{Calls, Given, WELL, Written, read_from, write_to};
 pub use case::{Case, Stream, first};
 pub use entries::{Entries, entries_of};
 pub use file::{File, found};
 pub use lines::{Line, Part, read_line};
-pub use post::{Call, Post};
 pub use random::Random;
 pub use scene::{Deed, ENTITIES, Scene, begin, place_of, station_of};
+pub use station_case::{Call, StationCase};

@@ -1,7 +1,7 @@
 //! The lines of a file of cases.
 
 use crate::calls::Calls;
-use crate::post::Call;
+use crate::station_case::Call;
 use std::io::ErrorKind;
 
 /// What the lines behind it fill.

@@ -1,7 +1,7 @@
 //! Runs of the program on words, files in memory and standard input, where every call goes well.
 
 use siman_console::{Outside, run};
-use siman_fixtures::{Given, Kept, WELL, read_from, write_to};
+use siman_fixtures::{Given, Written, WELL, read_from, write_to};
 use siman_trials::{WireLine, lines_of};
 use std::alloc::Global;
 use std::io;
@@ -21,7 +21,7 @@ struct Table<'a> {
 impl<'a> Outside for Table<'a> {
     type File = Given<'a>;
 
-    type Made = Kept;
+    type Made = Written;
 
     type Line = WireLine;
 
@@ -34,11 +34,11 @@ impl<'a> Outside for Table<'a> {
         Err(io::Error::from(ErrorKind::NotFound))
     }
 
-    fn make(&mut self, _name: &str) -> io::Result<Kept> {
+    fn make(&mut self, _name: &str) -> io::Result<Written> {
         Ok(write_to(self.alloc, WELL))
     }
 
-    fn close(&mut self, file: Kept) {
+    fn close(&mut self, file: Written) {
         self.left = Some(file.bytes);
     }
 
@@ -80,8 +80,8 @@ pub(crate) fn run_words(alloc: Global, words: &[&str], files: Files<'_>, input: 
     let input = read_from(input, WELL);
     let ended = run(alloc, line, &mut table, input, &mut out, &mut errors);
     let Table { left, .. } = table;
-    let Kept { bytes: out, .. } = out;
-    let Kept { bytes: errors, .. } = errors;
+    let Written { bytes: out, .. } = out;
+    let Written { bytes: errors, .. } = errors;
     Ran {
         status: ended.status,
         out,

@@ -29,7 +29,7 @@ use Rattle.exercise_recording.specs.Writer.{WriterState}
 use Rattle.siman_application.specs.Answer.{answer}
 use Rattle.siman_application.specs.Outfit.{Outfit}
 use Rattle.siman_application.specs.Distinct.{distinct}
-use Rattle.siman_application.specs.OwnLog.{Turn, Tells, Orders, Passes, Takes, Loses, taken_in, sent_after, log_in, is_due, AreTurns, HasGet, AreOneOrder, AnswersStand}
+use Rattle.siman_application.specs.OwnLog.{OwnTurn, Tells, Orders, Passes, Takes, Loses, taken_in, sent_after, log_in, is_due, AreTurns, HasGet, AreOneOrder, AnswersStand}
 use Rattle.siman_application.specs.Play.{reply, state_over}
 use Rattle.siman_application.specs.Ranges.{IsOutfitInRange}
 use Rattle.siman_application.proofs.Offered.{read_meant, is_answer, reply_answers, reply_in_range, reply_is_short, taken_in_range, answers_stand, states_stand}
@@ -56,7 +56,7 @@ AreOurs x (Send s b ∷ log) = ((p : Pdu) → meaning x b ≡ Some p → (is_req
 AreOurs x (Get s b ∷ log) = AreOurs x log
 AreOurs x (Tell s e y ∷ log) = AreOurs x log
 
-ours_reply : (a : Outfit) (s : ℕ) (later : Bool) (ts : List Turn) (b : List ℕ) (q : Pdu) (stamp : ℕ) (log : History) → IsOutfitInRange a
+ours_reply : (a : Outfit) (s : ℕ) (later : Bool) (ts : List OwnTurn) (b : List ℕ) (q : Pdu) (stamp : ℕ) (log : History) → IsOutfitInRange a
     → AreTurns a later ts → IsInRange q
     → stamp < 2 ^ 32 → AreOurs a.exercise log → (o : Option Pdu) → reply a (taken_in ts) q stamp ≡ o
     → AreOurs a.exercise (sent_after s o (Get s b ∷ log))
@@ -73,7 +73,7 @@ ours_reply a s later ts b q stamp log own are range h ours (Some p) e = (
       (reply_answers HasCarriedStatus a (taken_in ts) q stamp (λ k d mine. zero_is_carried (answer a k d stamp) (is_answer a k d stamp mine).status)))
       (some_of (λ r. pdu_size r ≤ LARGEST_DATAGRAM) (reply a (taken_in ts) q stamp) p e (reply_is_short a (taken_in ts) q stamp))
 
-ours_turns : (a : Outfit) (s : ℕ) (later : Bool) (ts : List Turn) → IsOutfitInRange a → AreTurns a later ts → AreOurs a.exercise (log_in a s ts)
+ours_turns : (a : Outfit) (s : ℕ) (later : Bool) (ts : List OwnTurn) → IsOutfitInRange a → AreTurns a later ts → AreOurs a.exercise (log_in a s ts)
 ours_turns a s later [] own are = tt
 ours_turns a s later (Tells e y ∷ ts) own are = ours_turns a s later ts own are
 ours_turns a s later (Orders p ∷ ts) own are = (
@@ -152,7 +152,7 @@ told_reply : (x : ℕ) (o : StationData) (s : ℕ) (p : Option Pdu) (b : List �
 told_reply x o s None b log h = h
 told_reply x o s (Some p) b log h = h
 
-told_turns : (a : Outfit) (s : ℕ) (h : History) → IsOutfitInRange a → AreOneOrder a h → (later : Bool) (ts : List Turn) → AreTurns a later ts
+told_turns : (a : Outfit) (s : ℕ) (h : History) → IsOutfitInRange a → AreOneOrder a h → (later : Bool) (ts : List OwnTurn) → AreTurns a later ts
     → TellsOwn a ts
     → ((c : List ℕ) → HasGet (log_in a s ts) c → HasGet h c) → ToldStand a.exercise a.station (log_in a s ts)
 told_turns a s h own one later [] are told on = tt

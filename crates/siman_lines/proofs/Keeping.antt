@@ -17,7 +17,7 @@ use Rattle.exercise_recording.specs.declared.fault.WriterFault.{WriterFault}
 use Rattle.exercise_recording.specs.Writer.{WriterState}
 use Rattle.siman_application.specs.Distinct.{with_request}
 use Rattle.siman_application.specs.Outfit.{Outfit}
-use Rattle.siman_application.specs.Standing.{Standing, came}
+use Rattle.siman_application.specs.Application.{ApplicationData, came}
 use Rattle.siman_manager.specs.declared.order.Order.{Order}
 use Rattle.siman_manager.specs.declared.settings.Settings.{Settings}
 use Rattle.siman_manager.specs.Book.{Book}
@@ -402,7 +402,7 @@ keeps_text s now text n m w new before es old handed h one application settings 
       setting = one.adds.setting;
       closed = λ c. absurd (is_open w (Sent s now text) one.taken c);
       written = written_one before w new es (Sent s now text) (now_stamped now h) written one;
-      outfit = ap (λ (a : Standing). a.outfit) application;
+      outfit = ap (λ (a : ApplicationData). a.outfit) application;
       settings = settings;
       halves = subst (λ (ds : List Pdu). Stand s n.application.outfit ds m.manager (log_at s (past (es ++ Sent s now text ∷ []))) (IsClosed new))
           (sym (ap came application))
@@ -425,7 +425,7 @@ keeps_quiet s before es n m w new old handed written setting closed application 
       setting = setting;
       closed = closed;
       written = subst (IsWritten before new) (sym (append-nil es)) written;
-      outfit = ap (λ (a : Standing). a.outfit) application;
+      outfit = ap (λ (a : ApplicationData). a.outfit) application;
       settings = settings;
       halves = subst (λ (ds : List Pdu). Stand s n.application.outfit ds m.manager (log_at s (past (es ++ []))) (IsClosed new)) (sym (ap came
           application))

@@ -17,7 +17,7 @@ use Rattle.exercise_model.specs.History.{History, Send, Get, Tell}
 use Rattle.siman_application.specs.Answer.{answer}
 use Rattle.siman_application.specs.Distinct.{with_request}
 use Rattle.siman_application.specs.Outfit.{Outfit}
-use Rattle.siman_application.specs.OwnLog.{Turn, Tells, Orders, Passes, Takes, Loses, taken_in, sent_after, AreTurns, IsRead, IsOrder, IsOwnLog, MissNone}
+use Rattle.siman_application.specs.OwnLog.{OwnTurn, Tells, Orders, Passes, Takes, Loses, taken_in, sent_after, AreTurns, IsRead, IsOrder, IsOwnLog, MissNone}
 use Rattle.siman_application.specs.Play.{reply, reply_after, state_over}
 use Rattle.siman_application.proofs.Offered.{is_answer, reply_answers, reply_in_range, reply_is_short, taken_in_range}
 use Rattle.siman_manager.specs.declared.kept.KeptOrder.{KeptOrder}
@@ -39,7 +39,7 @@ use Rattle.siman_lines.specs.Kept.{came_in, Stand}
 -- Turns.
 
 -- where no reply is missing, it does not matter what is due later
-pub any_later : (a : Outfit) (one other : Bool) (ts : List Turn) → MissNone ts → AreTurns a one ts → AreTurns a other ts
+pub any_later : (a : Outfit) (one other : Bool) (ts : List OwnTurn) → MissNone ts → AreTurns a one ts → AreTurns a other ts
 any_later a one other [] none are = tt
 any_later a one other (Tells e y ∷ ts) none are = any_later a one other ts none are
 any_later a one other (Orders p ∷ ts) none are = (are.0, any_later a one other ts none are.1)
@@ -56,7 +56,7 @@ reply_answering a qs q p stamp e =
     is.answers).0))
 
 -- and its text is read as it
-reply_read : (a : Outfit) (s : ℕ) (ts : List Turn) (log : History) (q p : Pdu) (stamp : ℕ) → IsOwnLog a s ts log (taken_in ts) → IsInRange q
+reply_read : (a : Outfit) (s : ℕ) (ts : List OwnTurn) (log : History) (q p : Pdu) (stamp : ℕ) → IsOwnLog a s ts log (taken_in ts) → IsInRange q
     → stamp < 2 ^ 32
     → reply a (taken_in ts) q stamp ≡ Some p → reading (pdu_text p) ≡ Some p
 reply_read a s ts log q p stamp own range h e =
@@ -67,7 +67,7 @@ reply_read a s ts log q p stamp own range h e =
     (reply_answers HasCarriedStatus a (taken_in ts) q stamp (λ k d mine. zero_is_carried (answer a k d stamp) (is_answer a k d stamp mine).status)))
     (some_of (λ r. pdu_size r ≤ LARGEST_DATAGRAM) (reply a (taken_in ts) q stamp) p e (reply_is_short a (taken_in ts) q stamp))
 
-reply_kept : (st : Settings) (calls : List Call) (a : Outfit) (s : ℕ) (ts : List Turn) (log : History) (b : List ℕ) (q : Pdu) (stamp : ℕ)
+reply_kept : (st : Settings) (calls : List Call) (a : Outfit) (s : ℕ) (ts : List OwnTurn) (log : History) (b : List ℕ) (q : Pdu) (stamp : ℕ)
     → IsOwnLog a s ts log (taken_in ts) → IsInRange q → stamp < 2 ^ 32 → AreKept st calls a.exercise log
     → (o : Option Pdu) → reply a (taken_in ts) q stamp ≡ o → AreKept st calls a.exercise (sent_after s o (Get s b ∷ log))
 reply_kept st calls a s ts log b q stamp own range h kept None e = (tt, kept)

@@ -15,9 +15,9 @@ use Rattle.exercise_model.specs.Setting.{SettingData, IsSetting}
 use Rattle.exercise_recording.specs.Text.{head_text, entry_text, end_text}
 use Rattle.exercise_recording.specs.Writer.{WriterState, Starts}
 use Rattle.siman_application.specs.Outfit.{Outfit}
-use Rattle.siman_application.specs.Kept.{requests}
+use Rattle.siman_application.specs.KeptRequests.{requests}
 use Rattle.siman_application.specs.Ranges.{IsOutfitInRange}
-use Rattle.siman_application.specs.Standing.{came}
+use Rattle.siman_application.specs.Application.{came}
 use Rattle.siman_manager.specs.Book.{Book}
 use Rattle.siman_worlds.specs.declared.turn.Node.{Node}
 use Rattle.siman_lines.specs.Told.{Datagrams}

@@ -5,7 +5,7 @@ use Rattle.siman_pdus.specs.Reading.{reading}
 use Rattle.exercise_model.specs.Entry.{Entry, Received}
 use Rattle.exercise_recording.specs.Writer.{WriterState}
 use Rattle.siman_application.specs.Outfit.{Outfit}
-use Rattle.siman_application.specs.Standing.{Standing, came}
+use Rattle.siman_application.specs.Application.{ApplicationData, came}
 use Rattle.siman_manager.specs.Book.{Book}
 use Rattle.siman_worlds.specs.declared.turn.Node.{Node}
 use Rattle.siman_worlds.specs.Recording.{WritesOne}
@@ -46,7 +46,7 @@ pub takes_book : (o : Option Pdu) (old new : Node) → TakesBoth o old new → n
 takes_book None old new t = ap (λ (n : Node). n.manager) t
 takes_book (Some q) old new t = t.1
 
-pub reply_same : (a : Standing) (o : Option Pdu) (stamp : ℕ) → reply_due a o stamp ≡ reply_with a.outfit (came a) o stamp
+pub reply_same : (a : ApplicationData) (o : Option Pdu) (stamp : ℕ) → reply_due a o stamp ≡ reply_with a.outfit (came a) o stamp
 reply_same a None stamp = refl
 reply_same a (Some q) stamp = refl
 

@@ -14,9 +14,9 @@ use Rattle.exercise_recording.specs.Text.{head_text, entry_text}
 use Rattle.exercise_recording.specs.Writer.{WriterState}
 use Rattle.siman_application.specs.Distinct.{distinct}
 use Rattle.siman_application.specs.Outfit.{Outfit}
-use Rattle.siman_application.specs.OwnLog.{Turn, Tells, Orders, Passes, Takes, Loses, taken_in, IsOwnLog, MissNone}
+use Rattle.siman_application.specs.OwnLog.{OwnTurn, Tells, Orders, Passes, Takes, Loses, taken_in, IsOwnLog, MissNone}
 use Rattle.siman_application.specs.Play.{state_over}
-use Rattle.siman_application.specs.Standing.{came}
+use Rattle.siman_application.specs.Application.{came}
 use Rattle.siman_manager.specs.Book.{Book}
 use Rattle.siman_manager.specs.Calls.{Call, Requested, Came, Ticked, kept}
 use Rattle.siman_worlds.specs.declared.turn.Node.{Node}
@@ -71,7 +71,7 @@ came_in (Came p ∷ calls) = p ∷ came_in calls
 came_in (Ticked now stamp ∷ calls) = came_in calls
 
 -- the PDUs of the turns that were done whole
-abbrev pub heard_in : List Turn → List Pdu
+abbrev pub heard_in : List OwnTurn → List Pdu
 heard_in [] = []
 heard_in (Tells e y ∷ ts) = heard_in ts
 heard_in (Orders p ∷ ts) = heard_in ts
@@ -80,7 +80,7 @@ heard_in (Takes b q stamp ∷ ts) = q ∷ heard_in ts
 heard_in (Loses b q stamp ∷ ts) = heard_in ts
 
 -- Each state that is told is that of the application, and no reply is missing before it.
-abbrev pub TellsOwn : Outfit → List Turn → Type 0
+abbrev pub TellsOwn : Outfit → List OwnTurn → Type 0
 TellsOwn a [] = Unit {0}
 TellsOwn a (Tells e y ∷ ts) = (y ≡ state_over a (distinct a (taken_in ts)) e) × MissNone ts × TellsOwn a ts
 TellsOwn a (Orders p ∷ ts) = TellsOwn a ts
@@ -90,7 +90,7 @@ TellsOwn a (Loses b q stamp ∷ ts) = TellsOwn a ts
 
 -- THE HALVES STAND where the log of their station leaves them: the log is one that such a station writes, whose turns brought the application where it is; the manager took the PDUs of these turns and no other, and each request that the log sends is the same order as one that the manager keeps; each state that it tells is that of the application. A reply is missing only where no further entry can be written.
 pub record Stand (s : ℕ) (a : Outfit) (ds : List Pdu) (k : Book) (log : History) (closed : Type 0) : Type 0 where
-  pub turns : List Turn
+  pub turns : List OwnTurn
   pub calls : List Call
   pub own_log : IsOwnLog a s turns log (taken_in turns)
   pub application : ds ≡ distinct a (taken_in turns)

@@ -9,7 +9,7 @@ use Rattle.exercise_recording.specs.Writer.{WriterState}
 use Rattle.siman_application.specs.Distinct.{with_request}
 use Rattle.siman_application.specs.Outfit.{Outfit}
 use Rattle.siman_application.specs.Play.{reply_after}
-use Rattle.siman_application.specs.Standing.{came}
+use Rattle.siman_application.specs.Application.{came}
 use Rattle.siman_manager.specs.Answers.{taken}
 use Rattle.siman_manager.specs.Book.{Book}
 use Rattle.siman_worlds.specs.declared.turn.Node.{Node}

@@ -9,7 +9,7 @@ use Rattle.siman_pdus.specs.Answers.{same_id}
 use Rattle.siman_pdus.specs.Role.{request_id_of}
 use Rattle.siman_manager.specs.declared.fault.OrderFault.{OrderFault}
 use Rattle.siman_manager.specs.declared.kept.KeptOrder.{KeptOrder}
-use Rattle.siman_manager.specs.declared.kept.Standing.TheVariants as standings
+use Rattle.siman_manager.specs.declared.kept.OrderStanding.TheVariants as standings
 use Rattle.siman_manager.specs.declared.settings.Settings.{Settings}
 use Rattle.siman_manager.specs.Book.{order_pdu, next_id, refusal, is_ready, with_stamp}
 use Rattle.siman_manager.specs.Calls.{Call, Requested, Came, Ticked, AreRequests, kept, given_out, made_pdu, count_made, one_more, Life, life, life_made, life_ticked, none_before, passes, is_ready_at, is_due_at, settles_order, with_standing, with_send, sent_as, has_id, IsOfOrder, IsSendOf, manager_id, Send}

@@ -9,7 +9,7 @@ use Rattle.siman_pdus.specs.Spelling.{pdu_size}
 use Rattle.siman_manager.specs.declared.fault.OrderFault.{OrderFault}
 use Rattle.siman_manager.specs.declared.fault.OrderFault.TheVariants as faults
 use Rattle.siman_manager.specs.declared.kept.KeptOrder.{KeptOrder}
-use Rattle.siman_manager.specs.declared.kept.Standing.TheVariants as standings
+use Rattle.siman_manager.specs.declared.kept.OrderStanding.TheVariants as standings
 use Rattle.siman_manager.specs.declared.order.Order.{Order}
 use Rattle.siman_manager.specs.declared.settings.Settings.{Settings}
 use Rattle.siman_manager.specs.Book.{order_pdu, new_order, next_id, refusal, after_request, after_take, changed_through, order_of, settled_if, settled_under, is_ready, looked_at}

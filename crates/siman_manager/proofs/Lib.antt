@@ -4,7 +4,7 @@ pub mod Tables
 pub mod Places
 pub mod Quiet
 pub mod Walks
-pub mod Right
+pub mod TablesStay
 pub mod Lives
 pub mod Induction
 pub mod Sends

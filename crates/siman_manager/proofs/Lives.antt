@@ -9,7 +9,7 @@ use Rattle.siman_pdus.specs.declared.roles.Role.TheVariants as roles
 use Rattle.siman_pdus.specs.Answers.{is_answer_to, same_id}
 use Rattle.siman_pdus.specs.Role.{request_id_of, is_request_body, is_request_role, is_acknowledge_flag}
 use Rattle.siman_manager.specs.declared.kept.KeptOrder.{KeptOrder}
-use Rattle.siman_manager.specs.declared.kept.Standing.TheVariants as standings
+use Rattle.siman_manager.specs.declared.kept.OrderStanding.TheVariants as standings
 use Rattle.siman_manager.specs.declared.settings.Settings.{Settings}
 use Rattle.siman_manager.specs.Book.{numbered, after_take, after_tick, order_of, settled, settled_if, settled_under, settles, is_ready, looked_at, resent}
 use Rattle.siman_manager.specs.Calls.{Life, life_ticked, kept_as, none_before, passes, is_ready_at, is_due_at, settles_order, with_standing, with_send}

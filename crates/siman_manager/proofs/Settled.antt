@@ -9,8 +9,8 @@ use Rattle.siman_pdus.specs.Answers.{is_answer_to}
 use Rattle.siman_pdus.specs.Role.{request_id_of}
 use Rattle.siman_manager.specs.declared.fault.OrderFault.{OrderFault}
 use Rattle.siman_manager.specs.declared.kept.KeptOrder.{KeptOrder}
-use Rattle.siman_manager.specs.declared.kept.Standing.{Standing}
-use Rattle.siman_manager.specs.declared.kept.Standing.TheVariants as standings
+use Rattle.siman_manager.specs.declared.kept.OrderStanding.{OrderStanding}
+use Rattle.siman_manager.specs.declared.kept.OrderStanding.TheVariants as standings
 use Rattle.siman_manager.specs.declared.order.Taken.TheVariants as taken
 use Rattle.siman_manager.specs.declared.settings.Settings.{Settings}
 use Rattle.siman_manager.specs.Book.{refusal, is_waiting, is_given_up, settles, order_of, taken_as, taken_under, taken_after, taken_by, taken_by_found, settled, settled_if, settled_under, after_take}
@@ -63,7 +63,7 @@ answered_came s p came l h = tested (settles_order s l.order p) refl where
   tested true t = sym (ap (λ (b : Bool). b || list_any (settles_order s l.order) came) t)
   tested false t = h ∙ sym (ap (λ (b : Bool). b || list_any (settles_order s l.order) came) t)
 
-waiting_not_answered : (standing : Standing) (b : Bool) → (is_waiting standing && b) ≡ true → is_answered standing ≡ false
+waiting_not_answered : (standing : OrderStanding) (b : Bool) → (is_waiting standing && b) ≡ true → is_answered standing ≡ false
 waiting_not_answered standings.Waiting b e = refl
 waiting_not_answered standings.Answered b e = absurd cc
 waiting_not_answered standings.GivenUp b e = refl
@@ -156,13 +156,13 @@ set_same (z ∷ zs) (suc i) x y at e = ap (λ ws. z ∷ ws) (set_same zs i x y a
 
 not_settled : (id : ℕ) (p : Pdu) (k : KeptOrder) → (taken_by id p k ≢ taken.Answered id) → settled p k ≡ k
 not_settled id p k h = tested (is_answer_to p k.pdu) (settles p.body) k.standing refl h where
-  tested : (answers settling : Bool) (standing : Standing) → k.standing ≡ standing → ((if answers then taken_after id settling standing else taken.Foreign) ≢ taken.Answered id)
+  tested : (answers settling : Bool) (standing : OrderStanding) → k.standing ≡ standing → ((if answers then taken_after id settling standing else taken.Foreign) ≢ taken.Answered id)
       → (if answers then (if settling then record k { standing = standings.Answered } else k) else k) ≡ k
   tested false settling standing e u = refl
   tested true false standing e u = refl
   tested true true standings.Waiting e u = absurd (u refl)
   tested true true standings.GivenUp e u = absurd (u refl)
-  tested true true standings.Answered e u = ap (λ (z : Standing). let x : KeptOrder = record k { standing = z } in x) (sym e)
+  tested true true standings.Answered e u = ap (λ (z : OrderStanding). let x : KeptOrder = record k { standing = z } in x) (sym e)
 
 pub unchanged_unless : (s : Settings) (orders : List KeptOrder) (p : Pdu) → ((id : ℕ) → taken_as s p orders ≢ taken.Answered id)
     → after_take s p orders ≡ orders

@@ -2,7 +2,7 @@
 use Rattle.std.proofs.Common.{◌≡◌, ℕ, zero, suc, ◌+◌, ◌*◌, ◌<◌, ◌≤◌, List, [], ◌∷◌, ◌++◌, length, take, drop, refl, ap, sym, ◌∙◌, arith, inl, inr}
 use Rattle.std.specs.Prelude.{Bool, false, ◌&&◌, nat_lt, slice_get, find, Some, None, option_map, if◌then◌else◌, ◌⊎◌}
 use Rattle.siman_manager.specs.declared.kept.KeptOrder.{KeptOrder}
-use Rattle.siman_manager.specs.declared.kept.Standing.TheVariants as standings
+use Rattle.siman_manager.specs.declared.kept.OrderStanding.TheVariants as standings
 use Rattle.siman_manager.specs.declared.settings.Settings.{Settings}
 use Rattle.siman_manager.specs.Book.{is_due, is_ready, looked_at, resent, changed_through, with_stamp}
 use Rattle.siman_manager.specs.Blocks.{IsQuiet, AreBlocks, ticked_from, repeated_from}

@@ -12,8 +12,8 @@ use Rattle.siman_pdus.specs.Spelling.{pdu_size}
 use Rattle.siman_manager.specs.declared.fault.OrderFault.{OrderFault}
 use Rattle.siman_manager.specs.declared.fault.OrderFault.TheVariants as faults
 use Rattle.siman_manager.specs.declared.kept.KeptOrder.{KeptOrder}
-use Rattle.siman_manager.specs.declared.kept.Standing.{Standing}
-use Rattle.siman_manager.specs.declared.kept.Standing.TheVariants as standings
+use Rattle.siman_manager.specs.declared.kept.OrderStanding.{OrderStanding}
+use Rattle.siman_manager.specs.declared.kept.OrderStanding.TheVariants as standings
 use Rattle.siman_manager.specs.declared.order.Order.{Order}
 use Rattle.siman_manager.specs.declared.order.OrderStatus.{OrderStatus}
 use Rattle.siman_manager.specs.declared.order.OrderStatus.TheVariants as statuses
@@ -100,7 +100,7 @@ settles (Comment datums) = false
 abbrev pub order_of : Settings → List KeptOrder → ℕ → Option KeptOrder
 order_of s orders id = if nat_le s.first_id id then slice_get orders (id - s.first_id) else None
 
-abbrev pub taken_after : ℕ → Bool → Standing → Taken
+abbrev pub taken_after : ℕ → Bool → OrderStanding → Taken
 taken_after id settling standings.Answered = taken.Repeat id
 taken_after id settling standings.Waiting = if settling then taken.Answered id else taken.Pending id
 taken_after id settling standings.GivenUp = if settling then taken.Answered id else taken.Pending id
@@ -139,7 +139,7 @@ after_take s p orders = if p.exercise == s.exercise then settled_under s p order
 
 -- A tick.
 
-abbrev pub is_waiting : Standing → Bool
+abbrev pub is_waiting : OrderStanding → Bool
 is_waiting standings.Waiting = true
 is_waiting standings.Answered = false
 is_waiting standings.GivenUp = false
@@ -181,7 +181,7 @@ repeated s now stamp orders = option_map (λ k. with_stamp stamp k.pdu) (find (i
 
 -- What is told.
 
-abbrev pub status_at : Standing → ℕ → OrderStatus
+abbrev pub status_at : OrderStanding → ℕ → OrderStatus
 status_at standings.Waiting sends = statuses.Waiting sends
 status_at standings.Answered sends = statuses.Answered
 status_at standings.GivenUp sends = statuses.GivenUp
@@ -189,7 +189,7 @@ status_at standings.GivenUp sends = statuses.GivenUp
 abbrev pub status_of : KeptOrder → OrderStatus
 status_of k = status_at k.standing k.sends
 
-abbrev pub gave_up : Standing → Bool
+abbrev pub gave_up : OrderStanding → Bool
 gave_up standings.Waiting = false
 gave_up standings.Answered = false
 gave_up standings.GivenUp = true

@@ -9,8 +9,8 @@ use Rattle.siman_pdus.specs.Role.{request_id_of, is_request_body}
 use Rattle.siman_pdus.specs.Same.{IsSameOrder}
 use Rattle.siman_manager.specs.declared.fault.OrderFault.{OrderFault}
 use Rattle.siman_manager.specs.declared.kept.KeptOrder.{KeptOrder}
-use Rattle.siman_manager.specs.declared.kept.Standing.{Standing}
-use Rattle.siman_manager.specs.declared.kept.Standing.TheVariants as standings
+use Rattle.siman_manager.specs.declared.kept.OrderStanding.{OrderStanding}
+use Rattle.siman_manager.specs.declared.kept.OrderStanding.TheVariants as standings
 use Rattle.siman_manager.specs.declared.order.Order.{Order}
 use Rattle.siman_manager.specs.declared.settings.Settings.{Settings}
 use Rattle.siman_manager.specs.Book.{order_pdu, next_id, refusal, after_request, after_take, after_tick, repeated, settles, is_waiting, gave_up, with_stamp}
@@ -71,7 +71,7 @@ pub record Send : Type 0 where
 pub record Life : Type 0 where
   pub order : Pdu
   pub sends : List Send
-  pub standing : Standing
+  pub standing : OrderStanding
 
 -- the time of the last send
 abbrev pub last_at : List Send → ℕ
@@ -97,7 +97,7 @@ settles_order s order p = if p.exercise == s.exercise then (if is_answer_to p or
 abbrev pub with_send : ℕ → ℕ → Life → Life
 with_send now stamp l = record { order = l.order; sends = record { at = now; stamp = stamp } ∷ l.sends; standing = l.standing }
 
-abbrev pub with_standing : Standing → Life → Life
+abbrev pub with_standing : OrderStanding → Life → Life
 with_standing standing l = record { order = l.order; sends = l.sends; standing = standing }
 
 -- no number below k passes the test
@@ -172,7 +172,7 @@ pub record IsSendOf (s : Settings) (first p : Pdu) : Type 0 where
   pub same : IsSameOrder p first
   pub origin : p.origin ≡ manager_id s
 
-abbrev pub is_answered : Standing → Bool
+abbrev pub is_answered : OrderStanding → Bool
 is_answered standings.Waiting = false
 is_answered standings.Answered = true
 is_answered standings.GivenUp = false

@@ -8,7 +8,7 @@ ghost use Rattle.siman_manager.specs.declared.kept.KeptOrder.{KeptOrder};
 ghost use Rattle.siman_manager.specs.declared.settings.Settings.{Settings};
 ghost use Rattle.siman_manager.specs.Blocks.{AreBlocks, IsQuiet};
 
-use crate::kept::{KeptOrder, OrderTable, Standing};
+use crate::kept::{KeptOrder, OrderStanding, OrderTable};
 use crate::settings::Settings;
 
 /// How many orders a block has; the last may have fewer.
@@ -30,8 +30,8 @@ pub(crate) fn quiet_until(kept: &KeptOrder, settings: &Settings) -> u64
     ensures { IsQuiet settings.now result kept.now }
 {
     match kept.standing {
-        Standing::Answered | Standing::GivenUp => u64::MAX,
-        Standing::Waiting => next_due(kept.last, settings.wait),
+        OrderStanding::Answered | OrderStanding::GivenUp => u64::MAX,
+        OrderStanding::Waiting => next_due(kept.last, settings.wait),
     }
 }
 

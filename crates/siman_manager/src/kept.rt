@@ -10,7 +10,7 @@ use siman_pdus::Pdu;
 
 /// Whether an order is still to be sent.
 #[derive(Clone, Copy, PartialEq, Eq)]
-pub(crate) enum Standing {
+pub(crate) enum OrderStanding {
     Waiting,
     Answered,
     GivenUp,
@@ -25,7 +25,7 @@ pub(crate) struct KeptOrder {
     pub sends: u32,
     /// When it was last sent.
     pub last: u64,
-    pub standing: Standing,
+    pub standing: OrderStanding,
 }
 
 impl KeptOrder {
@@ -33,9 +33,9 @@ impl KeptOrder {
         ensures { result ≡ status_of self.now }
     {
         match self.standing {
-            Standing::Waiting => OrderStatus::Waiting(self.sends),
-            Standing::Answered => OrderStatus::Answered,
-            Standing::GivenUp => OrderStatus::GivenUp,
+            OrderStanding::Waiting => OrderStatus::Waiting(self.sends),
+            OrderStanding::Answered => OrderStatus::Answered,
+            OrderStanding::GivenUp => OrderStatus::GivenUp,
         }
     }
 
@@ -43,8 +43,8 @@ impl KeptOrder {
         ensures { result ≡ is_given_up self.now }
     {
         match self.standing {
-            Standing::GivenUp => true,
-            Standing::Waiting | Standing::Answered => false,
+            OrderStanding::GivenUp => true,
+            OrderStanding::Waiting | OrderStanding::Answered => false,
         }
     }
 }

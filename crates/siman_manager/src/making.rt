@@ -9,7 +9,7 @@ ghost use Rattle.siman_manager.specs.Answers.{told_by};
 
 use crate::blocks::{note, quiet_until};
 use crate::fault::OrderFault;
-use crate::kept::{KeptOrder, OrderTable, Standing};
+use crate::kept::{KeptOrder, OrderStanding, OrderTable};
 use crate::order::Order;
 use crate::settings::Settings;
 use dis_records::{EntityId, Version};
@@ -115,7 +115,7 @@ pub(crate) fn make(
         pdu,
         sends: 1,
         last: now,
-        standing: Standing::Waiting,
+        standing: OrderStanding::Waiting,
     };
     let time = quiet_until(&kept, settings);
     times.reserve(1)?;

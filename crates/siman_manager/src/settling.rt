@@ -7,7 +7,7 @@ ghost use Rattle.siman_manager.specs.Table.{IsNumbered};
 ghost use Rattle.siman_manager.specs.Blocks.{IsRight};
 ghost use Rattle.siman_manager.specs.Book.{settles, taken_by, settled, taken_as, after_take};
 
-use crate::kept::{KeptOrder, OrderTable, Standing};
+use crate::kept::{KeptOrder, OrderStanding, OrderTable};
 use crate::order::Taken;
 use crate::settings::Settings;
 use siman_pdus::{ABLE, Body, Pdu, UNABLE, answers, request_id};
@@ -43,11 +43,11 @@ fn judge(kept: &mut KeptOrder, id: u32, pdu: &Pdu) -> Taken
     let settling = settles(&pdu.body);
     let standing = kept.standing;
     if settling {
-        kept.standing = Standing::Answered;
+        kept.standing = OrderStanding::Answered;
     }
     match standing {
-        Standing::Answered => Taken::Repeat(id),
-        Standing::Waiting | Standing::GivenUp => {
+        OrderStanding::Answered => Taken::Repeat(id),
+        OrderStanding::Waiting | OrderStanding::GivenUp => {
             if settling {
                 Taken::Answered(id)
             } else {

@@ -7,7 +7,7 @@ ghost use Rattle.siman_manager.specs.Book.{is_ready, looked_at, after_tick, repe
 ghost use Rattle.siman_manager.specs.Blocks.{IsRight, AreLater, ticked_from, repeated_from};
 
 use crate::blocks::{BLOCK, all_quiet_until};
-use crate::kept::{KeptOrder, OrderTable, Standing};
+use crate::kept::{KeptOrder, OrderStanding, OrderTable};
 use crate::settings::Settings;
 
 /// Looks at one order, which is sent once more, given up, or left. Whether it was sent.
@@ -16,14 +16,14 @@ fn look(kept: &mut KeptOrder, settings: &Settings, now: u64, stamp: u32) -> bool
     ensures after { kept.new ≡ looked_at settings.now now stamp kept.old }
 {
     match kept.standing {
-        Standing::Answered | Standing::GivenUp => return false,
-        Standing::Waiting => {}
+        OrderStanding::Answered | OrderStanding::GivenUp => return false,
+        OrderStanding::Waiting => {}
     }
     if now.saturating_sub(kept.last) < settings.wait {
         return false;
     }
     if kept.sends >= settings.tries {
-        kept.standing = Standing::GivenUp;
+        kept.standing = OrderStanding::GivenUp;
         return false;
     }
     kept.pdu.stamp = stamp;

@@ -2,7 +2,7 @@
 
 use crate::machines::{application, creation, creation_under, manager, ordered};
 use crate::recordings::{CREATE, unmade};
-use crate::stations::Post;
+use crate::stations::RecordedStation;
 use exercise_recording::RecordingWriter;
 use siman_application::Application;
 use siman_lines::{MemoryLine, Node, Served, issue, nudge, serve};
@@ -100,12 +100,12 @@ fn nudged<W: Write>(
 
 /// Calls a station at its line, and prints how far it came.
 pub fn put_station<W: Write>(alloc: Global, out: &mut W) -> io::Result<()> {
-    let Post {
+    let RecordedStation {
         stations,
         mut node,
         mut line,
         mut text,
-    } = Post::begin(alloc, 2, 3, creations(alloc)?)?;
+    } = RecordedStation::begin(alloc, 2, 3, creations(alloc)?)?;
     let Ok(mut recorder) = RecordingWriter::start(&mut text, 1, &stations) else {
         return Err(unmade());
     };

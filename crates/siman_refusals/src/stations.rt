@@ -15,7 +15,7 @@ use std::io;
 
 /// A station at a line, and the text of its recording.
 #[derive(Drop)]
-pub(crate) struct Post {
+pub(crate) struct RecordedStation {
     pub(crate) stations: Vec<Station>,
     pub(crate) node: Node,
     pub(crate) line: MemoryLine,
@@ -30,14 +30,14 @@ fn copies(alloc: Global) -> io::Result<Vec<Vec<u8>>> {
     Ok(coming)
 }
 
-impl Post {
+impl RecordedStation {
     /// A station to whose line these come; there is room for a small recording.
     pub(crate) fn begin(
         alloc: Global,
         site: u16,
         application: u16,
         coming: Vec<Vec<u8>>,
-    ) -> io::Result<Post> {
+    ) -> io::Result<RecordedStation> {
         let station = station(alloc, site, application)?;
         let manager = Manager::begin(alloc, 1, station.address(), 1, 3, 10);
         let Ok(application) = Application::begin(alloc, 1, &station, &[], Vec::new(alloc), &[])
@@ -46,7 +46,7 @@ impl Post {
         };
         let mut stations = Vec::new(alloc);
         stations.push(station)?;
-        Ok(Post {
+        Ok(RecordedStation {
             stations,
             node: Node {
                 application,
@@ -80,18 +80,18 @@ impl Post {
 /// A station serves one datagram.
 #[derive(Drop)]
 pub(crate) struct Serving {
-    post: Post,
+    post: RecordedStation,
 }
 
 impl Serving {
     pub(crate) fn begin(alloc: Global) -> io::Result<Serving> {
         Ok(Serving {
-            post: Post::begin(alloc, 2, 3, copies(alloc)?)?,
+            post: RecordedStation::begin(alloc, 2, 3, copies(alloc)?)?,
         })
     }
 
     fn serve(&mut self, alloc: Global) -> Result<Served, ServeFault> {
-        let Post {
+        let RecordedStation {
             stations,
             node,
             line,
@@ -133,7 +133,7 @@ impl Call for Serving {
 /// A station issues an order.
 #[derive(Drop)]
 pub(crate) struct Issuing {
-    post: Post,
+    post: RecordedStation,
     /// The identifier of the next order.
     next: u8,
 }
@@ -141,13 +141,13 @@ pub(crate) struct Issuing {
 impl Issuing {
     pub(crate) fn begin(alloc: Global) -> io::Result<Issuing> {
         Ok(Issuing {
-            post: Post::begin(alloc, 1, 1, Vec::new(alloc))?,
+            post: RecordedStation::begin(alloc, 1, 1, Vec::new(alloc))?,
             next: 1,
         })
     }
 
     fn issue(&mut self, alloc: Global) -> Result<u32, IssueFault> {
-        let Post {
+        let RecordedStation {
             stations,
             node,
             line,
@@ -192,14 +192,14 @@ impl Call for Issuing {
 /// A station nudges an order that is due.
 #[derive(Drop)]
 pub(crate) struct Nudging {
-    post: Post,
+    post: RecordedStation,
     /// How often the order was sent so far.
     sends: u8,
 }
 
 impl Nudging {
     pub(crate) fn begin(alloc: Global) -> io::Result<Nudging> {
-        let mut post = Post::begin(alloc, 1, 1, Vec::new(alloc))?;
+        let mut post = RecordedStation::begin(alloc, 1, 1, Vec::new(alloc))?;
         match ordered(&mut post.node.manager) {
             Ok(_) => Ok(Nudging { post, sends: 1 }),
             Err(_) => Err(unmade()),
@@ -207,7 +207,7 @@ impl Nudging {
     }
 
     fn nudge(&mut self, alloc: Global, now: u64) -> Result<bool, IssueFault> {
-        let Post {
+        let RecordedStation {
             stations,
             node,
             line,

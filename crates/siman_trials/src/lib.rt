@@ -2,9 +2,9 @@
 //! must answer and what must be on the line and in the recording; and lines over a network in memory.
 #![tactic(auto)]
 
-mod post_call;
-mod post_trial;
+mod station_call;
+mod station_trial;
 mod wire;
 
-pub use post_trial::{compare, try_post};
+pub use station_trial::{compare, try_post};
 pub use wire::{WireLine, lines_of};

@@ -4,7 +4,7 @@ use Rattle.std.specs.Prelude.{slice_get}
 use Rattle.std.specs.List.{list_all}
 use Rattle.exercise_model.specs.Recording.{opened}
 use Rattle.siman_application.specs.Outfit.{Outfit}
-use Rattle.siman_application.specs.Kept.{requests}
+use Rattle.siman_application.specs.KeptRequests.{requests}
 use Rattle.siman_application.specs.Ranges.{IsOutfitInRange}
 use Rattle.siman_application.specs.declared.kept.KeptRequest.{KeptRequest}
 use Rattle.siman_manager.specs.Book.{Book}

@@ -23,7 +23,7 @@ use Rattle.exercise_model.specs.Exchange.{is_answer_role, is_answer_body}
 use Rattle.exercise_model.specs.Cause.{is_other_order, sends_other, is_reused}
 use Rattle.siman_application.specs.Play.{reply}
 use Rattle.siman_application.specs.Ranges.{IsOutfitInRange}
-use Rattle.siman_application.specs.OwnLog.{Turn, taken_in, sent_after, log_in}
+use Rattle.siman_application.specs.OwnLog.{OwnTurn, taken_in, sent_after, log_in}
 use Rattle.siman_application.proofs.Offered.{reply_answers, is_answer, read_meant}
 use Rattle.siman_manager.specs.declared.fault.OrderFault.{OrderFault}
 use Rattle.siman_manager.specs.declared.kept.Standing.TheVariants as standings
@@ -213,7 +213,7 @@ kept_own : (settings : Settings) (s x : ℕ) (call : Call) (calls : ℕ → List
     → AreKept settings (put_at s (Some call) calls s) x log
 kept_own settings s x call calls log kept = subst (λ (past : List Call). AreKept settings past x log) (sym (put_own s call calls)) kept
 
-tick_kept : (w : WorldData) (c : Course) (s now : ℕ) (ts : List Turn) (o : Option Pdu) → ((p : Pdu) → o ≡ Some p → IsOwn w s p)
+tick_kept : (w : WorldData) (c : Course) (s now : ℕ) (ts : List OwnTurn) (o : Option Pdu) → ((p : Pdu) → o ≡ Some p → IsOwn w s p)
     → repeated_by w c s now ≡ o → AreKept (settings_of w s) (c.calls s) w.exercise (log_in (outfit_of w s) s ts)
     → AreKept (settings_of w s) (Ticked now (stamp_of now) ∷ c.calls s) w.exercise (log_in (outfit_of w s) s (order_turn o ts))
 tick_kept w c s now ts None own e kept =
@@ -230,7 +230,7 @@ reply_kept w c s now b q log past None own e kept = (tt, kept)
 reply_kept w c s now b q log past (Some p) own e kept =
     (answer_kept (settings_of w s) past w.exercise p (own_read w s p (own p refl)) (reply_answering w c s now q p e), (tt, kept))
 
-came_kept : (w : WorldData) (c : Course) (s now : ℕ) (b : List ℕ) (ts : List Turn) (o : Option Pdu)
+came_kept : (w : WorldData) (c : Course) (s now : ℕ) (b : List ℕ) (ts : List OwnTurn) (o : Option Pdu)
     → ((q p : Pdu) → o ≡ Some q → reply_by w c s now q ≡ Some p → IsOwn w s p)
     → taken_in ts ≡ c.came s → AreKept (settings_of w s) (c.calls s) w.exercise (log_in (outfit_of w s) s ts)
     → AreKept (settings_of w s) (put_at s (option_map Came o) c.calls s) w.exercise (log_in (outfit_of w s) s (came_turn b (stamp_of now) o ts))
@@ -244,7 +244,7 @@ came_kept w c s now b ts (Some q) own h kept =
     (reply_kept w c s now b q log (Came q ∷ c.calls s) (reply_by w c s now q) (λ p e. own q p refl e) refl
     (kept_on (settings_of w s) (c.calls s) (Came q) w.exercise log kept)))
 
-arrival_kept : (w : WorldData) (c : Course) (s now : ℕ) (ts : List Turn) (o : Option (List ℕ))
+arrival_kept : (w : WorldData) (c : Course) (s now : ℕ) (ts : List OwnTurn) (o : Option (List ℕ))
     → ((b : List ℕ) (q p : Pdu) → o ≡ Some b → reading b ≡ Some q → reply_by w c s now q ≡ Some p → IsOwn w s p) → taken_in ts ≡ c.came s
     → AreKept (settings_of w s) (c.calls s) w.exercise (log_in (outfit_of w s) s ts)
     → AreKept (settings_of w s) (put_at s (option_map Came (option_and_then reading o)) c.calls s) w.exercise
@@ -252,7 +252,7 @@ arrival_kept : (w : WorldData) (c : Course) (s now : ℕ) (ts : List Turn) (o : 
 arrival_kept w c s now ts None own h kept = kept
 arrival_kept w c s now ts (Some b) own h kept = came_kept w c s now b ts (reading b) (λ q p e f. own b q p refl e f) h kept
 
-act_kept : (w : WorldData) (c : Course) (s now : ℕ) (act : Act) (ts : List Turn) → Stands w c → IsOutfitInRange (outfit_of w s)
+act_kept : (w : WorldData) (c : Course) (s now : ℕ) (act : Act) (ts : List OwnTurn) → Stands w c → IsOutfitInRange (outfit_of w s)
     → act_fault w c s now act ≡ None → IsActInRange act → taken_in ts ≡ c.came s
     → AreKept (settings_of w s) (c.calls s) w.exercise (log_in (outfit_of w s) s ts)
     → AreKept (settings_of w s) (put_at s (call_of c now act) c.calls s) w.exercise (log_in (outfit_of w s) s (act_turn w c s now act ts))
@@ -272,7 +272,7 @@ act_kept w c s now Tick ts stands own can range h kept =
     (tick_kept w c s now ts (repeated_by w c s now) (λ p e. order_own w s p (repeat_own w c s now p own (stands.calls_are s) e)) refl kept)
 act_kept w c s now (TellState e) ts stands own can range h kept = (tt, kept)
 
-move_kept : (w : WorldData) (c : Course) (s : ℕ) (m : Move) (ts : List Turn) → Stands w c → IsOutfitInRange (outfit_of w s) → IsMade w c m
+move_kept : (w : WorldData) (c : Course) (s : ℕ) (m : Move) (ts : List OwnTurn) → Stands w c → IsOutfitInRange (outfit_of w s) → IsMade w c m
     → taken_in ts ≡ c.came s → AreKept (settings_of w s) (c.calls s) w.exercise (log_in (outfit_of w s) s ts) → (b : Bool) → (m.station == s) ≡ b
     → AreKept (settings_of w s) (put_at m.station (call_of c m.now m.act) c.calls s) w.exercise
     (log_in (outfit_of w s) s (if b then act_turn w c s m.now m.act ts else ts))

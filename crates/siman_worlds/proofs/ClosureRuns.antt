@@ -9,7 +9,7 @@ use Rattle.exercise_model.specs.Run.{IsRun}
 use Rattle.exercise_model.proofs.Offered.{past-append}
 use Rattle.siman_application.specs.Play.{reply}
 use Rattle.siman_application.specs.Ranges.{IsOutfitInRange}
-use Rattle.siman_application.specs.OwnLog.{Turn, taken_in, sent_after, log_in, AreTurns, TakesAll, AnswersStand}
+use Rattle.siman_application.specs.OwnLog.{OwnTurn, taken_in, sent_after, log_in, AreTurns, TakesAll, AnswersStand}
 use Rattle.siman_application.proofs.Offered.{answers_stand}
 use Rattle.siman_manager.specs.Calls.{Requested, Ticked}
 use Rattle.siman_scripts.specs.declared.act.Act.{Act}
@@ -25,7 +25,7 @@ use Rattle.siman_worlds.proofs.ClosureOrders.{AreKept, kept_on, made_of_life, re
 use Rattle.siman_worlds.proofs.ClosureEvents.{order_allowed, reply_allowed, was_sent_before, get_allowed, tell_allowed}
 
 -- What stands of the station of an act before it, beside what stands of the world.
-pub record IsReady (w : WorldData) (c : Course) (s : ℕ) (ts : List Turn) : Type 0 where
+pub record IsReady (w : WorldData) (c : Course) (s : ℕ) (ts : List OwnTurn) : Type 0 where
   pub stands : Stands w c
   pub outfit : IsOutfitInRange (outfit_of w s)
   pub took : taken_in ts ≡ c.came s
@@ -35,12 +35,12 @@ pub record IsReady (w : WorldData) (c : Course) (s : ℕ) (ts : List Turn) : Typ
   pub kept : AreKept (settings_of w s) (c.calls s) w.exercise (log_in (outfit_of w s) s ts)
 
 -- the orders in the log
-log_kept : (w : WorldData) (c : Course) (s : ℕ) (ts : List Turn) → IsReady w c s ts
+log_kept : (w : WorldData) (c : Course) (s : ℕ) (ts : List OwnTurn) → IsReady w c s ts
     → AreKept (settings_of w s) (c.calls s) w.exercise (log_at s (past c.entries))
 log_kept w c s ts is = subst (AreKept (settings_of w s) (c.calls s) w.exercise) is.log_is is.kept
 
 -- the answers in the log after the act stand
-act_stand : (w : WorldData) (c : Course) (s now : ℕ) (act : Act) (ts : List Turn) → IsReady w c s ts → act_fault w c s now act ≡ None
+act_stand : (w : WorldData) (c : Course) (s now : ℕ) (act : Act) (ts : List OwnTurn) → IsReady w c s ts → act_fault w c s now act ≡ None
     → IsActInRange act
     → AnswersStand (outfit_of w s) (log_in (outfit_of w s) s (act_turn w c s now act ts))
 act_stand w c s now act ts is can range =
@@ -51,7 +51,7 @@ act_stand w c s now act ts is can range =
 
 -- A run goes on by an act.
 
-repeat_run : (w : WorldData) (c : Course) (s now : ℕ) (ts : List Turn) (o : Option Pdu) → IsReady w c s ts → repeated_by w c s now ≡ o
+repeat_run : (w : WorldData) (c : Course) (s now : ℕ) (ts : List OwnTurn) (o : Option Pdu) → IsReady w c s ts → repeated_by w c s now ≡ o
     → IsRun (setting_of w) (past c.entries) → IsRun (setting_of w) (sends_of s o ++ past c.entries)
 repeat_run w c s now ts None is e run = run
 repeat_run w c s now ts (Some p) is e run = (
@@ -61,7 +61,7 @@ repeat_run w c s now ts (Some p) is e run = (
       (kept_on (settings_of w s) (c.calls s) (Ticked now (stamp_of now)) w.exercise (log_at s (past c.entries)) (log_kept w c s ts is)),
 )
 
-reply_run : (w : WorldData) (c : Course) (s now : ℕ) (b : List ℕ) (q : Pdu) (ts : List Turn) (o : Option Pdu) → IsReady w c s ts
+reply_run : (w : WorldData) (c : Course) (s now : ℕ) (b : List ℕ) (q : Pdu) (ts : List OwnTurn) (o : Option Pdu) → IsReady w c s ts
     → (IsSent w b) × (reading b ≡ Some q) → reply_by w c s now q ≡ o
     → AnswersStand (outfit_of w s) (sent_after s o (Get s b ∷ log_at s (past c.entries)))
     → IsRun (setting_of w) (Get s b ∷ past c.entries) → IsRun (setting_of w) ((sends_of s o ++ Get s b ∷ []) ++ past c.entries)
@@ -72,7 +72,7 @@ reply_run w c s now b q ts (Some p) is sent e stand run = (
       (reply_own w c s now q p is.outfit (is.stands.came_are s) (sent_range w b q sent.0 sent.1) e) e stand,
 )
 
-came_run : (w : WorldData) (c : Course) (s now : ℕ) (b : List ℕ) (ts : List Turn) (o : Option Pdu) → IsReady w c s ts → IsSent w b → reading b ≡ o
+came_run : (w : WorldData) (c : Course) (s now : ℕ) (b : List ℕ) (ts : List OwnTurn) (o : Option Pdu) → IsReady w c s ts → IsSent w b → reading b ≡ o
     → AnswersStand (outfit_of w s) (log_in (outfit_of w s) s (came_turn b (stamp_of now) o ts)) → IsRun (setting_of w) (Get s b ∷ past c.entries)
     → IsRun (setting_of w) (past (Received s now b ∷ sent_as s now (option_and_then (reply_by w c s now) o)) ++ past c.entries)
 came_run w c s now b ts None is sent e stand run =
@@ -85,7 +85,7 @@ came_run w c s now b ts (Some q) is sent e stand run =
     (Get s b ∷ log_in (outfit_of w s) s ts)))
     is.took stand)) run)
 
-arrival_run : (w : WorldData) (c : Course) (s now k : ℕ) (ts : List Turn) (o : Option (List ℕ)) → IsReady w c s ts → datagram c k ≡ o
+arrival_run : (w : WorldData) (c : Course) (s now k : ℕ) (ts : List OwnTurn) (o : Option (List ℕ)) → IsReady w c s ts → datagram c k ≡ o
     → AnswersStand (outfit_of w s) (log_in (outfit_of w s) s (arrival_turn (stamp_of now) o ts)) → IsRun (setting_of w) (past c.entries)
     → IsRun (setting_of w) (past (arrival w c s now o) ++ past c.entries)
 arrival_run w c s now k ts None is e stand run =
@@ -94,7 +94,7 @@ arrival_run w c s now k ts (Some b) is e stand run =
     let sent = sent_at w c is.stands k b e in
     came_run w c s now b ts (reading b) is sent refl stand (run, get_allowed w (past c.entries) s b sent (was_sent_before c k b e))
 
-act_run : (w : WorldData) (c : Course) (s now : ℕ) (act : Act) (ts : List Turn) → IsReady w c s ts → act_fault w c s now act ≡ None
+act_run : (w : WorldData) (c : Course) (s now : ℕ) (act : Act) (ts : List OwnTurn) → IsReady w c s ts → act_fault w c s now act ≡ None
     → IsActInRange act
     → IsRun (setting_of w) (past c.entries) → IsRun (setting_of w) (past (entries_by w c s now act) ++ past c.entries)
 act_run w c s now (Command order) ts is can range run =

@@ -9,7 +9,7 @@ use Rattle.exercise_model.specs.Entry.{Received, Told}
 use Rattle.siman_application.specs.Distinct.{distinct, with_request}
 use Rattle.siman_application.specs.Outfit.{Outfit}
 use Rattle.siman_application.specs.Play.{state_over, reply_after}
-use Rattle.siman_application.specs.Standing.{came}
+use Rattle.siman_application.specs.Application.{came}
 use Rattle.siman_manager.specs.declared.fault.OrderFault.{OrderFault}
 use Rattle.siman_manager.specs.declared.order.Order.{Order}
 use Rattle.siman_manager.specs.Answers.{taken, with_orders, ticked}

@@ -11,7 +11,7 @@ use Rattle.exercise_model.specs.History.{Event, Send, Get, History, event_of, st
 use Rattle.exercise_model.proofs.Offered.{log_at-append, past-append}
 use Rattle.siman_application.specs.Outfit.{Outfit}
 use Rattle.siman_application.specs.Play.{reply}
-use Rattle.siman_application.specs.OwnLog.{Turn, Tells, Orders, Passes, Takes, taken_in, sent_after, log_in}
+use Rattle.siman_application.specs.OwnLog.{OwnTurn, Tells, Orders, Passes, Takes, taken_in, sent_after, log_in}
 use Rattle.siman_scripts.specs.declared.act.Act.{Act}
 use Rattle.siman_scripts.specs.declared.act.Act.TheVariants.{Command, Deliver, Tick, Tell as TellState}
 use Rattle.siman_scripts.specs.declared.act.Move.{Move}
@@ -21,28 +21,28 @@ use Rattle.siman_worlds.specs.World.{WorldData, Course, outfit_of, datagram, bro
 -- Turns.
 
 -- an order that is sent, if there is one
-abbrev pub order_turn : Option Pdu → List Turn → List Turn
+abbrev pub order_turn : Option Pdu → List OwnTurn → List OwnTurn
 order_turn None ts = ts
 order_turn (Some p) ts = Orders p ∷ ts
 
 -- a datagram that comes, and what is read of it
-abbrev pub came_turn : List ℕ → ℕ → Option Pdu → List Turn → List Turn
+abbrev pub came_turn : List ℕ → ℕ → Option Pdu → List OwnTurn → List OwnTurn
 came_turn b stamp None ts = Passes b ∷ ts
 came_turn b stamp (Some q) ts = Takes b q stamp ∷ ts
 
-abbrev pub arrival_turn : ℕ → Option (List ℕ) → List Turn → List Turn
+abbrev pub arrival_turn : ℕ → Option (List ℕ) → List OwnTurn → List OwnTurn
 arrival_turn stamp None ts = ts
 arrival_turn stamp (Some b) ts = came_turn b stamp (reading b) ts
 
 -- the turn of an act
-abbrev pub act_turn : WorldData → Course → ℕ → ℕ → Act → List Turn → List Turn
+abbrev pub act_turn : WorldData → Course → ℕ → ℕ → Act → List OwnTurn → List OwnTurn
 act_turn w c s now (Command order) ts = order_turn (Some (made_by w c s now order)) ts
 act_turn w c s now (Deliver k) ts = arrival_turn (stamp_of now) (datagram c k) ts
 act_turn w c s now Tick ts = order_turn (repeated_by w c s now) ts
 act_turn w c s now (TellState e) ts = Tells e (state_by w c s e) ∷ ts
 
 -- THE TURNS OF A STATION in these moves, the latest first
-abbrev pub turns_of : WorldData → ℕ → List Move → List Turn
+abbrev pub turns_of : WorldData → ℕ → List Move → List OwnTurn
 turns_of w s [] = []
 turns_of w s (m ∷ earlier) =
     if m.station == s then act_turn w (course_of w earlier) s m.now m.act (turns_of w s earlier) else turns_of w s earlier
@@ -56,28 +56,28 @@ pub put_other : {X : Type 0} (t s : ℕ) (o : Option X) (lists : ℕ → List X)
 put_other t s None lists e = refl
 put_other t s (Some x) lists e = ap (λ (b : Bool). if b then x ∷ lists s else lists s) e
 
-taken_order : (o : Option Pdu) (ts : List Turn) → taken_in (order_turn o ts) ≡ taken_in ts
+taken_order : (o : Option Pdu) (ts : List OwnTurn) → taken_in (order_turn o ts) ≡ taken_in ts
 taken_order None ts = refl
 taken_order (Some p) ts = refl
 
-taken_came : (s : ℕ) (b : List ℕ) (stamp : ℕ) (o : Option Pdu) (came : ℕ → List Pdu) (ts : List Turn) → taken_in ts ≡ came s
+taken_came : (s : ℕ) (b : List ℕ) (stamp : ℕ) (o : Option Pdu) (came : ℕ → List Pdu) (ts : List OwnTurn) → taken_in ts ≡ came s
     → taken_in (came_turn b stamp o ts) ≡ put_at s o came s
 taken_came s b stamp None came ts h = h
 taken_came s b stamp (Some q) came ts h = ap (λ (qs : List Pdu). q ∷ qs) h ∙ sym (put_own s q came)
 
-taken_arrival : (s stamp : ℕ) (o : Option (List ℕ)) (came : ℕ → List Pdu) (ts : List Turn) → taken_in ts ≡ came s
+taken_arrival : (s stamp : ℕ) (o : Option (List ℕ)) (came : ℕ → List Pdu) (ts : List OwnTurn) → taken_in ts ≡ came s
     → taken_in (arrival_turn stamp o ts) ≡ put_at s (option_and_then reading o) came s
 taken_arrival s stamp None came ts h = h
 taken_arrival s stamp (Some b) came ts h = taken_came s b stamp (reading b) came ts h
 
-taken_act : (w : WorldData) (c : Course) (s now : ℕ) (act : Act) (ts : List Turn) → taken_in ts ≡ c.came s
+taken_act : (w : WorldData) (c : Course) (s now : ℕ) (act : Act) (ts : List OwnTurn) → taken_in ts ≡ c.came s
     → taken_in (act_turn w c s now act ts) ≡ put_at s (brought c act) c.came s
 taken_act w c s now (Command order) ts h = h
 taken_act w c s now (Deliver k) ts h = taken_arrival s (stamp_of now) (datagram c k) c.came ts h
 taken_act w c s now Tick ts h = taken_order (repeated_by w c s now) ts ∙ h
 taken_act w c s now (TellState e) ts h = h
 
-taken_on : (w : WorldData) (c : Course) (s : ℕ) (m : Move) (ts : List Turn) (b : Bool) → (m.station == s) ≡ b → taken_in ts ≡ c.came s
+taken_on : (w : WorldData) (c : Course) (s : ℕ) (m : Move) (ts : List OwnTurn) (b : Bool) → (m.station == s) ≡ b → taken_in ts ≡ c.came s
     → taken_in (if b then act_turn w c s m.now m.act ts else ts) ≡ put_at m.station (brought c m.act) c.came s
 taken_on w c s m ts false e h = h ∙ sym (put_other m.station s (brought c m.act) c.came e)
 taken_on w c s m ts true e h =
@@ -116,7 +116,7 @@ sent_on : (s : ℕ) (o : Option Pdu) (log : History) → sent_after s o log ≡ 
 sent_on s None log = refl
 sent_on s (Some p) log = refl
 
-order_log : (a : Outfit) (s now : ℕ) (o : Option Pdu) (ts : List Turn) → log_in a s (order_turn o ts) ≡ past (sent_as s now o) ++ log_in a s ts
+order_log : (a : Outfit) (s now : ℕ) (o : Option Pdu) (ts : List OwnTurn) → log_in a s (order_turn o ts) ≡ past (sent_as s now o) ++ log_in a s ts
 order_log a s now None ts = ap (λ (h : History). h ++ log_in a s ts) (sym past-none)
 order_log a s now (Some p) ts = ap (λ (h : History). h ++ log_in a s ts) (sym (past-sent s now (Some p)))
 
@@ -124,7 +124,7 @@ order_log a s now (Some p) ts = ap (λ (h : History). h ++ log_in a s ts) (sym (
 pub past-came : (s now : ℕ) (b : List ℕ) (o : Option Pdu) → past (Received s now b ∷ sent_as s now o) ≡ sends_of s o ++ Get s b ∷ []
 past-came s now b o = past-first (Received s now b) (sent_as s now o) ∙ ap (λ (h : History). h ++ Get s b ∷ []) (past-sent s now o)
 
-came_log : (w : WorldData) (c : Course) (s now : ℕ) (b : List ℕ) (o : Option Pdu) (ts : List Turn) → taken_in ts ≡ c.came s
+came_log : (w : WorldData) (c : Course) (s now : ℕ) (b : List ℕ) (o : Option Pdu) (ts : List OwnTurn) → taken_in ts ≡ c.came s
     → log_in (outfit_of w s) s (came_turn b (stamp_of now) o ts)
     ≡ past (Received s now b ∷ sent_as s now (option_and_then (reply_by w c s now) o)) ++ log_in (outfit_of w s) s ts
 came_log w c s now b None ts h = ap (λ (k : History). k ++ log_in (outfit_of w s) s ts) (sym (past-came s now b None))
@@ -134,13 +134,13 @@ came_log w c s now b (Some q) ts h =
     ∙ sym (append_assoc (sends_of s (reply_by w c s now q)) (Get s b ∷ []) (log_in (outfit_of w s) s ts))
     ∙ ap (λ (k : History). k ++ log_in (outfit_of w s) s ts) (sym (past-came s now b (reply_by w c s now q)))
 
-arrival_log : (w : WorldData) (c : Course) (s now : ℕ) (o : Option (List ℕ)) (ts : List Turn) → taken_in ts ≡ c.came s
+arrival_log : (w : WorldData) (c : Course) (s now : ℕ) (o : Option (List ℕ)) (ts : List OwnTurn) → taken_in ts ≡ c.came s
     → log_in (outfit_of w s) s (arrival_turn (stamp_of now) o ts) ≡ past (arrival w c s now o) ++ log_in (outfit_of w s) s ts
 arrival_log w c s now None ts h = ap (λ (k : History). k ++ log_in (outfit_of w s) s ts) (sym past-none)
 arrival_log w c s now (Some b) ts h = came_log w c s now b (reading b) ts h
 
 -- the log of a station goes on by the events of its act
-act_log : (w : WorldData) (c : Course) (s now : ℕ) (act : Act) (ts : List Turn) → taken_in ts ≡ c.came s
+act_log : (w : WorldData) (c : Course) (s now : ℕ) (act : Act) (ts : List OwnTurn) → taken_in ts ≡ c.came s
     → log_in (outfit_of w s) s (act_turn w c s now act ts) ≡ past (entries_by w c s now act) ++ log_in (outfit_of w s) s ts
 act_log w c s now (Command order) ts h = order_log (outfit_of w s) s now (Some (made_by w c s now order)) ts
 act_log w c s now (Deliver k) ts h = arrival_log w c s now (datagram c k) ts h
@@ -197,7 +197,7 @@ log-act w c t s now act b e =
     ∙ log_at-append s (past (entries_by w c t now act)) (past c.entries)
     ∙ ap (λ (h : History). h ++ log_at s (past c.entries)) (log-all t s b (entries_by w c t now act) e (act_at w c t now act))
 
-log_on : (w : WorldData) (c : Course) (s : ℕ) (m : Move) (ts : List Turn) (b : Bool) → (m.station == s) ≡ b → taken_in ts ≡ c.came s
+log_on : (w : WorldData) (c : Course) (s : ℕ) (m : Move) (ts : List OwnTurn) (b : Bool) → (m.station == s) ≡ b → taken_in ts ≡ c.came s
     → log_in (outfit_of w s) s ts ≡ log_at s (past c.entries)
     → log_in (outfit_of w s) s (if b then act_turn w c s m.now m.act ts else ts)
     ≡ log_at s (past (c.entries ++ entries_by w c m.station m.now m.act))

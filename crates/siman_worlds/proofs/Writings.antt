@@ -14,7 +14,7 @@ use Rattle.exercise_model.specs.declared.fault.LogFault.TheVariants as log_fault
 use Rattle.exercise_model.specs.declared.recording.TheConstants.{MOST_ENTRIES}
 use Rattle.exercise_model.specs.Entry.{Entry, Sent, Received, is_entry}
 use Rattle.exercise_model.specs.Recording.{PlainRecording, with_entry, push_refusal, unless_memory}
-use Rattle.siman_application.specs.Standing.{Standing}
+use Rattle.siman_application.specs.Application.{ApplicationData}
 use Rattle.siman_worlds.specs.declared.journal.Journal.{Journal}
 use Rattle.siman_worlds.specs.declared.turn.Node.{Node}
 use Rattle.siman_worlds.specs.declared.turn.TurnFault.{TurnFault}
@@ -74,7 +74,7 @@ datagram_at sends k v b below is same =
     (slice_get-get_or sends k v below ∙ ap Some (sym is)) ∙ ap Some (sym same))
 
 -- what is told of a datagram is told of the one of its number
-pub writes_at : (a : Standing) (s now : ℕ) (b : List ℕ) (o : Option (List ℕ)) (old new : Journal) → o ≡ Some b → Writes (turn_entries a s now b) old new
+pub writes_at : (a : ApplicationData) (s now : ℕ) (b : List ℕ) (o : Option (List ℕ)) (old new : Journal) → o ≡ Some b → Writes (turn_entries a s now b) old new
     → Writes (turn_if a s now o) old new
 writes_at a s now b o old new is w = subst (λ (x : Option (List ℕ)). Writes (turn_if a s now x) old new) (sym is) w
 

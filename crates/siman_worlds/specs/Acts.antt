@@ -11,7 +11,7 @@ use Rattle.exercise_model.specs.declared.fault.LogFault.{LogFault}
 use Rattle.exercise_model.specs.Recording.{PlainRecording, unless_memory}
 use Rattle.exercise_model.specs.Station.{is_entity}
 use Rattle.siman_application.specs.Play.{state_over}
-use Rattle.siman_application.specs.Standing.{Standing, came}
+use Rattle.siman_application.specs.Application.{ApplicationData, came}
 use Rattle.siman_manager.specs.declared.order.Order.{Order}
 use Rattle.siman_manager.specs.Answers.{refusal_of, told_by, with_orders, ticked}
 use Rattle.siman_manager.specs.Book.{Book, order_pdu, next_id, repeated, with_order}
@@ -90,7 +90,7 @@ abbrev pub tell_fault : ℕ → Option MoveFault
 tell_fault e = if is_entity e then None else Some faults.NoSuchEntity
 
 -- the entries of a datagram that comes, if there is one
-abbrev pub turn_if : Standing → ℕ → ℕ → Option (List ℕ) → List Entry
+abbrev pub turn_if : ApplicationData → ℕ → ℕ → Option (List ℕ) → List Entry
 turn_if a s now None = []
 turn_if a s now (Some b) = turn_entries a s now b
 

@@ -6,7 +6,7 @@ use Rattle.siman_pdus.specs.Reading.{reading}
 use Rattle.siman_pdus.specs.Spelling.{pdu_text}
 use Rattle.exercise_model.specs.Entry.{Entry, Sent, Received}
 use Rattle.siman_application.specs.Play.{reply_after}
-use Rattle.siman_application.specs.Standing.{Standing, Takes, came}
+use Rattle.siman_application.specs.Application.{ApplicationData, Takes, came}
 use Rattle.siman_manager.specs.Answers.{taken}
 use Rattle.siman_worlds.specs.declared.turn.Node.{Node}
 use Rattle.siman_worlds.specs.declared.turn.TurnFault.{TurnFault}
@@ -22,7 +22,7 @@ sent_as s now None = []
 sent_as s now (Some p) = Sent s now (pdu_text p) ∷ []
 
 -- the reply that an application has for what came, if that is a PDU and a reply is due
-abbrev pub reply_due : Standing → Option Pdu → ℕ → Option Pdu
+abbrev pub reply_due : ApplicationData → Option Pdu → ℕ → Option Pdu
 reply_due s None stamp = None
 reply_due s (Some q) stamp = reply_after s.outfit (came s) q stamp
 
@@ -37,13 +37,13 @@ TakesBoth None old new = new ≡ old
 TakesBoth (Some q) old new = Takes old.application q new.application × (new.manager ≡ taken old.manager q)
 
 -- THE ENTRIES OF A TURN: the datagram is received, and the reply is sent, if one is due
-abbrev pub turn_entries : Standing → ℕ → ℕ → List ℕ → List Entry
+abbrev pub turn_entries : ApplicationData → ℕ → ℕ → List ℕ → List Entry
 turn_entries a s now b = Received s now b ∷ sent_as s now (reply_due a (reading b) (stamp_of now))
 
 -- Of an answer.
 
 -- The application took the PDU, and the reply that is due, which a datagram can carry, was not recorded.
-pub record IsUnsent {R F : Type 0} (refuses : R → Entry → F → R → Type 0) (s now : ℕ) (q : Pdu) (fault : F) (old new : R) (before after : Standing) : Type 0 where
+pub record IsUnsent {R F : Type 0} (refuses : R → Entry → F → R → Type 0) (s now : ℕ) (q : Pdu) (fault : F) (old new : R) (before after : ApplicationData) : Type 0 where
   pub answer : Pdu
   pub due : reply_due before (Some q) (stamp_of now) ≡ Some answer
   pub size : length (pdu_text answer) ≤ LARGEST_DATAGRAM
@@ -51,7 +51,7 @@ pub record IsUnsent {R F : Type 0} (refuses : R → Entry → F → R → Type 0
   pub application : Takes before q after
 
 -- What a fault leaves: want of memory leaves all as it was.
-abbrev pub FailsAnswer : {R F : Type 0} → (R → Entry → F → R → Type 0) → ℕ → ℕ → Pdu → TurnFault F → R → R → Standing → Standing → Type 0
+abbrev pub FailsAnswer : {R F : Type 0} → (R → Entry → F → R → Type 0) → ℕ → ℕ → Pdu → TurnFault F → R → R → ApplicationData → ApplicationData → Type 0
 FailsAnswer refuses s now q (faults.Record fault) old new before after = IsUnsent refuses s now q fault old new before after
 FailsAnswer refuses s now q faults.Memory old new before after = (new ≡ old) × (after ≡ before)
 

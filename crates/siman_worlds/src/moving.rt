@@ -7,7 +7,7 @@ ghost use Rattle.siman_pdus.specs.Spelling.{pdu_text};
 ghost use Rattle.exercise_model.specs.Entry.{Told};
 ghost use Rattle.exercise_model.specs.Station.{is_entity};
 ghost use Rattle.siman_application.specs.Play.{state_over};
-ghost use Rattle.siman_application.specs.Standing.{came};
+ghost use Rattle.siman_application.specs.Application.{came};
 ghost use Rattle.siman_worlds.specs.Acts.{HasRoom, Writes, RepeatsShort, AreShort, Gives, LacksMemory, at_move, Goes, send_fault, tell_fault, sends_of, next_order, after_order, order_fault, next_repeat, after_tick, turn_if, halves_fault, halves_entries};
 ghost use Rattle.siman_worlds.specs.Turn.{sent_as, TakesBoth};
 ghost use Rattle.siman_worlds.specs.WorldLaw.{IsOrderInRange, IsActInRange};

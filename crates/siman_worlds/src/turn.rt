@@ -4,7 +4,7 @@ ghost use Rattle.std.specs.Prelude.{◌≡◌, ◌≤◌, ◌+◌, [], length, t
 ghost use Rattle.dis_records.specs.declared.header.TheConstants.{LARGEST_DATAGRAM};
 ghost use Rattle.siman_pdus.specs.Reading.{reading};
 ghost use Rattle.siman_pdus.specs.Spelling.{pdu_text};
-ghost use Rattle.siman_application.specs.Standing.{Leaves, Takes};
+ghost use Rattle.siman_application.specs.Application.{Leaves, Takes};
 ghost use Rattle.siman_worlds.specs.Turn.{stamp_of, sent_as, reply_due, RecordsAll, TakesBoth, turn_entries, FailsAnswer, FailsTurn};
 
 use crate::recorder::Recorder;

@@ -10,7 +10,7 @@ use Rattle.exercise_model.specs.Place.{own_event, log_before}
 use Rattle.exercise_model.specs.Cause.{is_reused}
 use Rattle.exercise_findings.specs.Sent.{meant_by_send}
 use Rattle.exercise_findings.specs.Requests.{same_identifier}
-use Rattle.exercise_findings.specs.declared.requests.Kept.{Kept}
+use Rattle.exercise_findings.specs.declared.requests.KeptIdentifier.{KeptIdentifier}
 use Rattle.exercise_findings.proofs.Reused.{taken_first, requests_still, requests_more, request_own, settled, unsettled, identified, reused_here, either_test, written_twice}
 use Rattle.exercise_findings.proofs.requests.note_request.Goals as goal
 
@@ -78,7 +78,7 @@ returns-in_ok-keep_mixed-clause-tied g c =
     let reused : told ≡ is_reused r.setting.exercise q (log_before r k.station n) = differs
     ∙ ap (λ t. option_map_or (λ p. not (is_same_order q p)) (option_and_then (meant_by_send r.setting.exercise) (own_event r t kept.first)) false)
     (sym (identified c.args.station q k is).1) ∙ all.reused in
-    let mixed : Kept = record { first = kept.first; mixed = true } in
+    let mixed : KeptIdentifier = record { first = kept.first; mixed = true } in
     requests_more r n c.args.station q k mixed c.args.requests.now c.keep_mixed.new.requests c.requires.sends is
     (all.after ∙ ap (λ (b : Bool). Some (record { first = kept.first; mixed = b })) (sym reused ∙ c.if-reused.true))
     (λ l. c.in_ok-keep_mixed.ensures l ∙ ap (cond (same_identifier k l) (Some mixed)) (c.in_ok-kept.ensures.noted l)

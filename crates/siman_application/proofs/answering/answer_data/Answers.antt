@@ -2,7 +2,7 @@ use Rattle.std.proofs.Common.{[], ap, sym, ◌∙◌}
 use Rattle.siman_application.specs.Answer.{data_pdu, held_records}
 use Rattle.siman_application.specs.Holding.{held_in, stored_in}
 use Rattle.siman_application.specs.Knows.{knows}
-use Rattle.siman_application.proofs.Cut.{cut_is}
+use Rattle.siman_application.proofs.DataThatFits.{cut_is}
 use Rattle.siman_application.proofs.answering.answer_data.Goals as goal
 
 pub returns : goal.returns

@@ -3,7 +3,7 @@ use Rattle.std.specs.Prelude.{IfOk}
 use Rattle.siman_application.specs.Answer.{data_answer, held_records}
 use Rattle.siman_application.specs.Holding.{Holding, held_in, stored_in}
 use Rattle.siman_application.specs.Knows.{knows}
-use Rattle.siman_application.proofs.Told.{stored_nothing}
+use Rattle.siman_application.proofs.NothingStored.{stored_nothing}
 use Rattle.siman_application.proofs.answering.answer_query.Goals as goal
 
 pub returns : goal.returns

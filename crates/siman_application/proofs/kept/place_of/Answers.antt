@@ -1,6 +1,6 @@
 use Rattle.std.proofs.Common.{ℕ, Option, refl, sym, subst}
 use Rattle.indexmap.specs.IndexMap.{values}
-use Rattle.siman_application.specs.Kept.{IsPlace}
+use Rattle.siman_application.specs.KeptRequests.{IsPlace}
 use Rattle.siman_application.proofs.Places.{place_is}
 use Rattle.siman_application.proofs.kept.place_of.Goals as goal
 

@@ -1,5 +1,5 @@
 use Rattle.siman_application.specs.Holding.{held_in}
-use Rattle.siman_application.proofs.Right.{made_answer}
+use Rattle.siman_application.proofs.TablesStay.{made_answer}
 use Rattle.siman_application.proofs.taking.answer_and_obey.Goals as goal
 
 pub obey-requires-clause-answers : goal.obey-requires-clause-answers

@@ -4,7 +4,7 @@ use Rattle.std.specs.Option.{unwrap_or}
 use Rattle.siman_pdus.specs.DatumLists.{DatumLists}
 use Rattle.siman_application.specs.Answer.{no_datums}
 use Rattle.siman_application.specs.Holding.{held_by, held_in, stored_in}
-use Rattle.siman_application.proofs.Told.{stored_nothing}
+use Rattle.siman_application.proofs.NothingStored.{stored_nothing}
 use Rattle.siman_application.proofs.taking.store.Goals as goal
 
 pub returns-in_default : goal.returns-in_default

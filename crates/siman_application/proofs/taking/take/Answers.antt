@@ -1,6 +1,6 @@
 use Rattle.std.proofs.Common.{rules}
 use Rattle.siman_application.specs.Holding.{held_in}
-use Rattle.siman_application.proofs.Right.{Again, taken_again}
+use Rattle.siman_application.proofs.TablesStay.{Again, taken_again}
 use Rattle.siman_application.proofs.taking.take.Goals as goal
 
 again : (c : goal.After-take_again)

@@ -9,7 +9,7 @@ use Rattle.siman_application.specs.declared.kept.KeptRequest.{KeptRequest}
 use Rattle.siman_application.specs.Answer.{Knowledge, answer, told_of}
 use Rattle.siman_application.specs.Holding.{Holding, held_in}
 use Rattle.siman_application.specs.Knows.{knows}
-use Rattle.siman_application.proofs.Right.{kept_one, right_more, requests_more, given_first}
+use Rattle.siman_application.proofs.TablesStay.{kept_one, right_more, requests_more, given_first}
 use Rattle.siman_application.proofs.taking.take_first.Goals as goal
 
 kept : (c : goal.After-store)

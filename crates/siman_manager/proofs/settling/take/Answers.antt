@@ -4,7 +4,7 @@ use Rattle.siman_pdus.specs.Role.{request_id_of}
 use Rattle.siman_manager.proofs.Taking.{taken_known, settled_known}
 use Rattle.siman_manager.proofs.Tables.{values-with_value_at, keys-written, len-written}
 use Rattle.siman_manager.proofs.Quiet.{later-settled}
-use Rattle.siman_manager.proofs.Right.{numbered-written, blocks-written}
+use Rattle.siman_manager.proofs.TablesStay.{numbered-written, blocks-written}
 use Rattle.siman_manager.proofs.settling.take.Goals as goal
 
 pub returns-clause-keys : goal.returns-clause-keys

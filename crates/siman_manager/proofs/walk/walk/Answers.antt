@@ -5,7 +5,7 @@ use Rattle.indexmap.specs.IndexMap.{values}
 use Rattle.siman_manager.specs.Blocks.{IsRight, ticked_from, repeated_from}
 use Rattle.siman_manager.proofs.Tables.{length-values}
 use Rattle.siman_manager.proofs.Quiet.{blocks-renewed}
-use Rattle.siman_manager.proofs.Right.{right-later}
+use Rattle.siman_manager.proofs.TablesStay.{right-later}
 use Rattle.siman_manager.proofs.Walks.{ticked-block_end, repeated-block_end, quiet-block_end, passes_block, finds_past_block}
 use Rattle.siman_manager.proofs.walk.walk.Goals as goal
 use Rattle.siman_manager.proofs.walk.walk.Goals.{then-index-now+else-is_some, else-index-now}

@@ -3,7 +3,7 @@ use Rattle.siman_application.specs.declared.fault.AppFault.TheVariants.{Memory, 
 use Rattle.siman_application.specs.declared.entity_list.TheConstants.{MOST_ENTITIES}
 use Rattle.exercise_model.specs.Station.{StationData, is_opening}
 use Rattle.siman_application.specs.Holding.{held_in}
-use Rattle.siman_application.proofs.Right.{begun_in_range, right_start}
+use Rattle.siman_application.proofs.TablesStay.{begun_in_range, right_start}
 use Rattle.siman_application.proofs.application.Application.begin.Goals as goal
 
 pub invariant_of-result : goal.invariant_of-result

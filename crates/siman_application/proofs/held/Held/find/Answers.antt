@@ -2,7 +2,7 @@ use Rattle.std.proofs.Common.{ap, ◌∙◌, ◌≡◌, ◌-◌, ◌*◌, ℕ, L
 use Rattle.siman_pdus.specs.DatumLists.{IdLists}
 use Rattle.siman_application.specs.Holding.{Holding, held_in, stored_in}
 use Rattle.siman_application.specs.Records.{found, fitting}
-use Rattle.siman_application.proofs.Cut.{same_records, first_few}
+use Rattle.siman_application.proofs.DataThatFits.{same_records, first_few}
 use Rattle.siman_application.proofs.held.Held.find.Goals as goal
 
 pub overflow_sub-room : goal.overflow_sub-room

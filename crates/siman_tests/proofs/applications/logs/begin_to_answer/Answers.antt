@@ -9,14 +9,14 @@ use Rattle.exercise_model.specs.History.{History}
 use Rattle.siman_application.specs.declared.fault.AppFault.{AppFault}
 use Rattle.siman_application.specs.Outfit.{Outfit}
 use Rattle.siman_application.specs.Ranges.{IsOutfitInRange}
-use Rattle.siman_application.specs.Standing.{Standing}
-use Rattle.siman_application.specs.OwnLog.{Turn, Orders, Takes, log_in, IsOwnLog, IsClear, AnswersStand}
+use Rattle.siman_application.specs.Application.{ApplicationData}
+use Rattle.siman_application.specs.OwnLog.{OwnTurn, Orders, Takes, log_in, IsOwnLog, IsClear, AnswersStand}
 use Rattle.siman_tests.proofs.applications.logs.begin_to_answer.Goals as goal
 
 -- the law at the two turns
-stands : ((a : Outfit) (s : ℕ) (ts : List Turn) (h : History) (qs : List Pdu) → IsOwnLog a s ts h qs → IsClear a ts h → AnswersStand a h)
+stands : ((a : Outfit) (s : ℕ) (ts : List OwnTurn) (h : History) (qs : List Pdu) → IsOwnLog a s ts h qs → IsClear a ts h → AnswersStand a h)
     → (begun : Outfit) (o : Pdu) (b : List ℕ) (stamp : ℕ) → IsInRange o → ((i : ℕ) → slice_index b i < 256) → stamp < 2 ^ 32
-    → (r : Result Standing AppFault) → IfOk r (λ app. app.outfit ≡ begun) → IfOk r (λ app. IsOutfitInRange app.outfit)
+    → (r : Result ApplicationData AppFault) → IfOk r (λ app. app.outfit ≡ begun) → IfOk r (λ app. IsOutfitInRange app.outfit)
     → IfOk r (λ app. o.exercise ≡ begun.exercise → is_request_body o.body ≡ true → pdu_size o ≤ 8192
     → (q : Pdu) → reading b ≡ Some q → AnswersStand app.outfit (log_in app.outfit 0 (Takes b q stamp ∷ Orders o ∷ [])))
 stands law begun o b stamp range bytes small (Err fault) is ranges = tt

@@ -24,14 +24,14 @@ use Rattle.exercise_model.proofs.Offered.{received_keeps, told_keeps, no_change_
 use Rattle.siman_application.specs.Outfit.{Outfit}
 use Rattle.siman_application.specs.Distinct.{Placed, is_for, is_under_key, first_under, with_request, distinct}
 use Rattle.siman_application.specs.Answer.{Knowledge, answer}
-use Rattle.siman_application.specs.Kept.{AreFor, AreSpelled}
+use Rattle.siman_application.specs.KeptRequests.{AreFor, AreSpelled}
 use Rattle.siman_application.specs.Listed.{IsPossible, after}
 use Rattle.siman_application.specs.Play.{play, known, reply, state_over}
 use Rattle.siman_application.specs.Ranges.{IsOutfitInRange}
-use Rattle.siman_application.specs.OwnLog.{Turn, Tells, Orders, Passes, Takes, Loses, taken_in, sent_after, log_in, is_due}
+use Rattle.siman_application.specs.OwnLog.{OwnTurn, Tells, Orders, Passes, Takes, Loses, taken_in, sent_after, log_in, is_due}
 use Rattle.siman_application.proofs.Answered.{for_parts, is_answer, answer_stamped, equal_self}
 use Rattle.siman_application.proofs.Played.{key_is, request_id, outside_range, stays_by, states_go_on}
-use Rattle.siman_application.proofs.Right.{spelled_more}
+use Rattle.siman_application.proofs.TablesStay.{spelled_more}
 use Rattle.siman_application.proofs.Replies.{for_at}
 use Rattle.siman_application.proofs.Meanings.{answer_means}
 use Rattle.siman_application.proofs.Meant.{IsReplyText, IsTaken, AreMeant}
@@ -53,7 +53,7 @@ whole_taken a q stamp ds station range (Other f own first reply_is same) whole =
 whole_taken a q stamp ds station range (Fresh own none reply_is same) whole =
     subst (AreWhole a) (sym same) (record { own = (own, whole.own); spelled = spelled_more a q ds own range station whole.spelled })
 
-pub whole_turns : (a : Outfit) → IsOutfitInRange a → (later : Bool) (ts : List Turn) → AreMeant a later ts → AreWhole a (distinct a (taken_in ts))
+pub whole_turns : (a : Outfit) → IsOutfitInRange a → (later : Bool) (ts : List OwnTurn) → AreMeant a later ts → AreWhole a (distinct a (taken_in ts))
 whole_turns a station later [] are = record { own = tt; spelled = tt }
 whole_turns a station later (Tells e y ∷ ts) are = whole_turns a station later ts are
 whole_turns a station later (Orders o ∷ ts) are = whole_turns a station later ts are.1
@@ -89,7 +89,7 @@ responds_itself n k p r e =
     ∙ same_key_self k
 
 -- an answer that comes again is no change
-pub again_no_change : (a : Outfit) (s stamp : ℕ) (b : List ℕ) (q : Pdu) (f : Placed) (ts : List Turn) → AreMeant a true ts → is_for a f.request ≡ true
+pub again_no_change : (a : Outfit) (s stamp : ℕ) (b : List ℕ) (q : Pdu) (f : Placed) (ts : List OwnTurn) → AreMeant a true ts → is_for a f.request ≡ true
     → first_under q (distinct a (taken_in ts)) ≡ Some f
     → is_change a.exercise (answer_at a f stamp) (Get s b ∷ log_in a s ts) ≡ false
 again_no_change a s stamp b q f ts are own first =
@@ -101,7 +101,7 @@ again_no_change a s stamp b q f ts are own first =
     ∙ sym (responds_stamped a f stamp able k own) ∙ responds_itself able k (answer_at a f stamp) r e)
 
 -- nothing was acknowledged under the key of an answer to a request that is the first under its key
-pub fresh_acks : (a : Outfit) (s stamp n : ℕ) (b : List ℕ) (q : Pdu) (ts : List Turn) → AreMeant a true ts → is_for a q ≡ true
+pub fresh_acks : (a : Outfit) (s stamp n : ℕ) (b : List ℕ) (q : Pdu) (ts : List OwnTurn) → AreMeant a true ts → is_for a q ≡ true
     → first_under q (distinct a (taken_in ts)) ≡ None
     → (k : AcknowledgeKey) → key_of (answer a (known a (distinct a (taken_in ts))) q stamp) ≡ Some k
     → was_acknowledged a.exercise n k (Get s b ∷ log_in a s ts) ≡ false
@@ -119,14 +119,14 @@ pub record TakenAs (a : Outfit) (p q : Pdu) (log : History) : Type 0 where
   pub taken : request_taken_up a.exercise a.station.address p log ≡ Some request
   pub same : IsSameOrder request q
 
-pub taken_first : (a : Outfit) (r p : Pdu) (ts : List Turn) (f : Placed) (log : History) (o : Option Placed) (u : Option Pdu) → o ≡ Some f
+pub taken_first : (a : Outfit) (r p : Pdu) (ts : List OwnTurn) (f : Placed) (log : History) (o : Option Placed) (u : Option Pdu) → o ≡ Some f
     → request_taken_up a.exercise a.station.address p log ≡ u → TakesUp a r ts o u → TakenAs a p f.request log
 taken_first a r p ts f log None u e t up = absurd cc
 taken_first a r p ts f log (Some g) None e t up = absurd up
 taken_first a r p ts f log (Some g) (Some h) e t up =
     let same : g ≡ f = cc in record { request = h; taken = t; same = subst (λ (i : Placed). IsSameOrder h i.request) same up }
 
-pub takes_up : (a : Outfit) (s stamp : ℕ) (b : List ℕ) (q r p : Pdu) (f : Placed) (ts : List Turn) → IsTaken b q
+pub takes_up : (a : Outfit) (s stamp : ℕ) (b : List ℕ) (q r p : Pdu) (f : Placed) (ts : List OwnTurn) → IsTaken b q
     → IsReplyText (reply a (taken_in ts) q stamp) → AreMeant a true ts → (is_for a q ≡ true → PassedAlike a q ts) → AreSettled a ts → GoesTo r p
     → first_under r (distinct a (q ∷ taken_in ts)) ≡ Some f → TakenAs a p f.request (Get s b ∷ log_in a s ts)
 takes_up a s stamp b q r p f ts read text are alike settled to first =
@@ -160,7 +160,7 @@ change_same p q f same = ap (change_of p) same
 
 -- States.
 
-pub fresh_able : (a : Outfit) (s stamp : ℕ) (b : List ℕ) (q f : Pdu) (ts : List Turn) → AreMeant a true ts → is_for a q ≡ true
+pub fresh_able : (a : Outfit) (s stamp : ℕ) (b : List ℕ) (q f : Pdu) (ts : List OwnTurn) → AreMeant a true ts → is_for a q ≡ true
     → first_under q (distinct a (taken_in ts)) ≡ None
     → (p : Pdu) → p ≡ answer a (known a (distinct a (taken_in ts))) q stamp → meaning a.exercise (pdu_text p) ≡ Some p → responds able p ≡ true
     → request_taken_up a.exercise a.station.address p (Get s b ∷ log_in a s ts) ≡ Some f → IsSameOrder f q
@@ -189,7 +189,7 @@ fresh_state_able a s c q f p log ds first same can rest e false v =
     ∙ stays_by (body_kind q.body) (scope_of (body_kind q.body) q.target.entity p.origin.entity) e (λ e. state_over a ds e) can.possible v)
 
 -- the state that the answer to a first request leaves
-pub fresh_state : (a : Outfit) (s stamp : ℕ) (b : List ℕ) (q f p : Pdu) (ts : List Turn) → AreMeant a true ts → is_for a q ≡ true
+pub fresh_state : (a : Outfit) (s stamp : ℕ) (b : List ℕ) (q f p : Pdu) (ts : List OwnTurn) → AreMeant a true ts → is_for a q ≡ true
     → first_under q (distinct a (taken_in ts)) ≡ None
     → p ≡ answer a (known a (distinct a (taken_in ts))) q stamp → meaning a.exercise (pdu_text p) ≡ Some p
     → request_taken_up a.exercise a.station.address p (Get s b ∷ log_in a s ts) ≡ Some f → IsSameOrder f q
@@ -215,7 +215,7 @@ pub known_text : (a : Outfit) (qs : List Pdu) (q : Pdu) (stamp : ℕ) (k : Knowl
     → meaning a.exercise (pdu_text (answer a k d stamp)) ≡ Some (answer a k d stamp)
 known_text a qs q stamp k d own is text = answer_means a k d stamp own (text_of (reply a qs q stamp) (answer a k d stamp) is text)
 
-pub states_taken : (a : Outfit) → IsOutfitInRange a → (s stamp : ℕ) (b : List ℕ) (q : Pdu) (ts : List Turn) → IsTaken b q
+pub states_taken : (a : Outfit) → IsOutfitInRange a → (s stamp : ℕ) (b : List ℕ) (q : Pdu) (ts : List OwnTurn) → IsTaken b q
     → IsReplyText (reply a (taken_in ts) q stamp) → AreMeant a true ts → (is_for a q ≡ true → PassedAlike a q ts) → AreSettled a ts
     → Course a (distinct a (taken_in ts)) q stamp
     → ((e : ℕ) → state_after a.exercise a.station (log_in a s ts) e ≡ state_over a (distinct a (taken_in ts)) e)
@@ -253,7 +253,7 @@ unfolding play
 state_start a s e = refl
 
 -- THE STATES after a log of turns
-pub states_turns : (a : Outfit) → IsOutfitInRange a → (s : ℕ) (ts : List Turn) → AreMeant a true ts → AreSettled a ts → (e : ℕ)
+pub states_turns : (a : Outfit) → IsOutfitInRange a → (s : ℕ) (ts : List OwnTurn) → AreMeant a true ts → AreSettled a ts → (e : ℕ)
     → state_after a.exercise a.station (log_in a s ts) e ≡ state_over a (distinct a (taken_in ts)) e
 states_turns a station s [] are settled e = state_start a s e
 states_turns a station s (Tells n y ∷ ts) are settled e =

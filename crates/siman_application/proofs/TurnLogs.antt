@@ -29,14 +29,14 @@ use Rattle.siman_application.specs.Distinct.{Placed, is_for, first_under, with_r
 use Rattle.siman_application.specs.Answer.{answer}
 use Rattle.siman_application.specs.Play.{known, reply, state_over}
 use Rattle.siman_application.specs.Ranges.{IsOutfitInRange}
-use Rattle.siman_application.specs.OwnLog.{Turn, Tells, Orders, Passes, Takes, Loses, taken_in, sent_after, log_in, is_due, AnswersStand}
+use Rattle.siman_application.specs.OwnLog.{OwnTurn, Tells, Orders, Passes, Takes, Loses, taken_in, sent_after, log_in, is_due, AnswersStand}
 use Rattle.siman_application.proofs.Answered.{IsAnswer, is_answer, equal_self}
 use Rattle.siman_application.proofs.Played.{key_is}
 use Rattle.siman_application.proofs.Replies.{for_at}
 use Rattle.siman_application.proofs.Meant.{IsReplyText, IsTaken, AreMeant}
 use Rattle.siman_application.proofs.Turns.{same_key_of, first_same, first_has, answer_at, Course, Foreign, Fresh, Same, Other, course, AreSettled, PassedAlike}
 use Rattle.siman_application.proofs.Acks.{goes, responds_stamped, ack_get, acked_as, acks_turns}
-use Rattle.siman_application.proofs.After.{not_change, again_no_change, fresh_acks, takes_up, first_then, answers_same, change_same, known_text, states_turns}
+use Rattle.siman_application.proofs.TurnStates.{not_change, again_no_change, fresh_acks, takes_up, first_then, answers_same, change_same, known_text, states_turns}
 
 -- Causes.
 
@@ -90,7 +90,7 @@ never_both false true = refl
 never_both false false = refl
 
 -- an answer that comes again is no other than before
-again_unchanged : (a : Outfit) (s stamp : ℕ) (b : List ℕ) (q : Pdu) (f : Placed) (ts : List Turn) → AreMeant a true ts → is_for a f.request ≡ true
+again_unchanged : (a : Outfit) (s stamp : ℕ) (b : List ℕ) (q : Pdu) (f : Placed) (ts : List OwnTurn) → AreMeant a true ts → is_for a f.request ≡ true
     → first_under q (distinct a (taken_in ts)) ≡ Some f
     → is_changed_answer a.exercise (answer_at a f stamp) (Get s b ∷ log_in a s ts) ≡ false
 unfolding is_changed_answer
@@ -116,7 +116,7 @@ again_unchanged a s stamp b q f ts are own first = by (key_of (answer_at a f sta
       (option_map_or (same_key k) (key_of (answer_at a f stamp)) false)
       (λ r u. let no : responds unable (answer_at a f stamp) ≡ false = exclusive_in (response_of (answer_at a f stamp).body) r in absurd cc)
 
-fresh_unchanged : (a : Outfit) (s stamp : ℕ) (b : List ℕ) (q : Pdu) (ts : List Turn) → AreMeant a true ts → is_for a q ≡ true
+fresh_unchanged : (a : Outfit) (s stamp : ℕ) (b : List ℕ) (q : Pdu) (ts : List OwnTurn) → AreMeant a true ts → is_for a q ≡ true
     → first_under q (distinct a (taken_in ts)) ≡ None
     → is_changed_answer a.exercise (answer a (known a (distinct a (taken_in ts))) q stamp) (Get s b ∷ log_in a s ts) ≡ false
 unfolding is_changed_answer
@@ -143,7 +143,7 @@ unfolding is_impossible
 unchanged_possible a p f log e =
     ap (λ (b : Bool). b && is_hopeless (change_of p f).kind (change_of p f).scope (state_after a.exercise a.station log)) e
 
-fresh_possible : (a : Outfit) (s stamp : ℕ) (b : List ℕ) (q f : Pdu) (ts : List Turn) → is_for a q ≡ true → IsSameOrder f q
+fresh_possible : (a : Outfit) (s stamp : ℕ) (b : List ℕ) (q f : Pdu) (ts : List OwnTurn) → is_for a q ≡ true → IsSameOrder f q
     → ((e : ℕ) → state_after a.exercise a.station (log_in a s ts) e ≡ state_over a (distinct a (taken_in ts)) e)
     → is_impossible a.exercise a.station (Get s b ∷ log_in a s ts) (answer a (known a (distinct a (taken_in ts))) q stamp) f ≡ false
 unfolding is_impossible
@@ -183,7 +183,7 @@ no_request_by roles.Answer e = refl
 no_request_by roles.Notice e = absurd cc
 no_request_by roles.Outside e = absurd cc
 
-stands_same : (a : Outfit) (s stamp : ℕ) (b : List ℕ) (q : Pdu) (f : Placed) (ts : List Turn) → IsTaken b q
+stands_same : (a : Outfit) (s stamp : ℕ) (b : List ℕ) (q : Pdu) (f : Placed) (ts : List OwnTurn) → IsTaken b q
     → IsReplyText (reply a (taken_in ts) q stamp) → AreMeant a true ts → (is_for a q ≡ true → PassedAlike a q ts) → AreSettled a ts
     → first_under q (distinct a (taken_in ts)) ≡ Some f → with_request a (distinct a (taken_in ts)) q ≡ distinct a (taken_in ts)
     → is_answer_body (answer_at a f stamp).body ≡ true
@@ -201,7 +201,7 @@ stands_same a s stamp b q f ts read text are alike settled first same body =
     (answers_same p f.request up.request up.same is.answers) (again_unchanged a s stamp b q f ts are kept first)
     (unchanged_possible a p up.request (Get s b ∷ log_in a s ts) (again_no_change a s stamp b q f ts are kept first))
 
-stands_fresh : (a : Outfit) → IsOutfitInRange a → (s stamp : ℕ) (b : List ℕ) (q : Pdu) (ts : List Turn) → IsTaken b q
+stands_fresh : (a : Outfit) → IsOutfitInRange a → (s stamp : ℕ) (b : List ℕ) (q : Pdu) (ts : List OwnTurn) → IsTaken b q
     → IsReplyText (reply a (taken_in ts) q stamp) → AreMeant a true ts → (is_for a q ≡ true → PassedAlike a q ts) → AreSettled a ts
     → is_for a q ≡ true → first_under q (distinct a (taken_in ts)) ≡ None → with_request a (distinct a (taken_in ts)) q ≡ q ∷ distinct a (taken_in ts)
     → is_answer_body (answer a (known a (distinct a (taken_in ts))) q stamp).body ≡ true
@@ -224,11 +224,11 @@ or_true true = refl
 or_true false = refl
 
 -- before a turn in which a reply is due, one is due later on
-due_later : (a : Outfit) (later : Bool) (q : Pdu) (stamp : ℕ) (ts : List Turn) (p : Pdu) → reply a (taken_in ts) q stamp ≡ Some p
+due_later : (a : Outfit) (later : Bool) (q : Pdu) (stamp : ℕ) (ts : List OwnTurn) (p : Pdu) → reply a (taken_in ts) q stamp ≡ Some p
     → AreMeant a (later || is_due a ts q stamp) ts → AreMeant a true ts
 due_later a later q stamp ts p e are = subst (λ (b : Bool). AreMeant a b ts) (ap (λ (o : Option Pdu). later || is_some o) e ∙ or_true later) are
 
-stands_taken : (a : Outfit) → IsOutfitInRange a → (s stamp : ℕ) (later : Bool) (b : List ℕ) (q : Pdu) (ts : List Turn) → IsTaken b q
+stands_taken : (a : Outfit) → IsOutfitInRange a → (s stamp : ℕ) (later : Bool) (b : List ℕ) (q : Pdu) (ts : List OwnTurn) → IsTaken b q
     → IsReplyText (reply a (taken_in ts) q stamp) → AreMeant a (later || is_due a ts q stamp) ts → (is_for a q ≡ true → PassedAlike a q ts)
     → AreSettled a ts
     → Course a (distinct a (taken_in ts)) q stamp → AnswersStand a (log_in a s ts)
@@ -258,7 +258,7 @@ stands_taken a station s stamp later b q ts read text are alike settled (Fresh o
       rest,
     )
 
-pub stands_turns : (a : Outfit) → IsOutfitInRange a → (s : ℕ) (later : Bool) (ts : List Turn) → AreMeant a later ts → AreSettled a ts
+pub stands_turns : (a : Outfit) → IsOutfitInRange a → (s : ℕ) (later : Bool) (ts : List OwnTurn) → AreMeant a later ts → AreSettled a ts
     → AnswersStand a (log_in a s ts)
 stands_turns a station s later [] are settled = tt
 stands_turns a station s later (Tells e y ∷ ts) are settled = stands_turns a station s later ts are settled

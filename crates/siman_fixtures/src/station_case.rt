@@ -23,7 +23,7 @@ pub enum Call {
 
 /// A station at a line over memory.
 #[derive(Drop)]
-pub struct Post {
+pub struct StationCase {
     /// Its index in the script. `None`: the case is of the program.
     pub station: Option<u16>,
     /// What comes on the line.
@@ -40,8 +40,8 @@ pub struct Post {
 }
 
 /// No station stands at a line.
-pub fn nobody(alloc: Global) -> Post {
-    Post {
+pub fn nobody(alloc: Global) -> StationCase {
+    StationCase {
         station: None,
         coming: Vec::new(alloc),
         fails_at: None,

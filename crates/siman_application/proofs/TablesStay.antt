@@ -27,7 +27,7 @@ use Rattle.siman_application.specs.Answer.{Knowledge, brought, told_of, answer, 
 use Rattle.siman_application.specs.Holding.{Holding, held_by}
 use Rattle.siman_application.specs.Knows.{knows}
 use Rattle.siman_application.specs.Listed.{Entities, states_in, after}
-use Rattle.siman_application.specs.Kept.{Table, IsKey, AreKeyed, IsAnswered, AreAnswered, AreFor, AreSpelled, AreRight, kept_after, requests, requests_before, IsPlace, stamped, stamped_at}
+use Rattle.siman_application.specs.KeptRequests.{Table, IsKey, AreKeyed, IsAnswered, AreAnswered, AreFor, AreSpelled, AreRight, kept_after, requests, requests_before, IsPlace, stamped, stamped_at}
 use Rattle.siman_application.specs.Play.{play, known, state_over, answer_under, reply_after}
 use Rattle.siman_application.specs.Ranges.{IsOutfitInRange}
 use Rattle.siman_application.proofs.Answered.{IsAnswer, is_answer, for_parts, answer_stamped, stamp_of}

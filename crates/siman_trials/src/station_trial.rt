@@ -1,8 +1,8 @@
 //! Runs the calls of a station at its line, and tells what it left.
 
-use crate::post_call::make_call;
+use crate::station_call::make_call;
 use exercise_recording::{Recording, RecordingWriter};
-use siman_fixtures::{Call, Calls, Case, Entries, Kept, WELL, entries_of, found, write_to};
+use siman_fixtures::{Call, Calls, Case, Entries, WELL, Written, entries_of, found, write_to};
 use siman_lines::{MemoryLine, Node};
 use siman_worlds::{Beginning, Move, Script, begin_world, read_script};
 use std::alloc::{AllocError, Global};
@@ -21,7 +21,7 @@ struct Begun {
 #[derive(Drop)]
 pub struct Left {
     pub line: MemoryLine,
-    pub file: Kept,
+    pub file: Written,
     /// What was answered, a line for each call.
     pub told: String,
 }

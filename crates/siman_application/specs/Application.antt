@@ -5,26 +5,26 @@ use Rattle.siman_application.specs.declared.fault.AppFault.{AppFault}
 use Rattle.siman_application.specs.declared.kept.KeptRequest.{KeptRequest}
 use Rattle.siman_application.specs.Outfit.{Outfit}
 use Rattle.siman_application.specs.Distinct.{is_for, first_under, with_request}
-use Rattle.siman_application.specs.Kept.{requests}
+use Rattle.siman_application.specs.KeptRequests.{requests}
 
-pub record Standing : Type 0 where
+pub record ApplicationData : Type 0 where
   pub outfit : Outfit
   pub kept : List KeptRequest
 
 -- the distinct requests that came, the last first
-abbrev pub came : Standing → List Pdu
+abbrev pub came : ApplicationData → List Pdu
 came s = requests s.kept
 
 -- the PDU is for the station and the first under its key
-abbrev pub is_new : Standing → Pdu → Bool
+abbrev pub is_new : ApplicationData → Pdu → Bool
 is_new s q = is_for s.outfit q && is_none (first_under q (came s))
 
 -- what a call that took q left: the same outfit, and q among the distinct requests if it is one
-pub record Takes (old : Standing) (q : Pdu) (new : Standing) : Type 0 where
+pub record Takes (old : ApplicationData) (q : Pdu) (new : ApplicationData) : Type 0 where
   pub outfit : new.outfit ≡ old.outfit
   pub came_is : came new ≡ with_request old.outfit (came old) q
 
 -- what a call leaves that was to take q; an error leaves all as it was
-abbrev pub Leaves : {A : Type 0} → Standing → Pdu → Result A AppFault → Standing → Type 0
+abbrev pub Leaves : {A : Type 0} → ApplicationData → Pdu → Result A AppFault → ApplicationData → Type 0
 Leaves old q (Ok r) new = Takes old q new
 Leaves old q (Err fault) new = new ≡ old

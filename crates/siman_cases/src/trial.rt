@@ -3,7 +3,7 @@
 use crate::shelf::{Shelf, filled};
 use siman_agreement::compare_case;
 use siman_console::{Ended, run};
-use siman_fixtures::{Case, Written, Line, first, read_from, read_line, write_to};
+use siman_fixtures::{Case, Line, Written, first, read_from, read_line, write_to};
 use siman_trials::{compare, try_post};
 use std::alloc::Global;
 use std::io;

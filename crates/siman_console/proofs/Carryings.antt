@@ -16,12 +16,12 @@ use Rattle.siman_console.specs.declared.convert.TheConstants.{LARGEST_OLD_RECORD
 use Rattle.siman_console.specs.declared.fault.Fault.{Fault}
 use Rattle.siman_console.specs.declared.fault.Fault.TheVariants.{Memory}
 use Rattle.siman_console.specs.Check.{Recorded}
-use Rattle.siman_console.specs.Convert.{converted_line, IsUncarried, CarriesTexts, Carries, TellsConvert}
+use Rattle.siman_console.specs.Convert.{converted_text, IsUncarried, CarriesTexts, Carries, TellsConvert}
 use Rattle.siman_console.specs.Ending.{of_convert}
 use Rattle.siman_console.specs.Outcome.{Stream}
 use Rattle.siman_console.specs.Outside.{Deed}
 use Rattle.siman_console.specs.Program.{Answered, MakesBoth, ConvertsRecorded, ConvertsFound}
-use Rattle.siman_console.specs.Search.{PutsBoth}
+use Rattle.siman_console.specs.Audit.{PutsBoth}
 use Rattle.siman_console.proofs.Searches.{unsearched}
 
 -- nothing was readied
@@ -44,12 +44,12 @@ unmade (Ok carried) passed recorded = absurd passed
 unmade (Err e) passed recorded = rw passed (inl (inr (inr refl)))
 
 -- it was readied, and its line made
-pub readied : (c : ConversionData) (line : List ℕ) → line ≡ converted_line c.entries → (recorded : Recorded) → Readies recorded (Ok c)
+pub readied : (c : ConversionData) (line : List ℕ) → line ≡ converted_text c.entries → (recorded : Recorded) → Readies recorded (Ok c)
     → (r : PlainRecording) × IsOld recorded r × CarriesTexts r c.text line
 readied c line is recorded p = (
   p.0,
   p.1,
-  record { text_is = ap (λ (d : ConversionData). d.text) p.2; line_is = is ∙ ap (λ (d : ConversionData). converted_line d.entries) p.2 },
+  record { text_is = ap (λ (d : ConversionData). d.text) p.2; line_is = is ∙ ap (λ (d : ConversionData). converted_text d.entries) p.2 },
 )
 
 -- What follows, whatever was read, of what is known of it.

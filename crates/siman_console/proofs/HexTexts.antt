@@ -7,7 +7,7 @@ use Rattle.hex.specs.Hex.{IsBytes, encode_lower, lower_digits, decode_of}
 use Rattle.hex.proofs.HexLemmas.{decode_of-encode_lower, length-encode_with}
 use Rattle.siman_console.specs.HexText.{bytes_of}
 use Rattle.siman_console.specs.Answer.{answer_to, said_of_bytes, said_of_hex}
-use Rattle.siman_console.specs.Lines.{told_of_said, told_of_line}
+use Rattle.siman_console.specs.Pdus.{told_of_said, told_of_line}
 
 -- a test that fails
 within : {X : Type 0} (m n : ℕ) (x y : X) → n ≤ m → (if nat_lt m n then x else y) ≡ y

@@ -1,15 +1,16 @@
 -- Why a move is not made, where its station is there.
-use Rattle.std.proofs.Common.{◌≡◌, ℕ, ◌+◌, ◌<◌, ◌≤◌, nat_le, true, List, length, get_or, Option, Some, Result, Ok, Err, refl, sym, ap, ◌∙◌, arith}
+use Rattle.std.proofs.Common.{◌≡◌, ℕ, ◌+◌, ◌<◌, ◌≤◌, nat_le, true, List, length, get_or, Option, Some, None, Result, Ok, Err, refl, sym, ap, ◌∙◌, arith}
 use Rattle.std.proofs.lemmas.Bool.Decides.{nat_tests}
 use Rattle.std.proofs.lemmas.Option.{slice_get-get_or}
 use Rattle.std.specs.Prelude.{slice_get, option_map, IfErr, OnOk}
 use Rattle.std.specs.Result.{IsErrAnd}
 use Rattle.exercise_model.specs.declared.recording.TheConstants.{MOST_ENTRIES}
 use Rattle.siman_scripts.specs.declared.act.Act.{Act}
-use Rattle.siman_worlds.specs.declared.turn.Node.{Node}
+use Rattle.siman_stations.specs.declared.turn.Node.{Node}
 use Rattle.siman_worlds.specs.declared.world_fault.MoveFault.{MoveFault}
-use Rattle.siman_console.specs.declared.posts.Halt.{Halt}
-use Rattle.siman_console.specs.Posts.{live_fault, judged, Gives}
+use Rattle.siman_console.specs.declared.live_moves.Halt.{Halt}
+use Rattle.siman_console.specs.declared.live_moves.Halt.TheVariants as halts
+use Rattle.siman_console.specs.LiveMoves.{live_fault, judged, Gives}
 
 -- what stands at a place
 pub stands_at : {X : Type 0} (xs : List X) (i s : ℕ) (x : X) → i < length xs → i ≡ s → x ≡ get_or xs i x → slice_get xs s ≡ Some x
@@ -31,3 +32,11 @@ passes_on (Err e) halt reason other same passed gives = rw passed (rw same gives
 pub on_any : {X E P : Type 0} (result : Result X E) → P → OnOk result P
 on_any (Ok x) p = p
 on_any (Err e) p = tt
+
+-- What came of serving stations is no reason against a move.
+pub served_any : {X : Type 0} (result : Result X Halt) (reason : Option MoveFault) → IfErr result (Gives None) → IfErr result (Gives reason)
+served_any (Ok x) reason h = tt
+served_any (Err (halts.Move fault)) reason h = absurd cc
+served_any (Err halts.Line) reason h = tt
+served_any (Err halts.Record) reason h = tt
+served_any (Err halts.Memory) reason h = tt

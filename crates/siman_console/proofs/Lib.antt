@@ -2,6 +2,7 @@ pub mod Endings
 pub mod Fetches
 pub mod Files
 pub mod HexTexts
+pub mod Keyed
 pub mod Passings
 pub mod Readings
 pub mod Shown

@@ -7,7 +7,7 @@ use Rattle.std.proofs.KnownBytes.{Consumes-trans, Consumes-nil}
 use Rattle.std.proofs.lemmas.Bool.Decides.{nat_tests}
 use Rattle.std.proofs.lemmas.List.{length-take, take_more_set, take-append-le}
 use Rattle.siman_scripts.specs.Text.{lines_of}
-use Rattle.siman_console.specs.Lines.{ReadsLine, HoldsLine}
+use Rattle.siman_console.specs.Pdus.{ReadsLine, HoldsLine}
 
 -- no byte is a line feed
 abbrev pub NoEnd : List ℕ → Type 0

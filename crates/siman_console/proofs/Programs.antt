@@ -10,12 +10,12 @@ use Rattle.exercise_check.specs.Certificate.{certificate_at, certificate_text}
 use Rattle.siman_console.specs.declared.fault.Fault.{Fault}
 use Rattle.siman_console.specs.Check.{Recorded, Certified, TellsCheck}
 use Rattle.siman_console.specs.Outside.{Deed, Adds}
-use Rattle.siman_console.specs.Lines.{EndsLines}
+use Rattle.siman_console.specs.Pdus.{EndsLines}
 use Rattle.siman_console.specs.Outcome.{Stream, Outcome}
 use Rattle.siman_console.specs.Program.{Answered, TriesInput, EndsInput, TellsShown, TellsJudged, MakesFile, RunsFound, MakesBoth, MakesFinding, AuditsRecorded, AuditsFound}
-use Rattle.siman_console.specs.declared.search.Finding.{Finding}
-use Rattle.siman_console.specs.declared.search.Finding.TheVariants.{Order, Stuck}
-use Rattle.siman_console.specs.Search.{Finds, Searches}
+use Rattle.siman_console.specs.declared.audit.Finding.{Finding}
+use Rattle.siman_console.specs.declared.audit.Finding.TheVariants.{Order, Stuck}
+use Rattle.siman_console.specs.Audit.{Finds, Searches}
 use Rattle.siman_console.specs.Show.{TellsShow}
 use Rattle.siman_console.specs.Trial.{TellsTrial}
 use Rattle.siman_console.specs.World.{Scripted, Runs}

@@ -16,12 +16,12 @@ use Rattle.exercise_audit.specs.Audit.{AreBlocks, IsBlocked}
 use Rattle.siman_console.specs.declared.show.TheConstants.{LARGEST_RECORDING}
 use Rattle.siman_console.specs.declared.fault.Fault.{Fault}
 use Rattle.siman_console.specs.declared.fault.Fault.TheVariants.{Memory}
-use Rattle.siman_console.specs.declared.search.Finding.{Finding}
-use Rattle.siman_console.specs.declared.search.Finding.TheVariants.{Order, Stuck}
+use Rattle.siman_console.specs.declared.audit.Finding.{Finding}
+use Rattle.siman_console.specs.declared.audit.Finding.TheVariants.{Order, Stuck}
 use Rattle.siman_console.specs.Check.{Recorded}
 use Rattle.siman_console.specs.Ending.{of_recording}
 use Rattle.siman_console.specs.Outcome.{Stream}
-use Rattle.siman_console.specs.Search.{explained_line, FindsOrder, IsUnsearched, AreTextsOf, Finds, Searches, PutsBoth, PutsFinding, TellsAudit}
+use Rattle.siman_console.specs.Audit.{explained_text, FindsOrder, IsUnsearched, AreTextsOf, Finds, Searches, PutsBoth, PutsFinding, TellsAudit}
 
 -- each block is of one of the stations
 are_within : (r : PlainRecording) (h : History) (n : ℕ) (blocks : List Block) → AreBlocks r h n blocks → All (λ (b : Block). b.station < n) blocks
@@ -61,7 +61,7 @@ unmade recorded (Err e) passed = rw passed (inr (inr refl))
 told_order : (recorded : Recorded) (certificate line : List ℕ) (steps : List Step) (answered : Result ℕ Fault) (file out : Stream) → FindsOrder recorded steps
     → AreTextsOf steps certificate line → PutsBoth certificate line answered file out → TellsAudit recorded answered file out
 told_order recorded certificate line steps answered file out finds texts puts =
-    inr (inl (steps, finds, subst (λ t. PutsBoth t (explained_line (length steps)) answered file out) texts.certificate_is (subst (λ t. PutsBoth certificate t answered file out) texts.line_is puts)))
+    inr (inl (steps, finds, subst (λ t. PutsBoth t (explained_text (length steps)) answered file out) texts.certificate_is (subst (λ t. PutsBoth certificate t answered file out) texts.line_is puts)))
 
 pub tells_found : (recorded : Recorded) (finding : Finding) (answered : Result ℕ Fault) (file out : Stream) → Finds recorded finding
     → PutsFinding finding answered file out → TellsAudit recorded answered file out

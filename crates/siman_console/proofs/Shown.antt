@@ -11,6 +11,8 @@ use Rattle.byte_files.specs.Fields.{Fails}
 use Rattle.exercise_recording.specs.Reading.{format_of}
 use Rattle.siman_console.specs.declared.fault.Fault.{Fault}
 use Rattle.siman_console.specs.Ending.{of_recording}
+use Rattle.siman_texts.specs.declared.spelling.Spelling.TheVariants.{Text}
+use Rattle.siman_texts.specs.Spelled.{line_spelled}
 use Rattle.siman_console.specs.Report.{texts_below}
 use Rattle.siman_console.specs.Show.{counts_line, station_shown, entry_shown, show_text, PassesOn, Shows}
 
@@ -24,7 +26,7 @@ recording_refused recorded recordings.Read old new why keeps = keeps
 recording_refused recorded recordings.Memory old new why keeps = inl keeps
 
 -- the three parts of the text of a recording
-pub whole_text : (r : PlainRecording) (line : List ℕ) → line ≡ counts_line r
+pub whole_text : (r : PlainRecording) (line : List ℕ) → line ≡ line_spelled Text (counts_line r)
     → (line ++ texts_below (station_shown r) (length r.setting.stations)) ++ texts_below (entry_shown r) (length r.entries) ≡ show_text r
 whole_text r line e = rw e refl
 

@@ -17,23 +17,23 @@ use Rattle.siman_console.specs.declared.fault.Ended.{Ended}
 use Rattle.siman_console.specs.declared.fault.Fault.{Fault}
 use Rattle.siman_console.specs.Ending.{Wrote}
 use Rattle.siman_console.specs.declared.fault.Fault.TheVariants.{NotBytePairs, HexLine, Input, File, Words, Recording, Already, Certificate, Script, ScriptRead, World, LineFailed, Output, Memory}
-use Rattle.siman_console.specs.declared.lines.Stop.{Stop}
-use Rattle.siman_console.specs.declared.lines.Stop.TheVariants as stops
+use Rattle.siman_console.specs.declared.pdus.Stop.{Stop}
+use Rattle.siman_console.specs.declared.pdus.Stop.TheVariants as stops
 use Rattle.siman_console.specs.Answer.{not_byte_pairs, said_of_reading, said_of_bytes, said_of_hex, IsSaid}
 use Rattle.siman_console.specs.HexText.{bytes_of}
-use Rattle.siman_console.specs.Lines.{Told, untold, and_then, told_of_said, told_of_line, told_of, IsWritten, WritesTorn, StopsAfter, TellsLines, TellsBad, TellsLine, ReadsLine, ReadsLines, HoldsLine, EndsLines}
+use Rattle.siman_console.specs.Pdus.{LinesTold, untold, and_then, told_of_said, told_of_line, told_of, IsWritten, WritesTorn, StopsAfter, TellsLines, TellsBad, TellsLine, ReadsLine, ReadsLines, HoldsLine, EndsLines}
 use Rattle.siman_console.specs.Outcome.{Stream, Outcome}
 
 -- ---- what is told
 
 same_told : (s t : ℕ) (o p e f : List ℕ) → s ≡ t → o ≡ p → e ≡ f
-    → record { status = s; out = o; errors = e } ≡ (let told : Told = record { status = t; out = p; errors = f } in told)
+    → record { status = s; out = o; errors = e } ≡ (let told : LinesTold = record { status = t; out = p; errors = f } in told)
 same_told s t o p e f a b c = rw (a, b, c) refl
 
-and_then-untold : (a : Told) → and_then a untold ≡ and_then untold a
+and_then-untold : (a : LinesTold) → and_then a untold ≡ and_then untold a
 and_then-untold a = same_told _ _ _ _ _ _ (omega arith) (append-nil a.out) (append-nil a.errors)
 
-and_then_assoc : (a b c : Told) → and_then a (and_then b c) ≡ and_then (and_then a b) c
+and_then_assoc : (a b c : LinesTold) → and_then a (and_then b c) ≡ and_then (and_then a b) c
 and_then_assoc a b c =
     same_told _ _ _ _ _ _ (omega arith) (sym (append_assoc a.out b.out c.out)) (sym (append_assoc a.errors b.errors c.errors))
 
@@ -110,7 +110,7 @@ pub worst-more : (lines : List (List ℕ)) (line : List ℕ) (n worst status : �
 worst-more lines line n worst status number before more =
     let whole : told_of 0 (lines ++ line ∷ []) ≡ and_then (told_of 0 lines) (told_of_line n line) =
     told_of-next lines line n number in
-    rw (before, more) (sym (ap (λ (told : Told). told.status) whole))
+    rw (before, more) (sym (ap (λ (told : LinesTold). told.status) whole))
 
 -- nothing of no lines
 pub written-none : (o e : Option (List ℕ)) → IsWritten (told_of 0 []) (stream o o) (stream e e)
@@ -153,17 +153,17 @@ out_of_bytes number None = refl
 out_of_bytes number (Some b) = out_of_reading number (refusal_of b) (pdu_from (header_at b) b)
 
 out_of_line : (number : ℕ) (line : List ℕ) → 0 < length line → (told_of_line number line).out ≡ (said_of_hex line).text
-out_of_line number line some = ap (λ (told : Told). told.out) (told_of_line-some number line some) ∙ out_of_bytes number (bytes_of line)
+out_of_line number line some = ap (λ (told : LinesTold). told.out) (told_of_line-some number line some) ∙ out_of_bytes number (bytes_of line)
 
 -- a bad line
 pub line-bad : (number : ℕ) (line : List ℕ) (result : Result ℕ Stop) (o p e f : Option (List ℕ)) → 0 < length line → said_of_hex line ≡ not_byte_pairs
     → Keeps o p → TellsBad number result (stream e f) → TellsLine (told_of_line number line) result (stream o p) (stream e f)
 line-bad number line (Ok status) o p e f some bad kept told =
     let same = told_of_line-some number line some ∙ ap (told_of_said number) bad in
-    subst (λ (t : Told). TellsLine t (Ok status) (stream o p) (stream e f)) (sym same) (told.0, (Appends-kept o o p [] (Appends-nil o) kept, told.1))
+    subst (λ (t : LinesTold). TellsLine t (Ok status) (stream o p) (stream e f)) (sym same) (told.0, (Appends-kept o o p [] (Appends-nil o) kept, told.1))
 line-bad number line (Err (stops.Untold failed)) o p e f some bad kept told =
     let same = told_of_line-some number line some ∙ ap (told_of_said number) bad in
-    subst (λ (t : Told). TellsLine t (Err (stops.Untold failed)) (stream o p) (stream e f)) (sym same) (kept, told)
+    subst (λ (t : LinesTold). TellsLine t (Err (stops.Untold failed)) (stream o p) (stream e f)) (sym same) (kept, told)
 line-bad number line (Err (stops.Fault fault)) o p e f some bad kept told = absurd told
 
 -- a line that was not told whole
@@ -190,7 +190,7 @@ pub line-held : (number : ℕ) (b c : Option (List ℕ)) (buffer text : List ℕ
     → length buffer ≡ LONGEST_HEX + 1 → (holds : HoldsLine b c buffer held) → text ≡ take held buffer
     → TellsLine (told_of_line number text) result out errors → TellsLine (told_of_line number holds.line) result out errors
 line-held number b c buffer text held result out errors size holds front told =
-    subst (λ (t : Told). TellsLine t result out errors) (told_of_line-held number text buffer holds.line size (front ∙ holds.front)) told
+    subst (λ (t : LinesTold). TellsLine t result out errors) (told_of_line-held number text buffer holds.line size (front ∙ holds.front)) told
 
 -- ---- what is read
 
@@ -246,7 +246,7 @@ pub told-none : (a o e : Option (List ℕ)) → ToldSoFar a a o o e e 1 0
 told-none a o e = record {
   lines = [];
   count = refl;
-  status = sym (ap (λ (told : Told). told.status) told_of-none);
+  status = sym (ap (λ (told : LinesTold). told.status) told_of-none);
   written = written-none o e;
   read = reads-none a;
 }

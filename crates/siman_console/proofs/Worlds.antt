@@ -13,7 +13,7 @@ use Rattle.siman_console.specs.declared.fault.Fault.TheVariants.{ScriptRead, Out
 use Rattle.byte_files.specs.Fetching.{fetched}
 use Rattle.siman_console.specs.Outcome.{Stream}
 use Rattle.siman_console.specs.Show.{IsPassedOn}
-use Rattle.siman_console.specs.World.{Scripted, Runs, world_line, PutsWorld}
+use Rattle.siman_console.specs.World.{Scripted, Runs, world_text, PutsWorld}
 use Rattle.siman_console.proofs.Fetches.{script_at-fetched}
 use Rattle.siman_console.proofs.Passings.{passed-whole}
 
@@ -32,10 +32,10 @@ runs_fetched (Some bytes) text result whole runs =
     subst (λ scripted. Runs scripted result) (script_at-fetched bytes) (subst (λ t. Runs (script_at t) result) whole runs)
 
 -- the recording is in its file, and then its line was written or not
-pub world_put : (r : PlainRecording) (line : List ℕ) (file out : Stream) → line ≡ world_line r → IsPassedOn file.old file.new [] (recording_text r)
+pub world_put : (r : PlainRecording) (line : List ℕ) (file out : Stream) → line ≡ world_text r → IsPassedOn file.old file.new [] (recording_text r)
     → Appends out.old out.new line → PutsWorld r (Ok 0) file out
 world_put r line file out e whole written = (refl, passed-whole file.old file.new (recording_text r) whole, subst (Appends out.old out.new) e written)
 
-pub line_short : (r : PlainRecording) (line : List ℕ) (file out : Stream) → line ≡ world_line r → IsPassedOn file.old file.new [] (recording_text r)
+pub line_short : (r : PlainRecording) (line : List ℕ) (file out : Stream) → line ≡ world_text r → IsPassedOn file.old file.new [] (recording_text r)
     → WritesPart out.old out.new line → PutsWorld r (Err Output) file out
 line_short r line file out e whole part = inr (passed-whole file.old file.new (recording_text r) whole, subst (WritesPart out.old out.new) e part)

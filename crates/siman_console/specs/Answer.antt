@@ -10,6 +10,8 @@ use Rattle.siman_console.specs.declared.fault.Fault.{Fault}
 use Rattle.siman_console.specs.declared.fault.Fault.TheVariants.{NotBytePairs, HexLine, Input, File, Words, Recording, Already, Certificate, Script, ScriptRead, World, LineFailed, Output, Memory}
 use Rattle.siman_console.specs.Ending.{EndsWith}
 use Rattle.siman_console.specs.HexText.{bytes_of}
+use Rattle.siman_texts.specs.declared.spelling.Spelling.TheVariants.{Text}
+use Rattle.siman_texts.specs.Spelled.{lines_spelled}
 use Rattle.siman_console.specs.Records.{pdu_lines, line_end}
 
 -- a status, and the text that goes out before
@@ -18,7 +20,7 @@ pub record Said : Type 0 where
   pub text : List ℕ
 
 abbrev pub said_of_pdu : Pdu → Said
-said_of_pdu pdu = record { status = 0; text = pdu_lines pdu }
+said_of_pdu pdu = record { status = 0; text = lines_spelled Text (pdu_lines pdu) }
 
 -- refused NUMBER NAME
 abbrev pub refusal_line : PduFault → List ℕ

@@ -21,7 +21,7 @@ use Rattle.siman_console.specs.declared.files_fault.FilesFault.{FilesFault}
 use Rattle.siman_console.specs.declared.files_fault.FilesFault.TheVariants.{Recording, Certificate, Write, Memory}
 use Rattle.siman_console.specs.declared.fault.Fault.{Fault}
 use Rattle.siman_console.specs.Ending.{EndsWith, of_files}
-use Rattle.siman_console.specs.Report.{report_text, no_line}
+use Rattle.siman_console.specs.Report.{report_text, no_text}
 
 -- what reading a recording gives, and what reading a certificate gives: its steps
 abbrev pub Recorded : Type 0
@@ -60,12 +60,12 @@ pub record SaysNo (recorded : Recorded) (certified : Certified) (old new : Optio
   -- so the certificate is not good
   pub bad : ¬ IsGood recording steps
   -- its line is out, behind what was there
-  pub out : Appends old new (no_line step cause)
+  pub out : Appends old new (no_text step cause)
 
 -- the text that is to go out for a recording and the steps of a certificate
 abbrev pub IsDue : PlainRecording → List Step → List ℕ → Type 0
 IsDue r steps text =
-    (IsGood r steps × (text ≡ report_text r)) ⊎ ((k : ℕ) × (cause : Cause) × Refuses r steps (Bad k cause) × (text ≡ no_line k cause))
+    (IsGood r steps × (text ≡ report_text r)) ⊎ ((k : ℕ) × (cause : Cause) × Refuses r steps (Bad k cause) × (text ≡ no_text k cause))
 
 -- WHAT A FAILED WRITE LEAVES: of the text that was to go out a prefix
 pub record SaysPart (recorded : Recorded) (certified : Certified) (old new : Option (List ℕ)) : Type 0 where

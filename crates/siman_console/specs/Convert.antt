@@ -1,5 +1,5 @@
 -- What `convert` does with a recording, and how it ends.
-use Rattle.std.specs.Prelude.{◌≡◌, ◌⊎◌, ℕ, List, ◌++◌, length, codes, decimal, Result, Ok, Err, string_bytes}
+use Rattle.std.specs.Prelude.{◌≡◌, ◌⊎◌, ℕ, List, [], ◌∷◌, length, codes, Result, Ok, Err, string_bytes}
 use Rattle.std.specs.Io.KnownBytes.{Keeps}
 use Rattle.exercise_model.specs.Recording.{PlainRecording}
 use Rattle.exercise_model.specs.Conversion.{converted}
@@ -11,12 +11,16 @@ use Rattle.siman_console.specs.declared.fault.Fault.TheVariants.{Already}
 use Rattle.siman_console.specs.Check.{Recorded}
 use Rattle.siman_console.specs.Ending.{EndsWith}
 use Rattle.siman_console.specs.Outcome.{Stream}
-use Rattle.siman_console.specs.Records.{line_end}
-use Rattle.siman_console.specs.Search.{IsUnsearched, PutsBoth}
+use Rattle.siman_texts.specs.Line.{Number, Keyed, Line, named_line}
+use Rattle.siman_texts.specs.Spelled.{line_text}
+use Rattle.siman_console.specs.Audit.{IsUnsearched, PutsBoth}
 
 -- converted records=N
-abbrev pub converted_line : (entries : ℕ) → List ℕ
-converted_line entries = codes "converted records=" ++ decimal entries ++ line_end
+abbrev pub converted_line : (entries : ℕ) → Line
+converted_line entries = named_line (codes "converted") (Keyed (codes "records") (Number entries) ∷ [])
+
+abbrev pub converted_text : (entries : ℕ) → List ℕ
+converted_text entries = line_text (converted_line entries)
 
 -- NOTHING IS CARRIED OVER: the file has a bad field, a read failed, memory ran out, or it is a recording of the second format already
 abbrev pub IsUncarried : Recorded → Fault → Type 0
@@ -25,7 +29,7 @@ IsUncarried recorded fault = IsUnsearched recorded fault ⊎ (IsAlready recorded
 -- the texts of a recording that is carried over: that of its conversion, and its line
 pub record CarriesTexts (r : PlainRecording) (text line : List ℕ) : Type 0 where
   pub text_is : text ≡ recording_text (converted r)
-  pub line_is : line ≡ converted_line (length r.entries)
+  pub line_is : line ≡ converted_text (length r.entries)
 
 -- what is carried over, with its texts
 abbrev pub Carries : Recorded → Result Carried Fault → Type 0
@@ -34,7 +38,7 @@ Carries recorded (Err fault) = IsUncarried recorded fault
 
 -- WHAT IS WRITTEN OF A RECORDING of the first format: the text of its conversion to the file, whole, and then its line, with status 0
 abbrev pub PutsConverted : PlainRecording → Result ℕ Fault → (file out : Stream) → Type 0
-PutsConverted r answered file out = PutsBoth (recording_text (converted r)) (converted_line (length r.entries)) answered file out
+PutsConverted r answered file out = PutsBoth (recording_text (converted r)) (converted_text (length r.entries)) answered file out
 
 -- What `convert` tells: nothing is carried over, and nothing is written; or the recording is one of the first format, and its conversion and its line are written.
 abbrev pub TellsConvert : Recorded → (answered : Result ℕ Fault) → (file out : Stream) → Type 0

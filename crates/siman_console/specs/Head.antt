@@ -1,41 +1,65 @@
--- The head of a PDU as text: the name of its kind, its header, its two identifiers, the fields of its body and the counts of its records.
-use Rattle.std.specs.Prelude.{ℕ, List, ◌++◌, length, codes, decimal}
+-- The head of a PDU: the name of its kind, its header, its two identifiers, the fields of its body and the counts of its records.
+use Rattle.std.specs.Prelude.{ℕ, List, [], ◌∷◌, ◌++◌, length, codes}
 use Rattle.dis_records.specs.Header.{version_code}
 use Rattle.dis_records.specs.Texts.{entity_text, clock_text, kind_text}
+use Rattle.dis_records.specs.declared.entity.EntityId.{EntityId}
+use Rattle.dis_records.specs.declared.clock_time.ClockTime.{ClockTime}
+use Rattle.siman_texts.specs.Line.{Number, Word, Field, Bare, Keyed, Line, opened_line}
 use Rattle.siman_pdus.specs.declared.pdu.Body.{Body}
 use Rattle.siman_pdus.specs.declared.pdu.Body.TheVariants.{CreateEntity, RemoveEntity, StartResume, StopFreeze, Acknowledge, ActionRequest, ActionResponse, DataQuery, SetData, DataPdu, EventReport, Comment}
 use Rattle.siman_pdus.specs.declared.pdu.Pdu.{Pdu}
 use Rattle.siman_pdus.specs.DatumLists.{DatumLists, IdLists}
 use Rattle.siman_pdus.specs.Spelling.{body_kind}
 
-abbrev pub counts_text : ℕ → ℕ → List ℕ
-counts_text fixed variable = codes " fixed=" ++ decimal fixed ++ codes " variable=" ++ decimal variable
+-- KEY=N
+abbrev pub number_field : List ℕ → ℕ → Field
+number_field key n = Keyed key (Number n)
 
-abbrev pub datum_counts : DatumLists → List ℕ
-datum_counts d = counts_text (length d.fixed) (length d.variable)
+-- KEY=SITE:APPLICATION:ENTITY
+abbrev pub identifier_field : List ℕ → EntityId → Field
+identifier_field key id = Keyed key (Word (entity_text id))
 
-abbrev pub id_counts : IdLists → List ℕ
-id_counts d = counts_text (length d.fixed) (length d.variable)
+-- KEY=HOUR/PAST
+abbrev pub time_field : List ℕ → ClockTime → Field
+time_field key t = Keyed key (Word (clock_text t))
 
-abbrev pub fields_text : Body → List ℕ
-fields_text (CreateEntity request) = codes " request=" ++ decimal request
-fields_text (RemoveEntity request) = codes " request=" ++ decimal request
-fields_text (StartResume real sim request) =
-    codes " real=" ++ clock_text real ++ codes " sim=" ++ clock_text sim ++ codes " request=" ++ decimal request
-fields_text (StopFreeze real reason behaviour request) =
-    codes " real=" ++ clock_text real ++ codes " reason=" ++ decimal reason ++ codes " behaviour=" ++ decimal behaviour ++ codes " request=" ++ decimal request
-fields_text (Acknowledge flag response request) =
-    codes " flag=" ++ decimal flag ++ codes " response=" ++ decimal response ++ codes " request=" ++ decimal request
-fields_text (ActionRequest request action datums) = codes " request=" ++ decimal request ++ codes " action=" ++ decimal action ++ datum_counts datums
-fields_text (ActionResponse request status datums) = codes " request=" ++ decimal request ++ codes " result=" ++ decimal status ++ datum_counts datums
-fields_text (DataQuery request interval ids) = codes " request=" ++ decimal request ++ codes " interval=" ++ decimal interval ++ id_counts ids
-fields_text (SetData request datums) = codes " request=" ++ decimal request ++ datum_counts datums
-fields_text (DataPdu request datums) = codes " request=" ++ decimal request ++ datum_counts datums
-fields_text (EventReport event datums) = codes " event=" ++ decimal event ++ datum_counts datums
-fields_text (Comment datums) = datum_counts datums
+-- how many records there are, or identifiers
+abbrev pub counts : ℕ → ℕ → List Field
+counts fixed variable = number_field (codes "fixed") fixed ∷ number_field (codes "variable") variable ∷ []
 
-abbrev pub head_text : Pdu → List ℕ
-head_text pdu =
-    kind_text (body_kind pdu.body) ++ codes " version=" ++ decimal (version_code pdu.version) ++ codes " exercise=" ++ decimal pdu.exercise
-    ++ codes " stamp=" ++ decimal pdu.stamp ++ codes " status=" ++ decimal pdu.status
-    ++ codes " from=" ++ entity_text pdu.origin ++ codes " to=" ++ entity_text pdu.target ++ fields_text pdu.body
+abbrev pub datum_counts : DatumLists → List Field
+datum_counts d = counts (length d.fixed) (length d.variable)
+
+abbrev pub id_counts : IdLists → List Field
+id_counts d = counts (length d.fixed) (length d.variable)
+
+abbrev pub body_fields : Body → List Field
+body_fields (CreateEntity request) = number_field (codes "request") request ∷ []
+body_fields (RemoveEntity request) = number_field (codes "request") request ∷ []
+body_fields (StartResume real sim request) = time_field (codes "real") real ∷ time_field (codes "sim") sim ∷ number_field (codes "request") request ∷ []
+body_fields (StopFreeze real reason behaviour request) =
+    time_field (codes "real") real ∷ number_field (codes "reason") reason ∷ number_field (codes "behaviour") behaviour ∷ number_field (codes "request") request ∷ []
+body_fields (Acknowledge flag response request) = number_field (codes "flag") flag ∷ number_field (codes "response") response ∷ number_field (codes "request") request ∷ []
+body_fields (ActionRequest request action datums) = number_field (codes "request") request ∷ number_field (codes "action") action ∷ datum_counts datums
+body_fields (ActionResponse request status datums) = number_field (codes "request") request ∷ number_field (codes "result") status ∷ datum_counts datums
+body_fields (DataQuery request interval ids) = number_field (codes "request") request ∷ number_field (codes "interval") interval ∷ id_counts ids
+body_fields (SetData request datums) = number_field (codes "request") request ∷ datum_counts datums
+body_fields (DataPdu request datums) = number_field (codes "request") request ∷ datum_counts datums
+body_fields (EventReport event datums) = number_field (codes "event") event ∷ datum_counts datums
+body_fields (Comment datums) = datum_counts datums
+
+abbrev pub header_fields : Pdu → List Field
+header_fields pdu =
+    number_field (codes "version") (version_code pdu.version) ∷ number_field (codes "exercise") pdu.exercise
+    ∷ number_field (codes "stamp") pdu.stamp ∷ number_field (codes "status") pdu.status ∷ []
+
+-- all that a PDU says but its kind and its records
+abbrev pub head_fields : Pdu → List Field
+head_fields pdu =
+    header_fields pdu ++ identifier_field (codes "from") pdu.origin ∷ identifier_field (codes "to") pdu.target ∷ body_fields pdu.body
+
+abbrev pub kind_field : Pdu → Field
+kind_field pdu = Bare (codes "kind") (Word (kind_text (body_kind pdu.body)))
+
+abbrev pub head_line : Pdu → Line
+head_line pdu = opened_line (codes "pdu") (kind_field pdu) (head_fields pdu)

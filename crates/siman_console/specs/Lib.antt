@@ -8,11 +8,11 @@ pub mod Show
 pub mod Ending
 pub mod Outside
 pub mod Outcome
-pub mod Search
+pub mod Audit
 pub mod Convert
 pub mod World
-pub mod Posts
+pub mod LiveMoves
 pub mod Live
 pub mod Trial
-pub mod Lines
+pub mod Pdus
 pub mod Program

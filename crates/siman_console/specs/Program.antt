@@ -23,15 +23,15 @@ use Rattle.siman_console.specs.declared.fault.Fault.{Fault}
 use Rattle.siman_console.specs.declared.fault.Fault.TheVariants.{LineFailed, Output, Memory}
 use Rattle.siman_console.specs.Answer.{said_of_hex, IsSaid}
 use Rattle.siman_console.specs.Check.{Recorded, Certified, TellsCheck}
-use Rattle.siman_console.specs.Convert.{IsUncarried, converted_line}
+use Rattle.siman_console.specs.Convert.{IsUncarried, converted_text}
 use Rattle.siman_console.specs.Ending.{Ends, fault_text}
-use Rattle.siman_console.specs.Lines.{EndsLines}
+use Rattle.siman_console.specs.Pdus.{EndsLines}
 use Rattle.siman_console.specs.Live.{BeginsNone, TellsMoves}
 use Rattle.siman_console.specs.Outside.{Deed, Opens, Makes, Leaves}
 use Rattle.siman_console.specs.Outcome.{Stream, Outcome, IsUnread, EndsUsage}
-use Rattle.siman_console.specs.declared.search.Finding.{Finding}
-use Rattle.siman_console.specs.declared.search.Finding.TheVariants as findings
-use Rattle.siman_console.specs.Search.{explained_line, FindsOrder, FindsNone, IsUnsearched, PutsBoth, PutsBlocked}
+use Rattle.siman_console.specs.declared.audit.Finding.{Finding}
+use Rattle.siman_console.specs.declared.audit.Finding.TheVariants as findings
+use Rattle.siman_console.specs.Audit.{explained_text, FindsOrder, FindsNone, IsUnsearched, PutsBoth, PutsBlocked}
 use Rattle.siman_console.specs.Show.{TellsShow}
 use Rattle.siman_console.specs.Trial.{TellsTrial}
 use Rattle.siman_words.specs.Words.{Asked, Trial, Pdu, Pdus, Show, Check, Audit, World, Live, Convert, asked}
@@ -167,7 +167,7 @@ MakesFinding name (findings.Stuck text) deeds answered out = (deeds ≡ []) × P
 abbrev pub AuditsRecorded : Recorded → (certificate : List ℕ) → List Deed → Answered → Stream → Type 0
 AuditsRecorded recorded certificate deeds answered out =
     ((fault : Fault) × IsUnsearched recorded fault × (answered ≡ Err fault) × (deeds ≡ []) × Keeps out.old out.new)
-    ⊎ ((steps : List Step) × FindsOrder recorded steps × MakesBoth certificate (certificate_text steps) (explained_line (length steps)) deeds answered out)
+    ⊎ ((steps : List Step) × FindsOrder recorded steps × MakesBoth certificate (certificate_text steps) (explained_text (length steps)) deeds answered out)
     ⊎ ((list : List ℕ) × FindsNone recorded list × (deeds ≡ []) × PutsBlocked list answered out)
 
 -- `audit` had this recording to search, where its bytes are known, or some
@@ -188,7 +188,7 @@ AuditsFile recording certificate (Leaves left ∷ deeds) answered out = ⊥
 abbrev pub ConvertsRecorded : Recorded → (new : List ℕ) → List Deed → Answered → Stream → Type 0
 ConvertsRecorded recorded new deeds answered out =
     ((fault : Fault) × IsUncarried recorded fault × (answered ≡ Err fault) × (deeds ≡ []) × Keeps out.old out.new)
-    ⊎ ((r : PlainRecording) × IsOld recorded r × MakesBoth new (recording_text (converted r)) (converted_line (length r.entries)) deeds answered out)
+    ⊎ ((r : PlainRecording) × IsOld recorded r × MakesBoth new (recording_text (converted r)) (converted_text (length r.entries)) deeds answered out)
 
 -- `convert` had this recording to carry over, where its bytes are known, or some
 abbrev pub ConvertsFound : Option (List ℕ) → (new : List ℕ) → List Deed → Answered → Stream → Type 0

@@ -1,46 +1,49 @@
 -- The lines of a PDU: its head, then a line for each record, or for each identifier that is asked for.
-use Rattle.std.specs.Prelude.{ℕ, List, [], ◌∷◌, ◌++◌, codes, decimal}
-use Rattle.std.specs.List.{flat_map}
+use Rattle.std.specs.Prelude.{ℕ, List, [], ◌∷◌, ◌++◌, map, codes}
 use Rattle.hex.specs.Hex.{encode_lower}
 use Rattle.dis_records.specs.declared.datum.FixedDatum.{FixedDatum}
 use Rattle.dis_records.specs.Datum.{Datum}
+use Rattle.siman_texts.specs.Line.{Value, Number, Word, Missing, Bare, Line, named_line}
 use Rattle.siman_pdus.specs.declared.pdu.Body.{Body}
 use Rattle.siman_pdus.specs.declared.pdu.Body.TheVariants.{CreateEntity, RemoveEntity, StartResume, StopFreeze, Acknowledge, ActionRequest, ActionResponse, DataQuery, SetData, DataPdu, EventReport, Comment}
 use Rattle.siman_pdus.specs.declared.pdu.Pdu.{Pdu}
 use Rattle.siman_pdus.specs.DatumLists.{DatumLists, IdLists}
-use Rattle.siman_console.specs.Head.{head_text}
+use Rattle.siman_console.specs.Head.{head_line}
 
 abbrev pub line_end : List ℕ
 line_end = 10 ∷ []
 
 -- fixed ID VALUE
-abbrev pub fixed_line : FixedDatum → List ℕ
-fixed_line datum = codes "fixed " ++ decimal datum.id ++ codes " " ++ decimal datum.value ++ line_end
+abbrev pub fixed_line : FixedDatum → Line
+fixed_line datum = named_line (codes "fixed") (Bare (codes "id") (Number datum.id) ∷ Bare (codes "value") (Number datum.value) ∷ [])
 
--- the bytes of a value in hex, or - for none
-abbrev pub value_text : List ℕ → List ℕ
-value_text [] = codes "-"
-value_text (b ∷ bs) = encode_lower (b ∷ bs)
+-- the bytes of a value in hex, or none
+abbrev pub hex_value : List ℕ → Value
+hex_value [] = Missing
+hex_value (b ∷ bs) = Word (encode_lower (b ∷ bs))
 
 -- variable ID BITS HEX
-abbrev pub variable_line : Datum → List ℕ
-variable_line datum = codes "variable " ++ decimal datum.id ++ codes " " ++ decimal datum.bits ++ codes " " ++ value_text datum.bytes ++ line_end
+abbrev pub variable_line : Datum → Line
+variable_line datum =
+    named_line (codes "variable") (Bare (codes "id") (Number datum.id) ∷ Bare (codes "bits") (Number datum.bits) ∷ Bare (codes "hex") (hex_value datum.bytes) ∷ [])
 
--- fixed ID
-abbrev pub fixed_id_line : ℕ → List ℕ
-fixed_id_line id = codes "fixed " ++ decimal id ++ line_end
+-- an identifier that is asked for: fixed ID, and variable ID
+abbrev pub id_line : List ℕ → ℕ → Line
+id_line name id = named_line name (Bare (codes "id") (Number id) ∷ [])
 
--- variable ID
-abbrev pub variable_id_line : ℕ → List ℕ
-variable_id_line id = codes "variable " ++ decimal id ++ line_end
+abbrev pub fixed_id_line : ℕ → Line
+fixed_id_line id = id_line (codes "fixed") id
 
-abbrev pub datum_lines : DatumLists → List ℕ
-datum_lines d = flat_map fixed_line d.fixed ++ flat_map variable_line d.variable
+abbrev pub variable_id_line : ℕ → Line
+variable_id_line id = id_line (codes "variable") id
 
-abbrev pub id_lines : IdLists → List ℕ
-id_lines d = flat_map fixed_id_line d.fixed ++ flat_map variable_id_line d.variable
+abbrev pub datum_lines : DatumLists → List Line
+datum_lines d = map fixed_line d.fixed ++ map variable_line d.variable
 
-abbrev pub record_lines : Body → List ℕ
+abbrev pub id_lines : IdLists → List Line
+id_lines d = map fixed_id_line d.fixed ++ map variable_id_line d.variable
+
+abbrev pub record_lines : Body → List Line
 record_lines (CreateEntity request) = []
 record_lines (RemoveEntity request) = []
 record_lines (StartResume real sim request) = []
@@ -54,5 +57,5 @@ record_lines (DataPdu request datums) = datum_lines datums
 record_lines (EventReport event datums) = datum_lines datums
 record_lines (Comment datums) = datum_lines datums
 
-abbrev pub pdu_lines : Pdu → List ℕ
-pdu_lines pdu = head_text pdu ++ line_end ++ record_lines pdu.body
+abbrev pub pdu_lines : Pdu → List Line
+pdu_lines pdu = head_line pdu ∷ record_lines pdu.body

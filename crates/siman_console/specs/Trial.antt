@@ -17,12 +17,12 @@ use Rattle.siman_console.specs.declared.trial_fault.TrialFault.{TrialFault}
 use Rattle.siman_console.specs.declared.trial_fault.TrialFault.TheVariants.{Read, Script, World, Write, Memory}
 use Rattle.siman_console.specs.Ending.{of_trial}
 use Rattle.siman_console.specs.Report.{report_text}
-use Rattle.siman_console.specs.Search.{explained_line}
-use Rattle.siman_console.specs.World.{Scripted, recording_of, refusal_of, world_line}
+use Rattle.siman_console.specs.Audit.{explained_text}
+use Rattle.siman_console.specs.World.{Scripted, recording_of, refusal_of, world_text}
 
 -- THE TEXT OF A TRIAL, a function of the recording alone: the line of its world, the line of an order with a step for each entry, and the report
 abbrev pub trial_text : PlainRecording → List ℕ
-trial_text r = world_line r ++ explained_line (length r.entries) ++ report_text r
+trial_text r = world_text r ++ explained_text (length r.entries) ++ report_text r
 
 -- CLOSURE: the world of a script runs; the entries of its recording, in their order, are a run; and an order is found of it that `check` accepts
 pub record IsClosed (s : ScriptData) : Type 0 where

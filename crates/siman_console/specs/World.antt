@@ -1,5 +1,5 @@
 -- What `world` does with a script, and how it ends.
-use Rattle.std.specs.Prelude.{◌≡◌, ◌⊎◌, ⊤, ℕ, Bool, true, false, List, [], ◌++◌, length, slice_get, codes, decimal, Option, Some, None, Result, Ok, Err}
+use Rattle.std.specs.Prelude.{◌≡◌, ◌⊎◌, ⊤, ℕ, Bool, true, false, List, [], ◌∷◌, length, slice_get, codes, Option, Some, None, Result, Ok, Err}
 use Rattle.std.specs.Option.{option_map_or}
 use Rattle.std.specs.Io.KnownBytes.{Appends, Keeps}
 use Rattle.byte_files.specs.Writing.{WritesPart}
@@ -18,7 +18,8 @@ use Rattle.siman_console.specs.declared.fault.Fault.{Fault}
 use Rattle.siman_console.specs.declared.fault.Fault.TheVariants.{NotBytePairs, HexLine, Input, File, Words, Recording, Already, Certificate, Script, ScriptRead, World, LineFailed, Output, Memory}
 use Rattle.siman_console.specs.Ending.{EndsWith}
 use Rattle.siman_console.specs.Outcome.{Stream}
-use Rattle.siman_console.specs.Records.{line_end}
+use Rattle.siman_texts.specs.Line.{Number, Keyed, Line, named_line}
+use Rattle.siman_texts.specs.Spelled.{line_text}
 
 -- what reading a script gives
 abbrev pub Scripted : Type 0
@@ -82,19 +83,22 @@ is_sent (Received s stamp b) = false
 is_sent (Told s e y) = false
 
 -- world records=N sent=M
-abbrev pub world_line : PlainRecording → List ℕ
-world_line r = codes "world records=" ++ decimal (length r.entries) ++ codes " sent=" ++ decimal (length (sent_in r.entries)) ++ line_end
+abbrev pub world_line : PlainRecording → Line
+world_line r = named_line (codes "world") (Keyed (codes "records") (Number (length r.entries)) ∷ Keyed (codes "sent") (Number (length (sent_in r.entries))) ∷ [])
+
+abbrev pub world_text : PlainRecording → List ℕ
+world_text r = line_text (world_line r)
 
 -- A failed write leaves a prefix of the file and no line, or the whole file and a prefix of the line.
 abbrev pub WritesShort : PlainRecording → (file out : Stream) → Type 0
 WritesShort r file out =
     (WritesPart file.old file.new (recording_text r) × Keeps out.old out.new)
-    ⊎ (Appends file.old file.new (recording_text r) × WritesPart out.old out.new (world_line r))
+    ⊎ (Appends file.old file.new (recording_text r) × WritesPart out.old out.new (world_text r))
 
 -- WHAT IS WRITTEN OF A RECORDING: its text to the file, whole, and then its line; want of memory leaves a prefix of the file and no line
 abbrev pub PutsWorld : PlainRecording → Result ℕ Fault → (file out : Stream) → Type 0
 PutsWorld r (Ok status) file out =
-    (status ≡ 0) × Appends file.old file.new (recording_text r) × Appends out.old out.new (world_line r)
+    (status ≡ 0) × Appends file.old file.new (recording_text r) × Appends out.old out.new (world_text r)
 PutsWorld r (Err Output) file out = WritesShort r file out
 PutsWorld r (Err Memory) file out = WritesPart file.old file.new (recording_text r) × Keeps out.old out.new
 PutsWorld r (Err NotBytePairs) file out = ⊥

@@ -5,10 +5,11 @@ ghost use Rattle.hex.specs.Hex.{IsBytes, encode_lower};
 ghost use Rattle.siman_pdus.specs.declared.pdu.Pdu.{Pdu};
 ghost use Rattle.siman_pdus.specs.Spelling.{Spells};
 ghost use Rattle.siman_console.specs.Answer.{refusal_line, answer_to, said_of_hex, said_of_pdu};
-ghost use Rattle.siman_console.specs.Lines.{told_of_said, told_of_line};
+ghost use Rattle.siman_console.specs.Pdus.{told_of_said, told_of_line};
 
 use crate::records::pdu_lines;
 use siman_pdus::{PduFault, spellings_are_apart, view};
+use siman_texts::Spelling;
 use std::alloc::{AllocError, Global};
 use std::marker::Model;
 
@@ -53,7 +54,7 @@ impl Answer {
         match view(datagram) {
             Ok(pdu) => Ok(Answer {
                 status: SHOWN,
-                text: pdu_lines(alloc, &pdu)?,
+                text: pdu_lines(alloc, Spelling::Text, &pdu)?,
             }),
             Err(fault) => Ok(Answer {
                 status: REFUSED,

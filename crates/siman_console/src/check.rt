@@ -14,7 +14,8 @@ use crate::report::{no_line, report_text};
 use crate::show::LARGEST_RECORDING;
 use byte_files::put;
 use exercise_check::{Certificate, CheckFault, check, read_certificate};
-use exercise_recording::{ExerciseLog, RecordingView, fetch_recording};
+use exercise_model::ExerciseLog;
+use exercise_recording::{RecordingView, fetch_recording};
 use std::alloc::Global;
 use std::io::{Read, Write};
 

@@ -6,12 +6,13 @@ ghost use Rattle.exercise_recording.specs.Reading.{recording_at};
 ghost use Rattle.siman_console.specs.declared.convert.TheConstants.{LARGEST_OLD_RECORDING};
 ghost use Rattle.siman_console.specs.Check.{Recorded};
 ghost use Rattle.siman_console.specs.Outcome.{Stream};
-ghost use Rattle.siman_console.specs.Search.{PutsBoth};
-ghost use Rattle.siman_console.specs.Convert.{converted_line, Carries, TellsConvert, EndsConvert};
+ghost use Rattle.siman_console.specs.Audit.{PutsBoth};
+ghost use Rattle.siman_console.specs.Convert.{converted_text, Carries, TellsConvert, EndsConvert};
 
 use crate::fault::{Fault, end};
 use byte_files::put;
 use exercise_recording::Conversion;
+use siman_texts::{Field, Line, Spelling, Value, put_line};
 use std::alloc::{AllocError, Global};
 use std::io::{Read, Write};
 
@@ -88,10 +89,15 @@ pub(crate) fn carry<R: Read + Drop>(alloc: Global, old: R) -> Result<Carried, Fa
 
 /// The line of a recording with so many entries.
 fn converted_line(alloc: Global, entries: u32) -> Result<String, AllocError>
-    ensures { IfOk result (λ line. string_bytes line ≡ converted_line entries) }
+    ensures { IfOk result (λ line. string_bytes line ≡ converted_text entries) }
 {
     let mut line = String::new(alloc);
-    writeln!(line, "converted records={entries}")?;
+    let fields = [Field::Keyed("records", Value::Number(entries as u64))];
+    put_line(
+        &mut line,
+        Spelling::Text,
+        &Line::named("converted", &fields),
+    )?;
     Ok(line)
 }
 

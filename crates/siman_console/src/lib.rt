@@ -13,49 +13,51 @@
 #![tactic(auto)]
 
 mod answer;
+mod audit;
 mod check;
 mod convert;
-mod datagram;
 mod entry_lines;
 mod fault;
 mod files_fault;
 mod head;
 mod hex_text;
 mod input;
-mod lines;
+mod keys;
 mod live;
+mod live_moves;
 mod outside;
+mod pdu;
+mod pdus;
 mod place;
-mod posts;
 mod program;
 mod recording_file;
 mod records;
 mod report;
 mod script_trial;
-mod search;
 mod show;
 mod trial_fault;
 mod usage;
 mod world;
 
 pub use answer::answers_follow_the_grammar;
+pub use audit::audit_command;
 pub use check::{LARGEST_CERTIFICATE, check_command, check_files};
 pub use convert::{LARGEST_OLD_RECORDING, convert_command};
-pub use datagram::pdu_command;
 pub use fault::Ended;
 pub use files_fault::FilesFault;
-pub use lines::pdus_command;
+pub use keys::keys_come_once;
 pub use live::live_command;
 pub use outside::Outside;
+pub use pdu::pdu_command;
+pub use pdus::pdus_command;
 pub use program::run;
 pub use script_trial::{perform, trial};
-pub use search::audit_command;
 pub use show::{LARGEST_RECORDING, show_command};
-pub use siman_words::{Task, read_words};
-pub use siman_worlds::{
-    Act, LARGEST_SCRIPT, Move, MoveFault, Script, ScriptFault, WorldFault, WorldStation,
-    read_script, run_world,
+pub use siman_scripts::{
+    Act, LARGEST_SCRIPT, Move, Script, ScriptFault, WorldStation, read_script,
 };
+pub use siman_words::{Task, read_words};
+pub use siman_worlds::{MoveFault, WorldFault, run_world};
 pub use trial_fault::TrialFault;
 pub use usage::usage_command;
 pub use world::world_command;

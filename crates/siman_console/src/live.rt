@@ -10,11 +10,14 @@ ghost use Rattle.siman_console.specs.World.{Scripted};
 
 use crate::fault::{Fault, end};
 use crate::input::read_text;
-use crate::posts::{Post, make_move, posts_of};
+use crate::live_moves::{make_move, stand_at_lines};
 use byte_files::put;
-use exercise_recording::{ExerciseLog, Recording, RecordingWriter};
-use siman_lines::Line;
-use siman_worlds::{Beginning, LARGEST_SCRIPT, Move, Node, Script, begin_world, read_script};
+use exercise_model::{ExerciseLog, Recording};
+use exercise_recording::RecordingWriter;
+use siman_lines::{Line, StationAtLine};
+use siman_scripts::{LARGEST_SCRIPT, Move, Script, read_script};
+use siman_stations::Node;
+use siman_worlds::{Beginning, begin_world};
 use std::alloc::{AllocError, Global};
 use std::io::{Read, Write};
 
@@ -83,8 +86,8 @@ fn live<L: Line + Drop, R: Read + Drop, F: Write, W: Write>(
         nodes,
         moves,
     } = begin_script(alloc, script)?;
-    let posts = posts_of(alloc, nodes, lines)?;
-    put_moves(alloc, &head, posts, moves, recording, out)
+    let stations = stand_at_lines(alloc, nodes, lines)?;
+    put_moves(alloc, &head, stations, moves, recording, out)
 }
 
 /// The stations of the script of a reader, and its moves.
@@ -128,7 +131,7 @@ fn begin_read(alloc: Global, script: Script) -> Result<Begun, Fault<'static>>
 pub(crate) fn put_moves<L: Line + Drop, F: Write, W: Write>(
     alloc: Global,
     head: &Recording,
-    posts: Vec<Post<L>>,
+    stations: Vec<StationAtLine<L>>,
     moves: Vec<Move>,
     file: &mut F,
     out: &mut W,
@@ -136,7 +139,7 @@ pub(crate) fn put_moves<L: Line + Drop, F: Write, W: Write>(
     ensures { let out : Stream = record { old = W.contents out.old; new = W.contents out.new } in
         TellsMoves (length moves.items) result out }
 {
-    let entries = record_moves(alloc, head, posts, moves, file)?;
+    let entries = record_moves(alloc, head, stations, moves, file)?;
     let line = live_line(alloc, entries)?;
     match put(out, line.as_bytes()) {
         Ok(()) => Ok(0),
@@ -158,7 +161,7 @@ fn live_line(alloc: Global, entries: u32) -> Result<String, AllocError>
 fn record_moves<L: Line + Drop, F: Write>(
     alloc: Global,
     head: &Recording,
-    posts: Vec<Post<L>>,
+    stations: Vec<StationAtLine<L>>,
     moves: Vec<Move>,
     file: &mut F,
 ) -> Result<u32, Fault<'static>>
@@ -170,8 +173,8 @@ fn record_moves<L: Line + Drop, F: Write>(
     let Ok(mut recorder) = started else {
         return Err(Fault::Output);
     };
-    let mut posts = posts;
-    make_moves(alloc, &mut posts, &mut recorder, moves)?;
+    let mut stations = stations;
+    make_moves(alloc, &mut stations, &mut recorder, moves)?;
     match recorder.finish() {
         Ok(()) => Ok(recorder.entry_count()),
         Err(_) => Err(Fault::Output),
@@ -181,14 +184,14 @@ fn record_moves<L: Line + Drop, F: Write>(
 /// Makes moves in their order, up to the first that cannot be made.
 fn make_moves<L: Line + Drop, W: Write>(
     alloc: Global,
-    posts: &mut Vec<Post<L>>,
+    stations: &mut Vec<StationAtLine<L>>,
     recorder: &mut RecordingWriter<'_, W>,
     moves: Vec<Move>,
 ) -> Result<(), Fault<'static>>
     ensures { IfErr result (HaltsIn (length moves.items)) }
 {
     for (number, step) in moves.into_iter().enumerate() {
-        match make_move(alloc, posts, recorder, step) {
+        match make_move(alloc, stations, recorder, step) {
             Ok(()) => {}
             Err(halt) => return Err(halt.at(number)),
         }

@@ -8,22 +8,23 @@ ghost use Rattle.siman_console.specs.Outcome.{Stream, Outcome};
 ghost use Rattle.siman_console.specs.Program.{IsUnopened, IsUnmade, ShowsFile, ChecksFiles, MakesFile, RunsFile, IsUnlined, MakesMoves, LivesBegun, LivesFile, MakesBoth, MakesFinding, AuditsFile, ConvertsFile, EndsTask, EndsProgram, words_by};
 ghost use Rattle.siman_words.specs.Words.{asked_by};
 
+use crate::audit::{Finding, put_order, put_stuck, search};
 use crate::check::check_recording;
 use crate::convert::{Carried, carry, put_carried};
-use crate::datagram::tell_word;
 use crate::fault::{Ended, Fault, end};
-use crate::lines::end_lines;
 use crate::live::{Begun, begin_script, put_moves};
+use crate::live_moves::stand_at_lines;
 use crate::outside::Outside;
-use crate::posts::{Post, posts_of};
+use crate::pdu::tell_word;
+use crate::pdus::end_lines;
 use crate::script_trial::tell_trial;
-use crate::search::{Finding, put_order, put_stuck, search};
 use crate::show::show_recording;
 use crate::usage::{end_usage, unread};
 use crate::world::{put_world, run_script};
-use exercise_recording::Recording;
+use exercise_model::Recording;
+use siman_lines::StationAtLine;
+use siman_scripts::Move;
 use siman_words::{Task, read_words};
-use siman_worlds::Move;
 use std::alloc::Global;
 use std::io;
 use std::io::{ErrorKind, Read, Write};
@@ -245,7 +246,7 @@ fn unlined(error: &io::Error) -> Fault<'static>
 fn make_live<O: Outside, W: Write>(
     alloc: Global,
     head: &Recording,
-    posts: Vec<Post<O::Line>>,
+    stations: Vec<StationAtLine<O::Line>>,
     moves: Vec<Move>,
     name: &str,
     outside: &mut O,
@@ -257,7 +258,7 @@ fn make_live<O: Outside, W: Write>(
     match outside.make(name) {
         Ok(file) => {
             let mut file = file;
-            let answered = put_moves(alloc, head, posts, moves, &mut file, out);
+            let answered = put_moves(alloc, head, stations, moves, &mut file, out);
             outside.close(file);
             answered
         }
@@ -285,8 +286,8 @@ fn live_begun<O: Outside, W: Write>(
         Ok(lines) => lines,
         Err(error) => return Err(unlined(&error)),
     };
-    match posts_of(alloc, nodes, lines) {
-        Ok(posts) => make_live(alloc, &recording, posts, moves, name, outside, out),
+    match stand_at_lines(alloc, nodes, lines) {
+        Ok(stations) => make_live(alloc, &recording, stations, moves, name, outside, out),
         Err(fault) => Err(fault),
     }
 }

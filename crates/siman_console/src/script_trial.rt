@@ -10,17 +10,18 @@ ghost use Rattle.siman_scripts.specs.Script.{script_at};
 ghost use Rattle.siman_console.specs.Trial.{trial_text, Performs, Tries, tried_status, TellsTrial};
 ghost use Rattle.siman_console.specs.World.{Scripted};
 
+use crate::audit::explained_line;
 use crate::fault::Fault;
 use crate::input::read_text;
 use crate::report::report_text;
-use crate::search::explained_line;
 use crate::trial_fault::TrialFault;
 use crate::world::world_line;
 use byte_files::put;
 use exercise_audit::{Audit, audit};
 use exercise_check::{Certificate, CheckFault, Checked, check};
-use exercise_recording::{ExerciseLog, Recording};
-use siman_worlds::{LARGEST_SCRIPT, Script, read_script, run_world};
+use exercise_model::{ExerciseLog, Recording};
+use siman_scripts::{LARGEST_SCRIPT, Script, read_script};
+use siman_worlds::run_world;
 use std::alloc::{AllocError, Global};
 use std::io::{Read, Write};
 

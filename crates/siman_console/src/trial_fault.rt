@@ -6,7 +6,8 @@ ghost use Rattle.siman_console.specs.Ending.{fault_text, fault_status, of_trial}
 ghost use Rattle.siman_console.specs.Trial.{script_refused, world_refused};
 
 use crate::fault::Fault;
-use siman_worlds::{ScriptFault, WorldFault};
+use siman_scripts::ScriptFault;
+use siman_worlds::WorldFault;
 use std::alloc::AllocError;
 use std::error::Error;
 use std::fmt;

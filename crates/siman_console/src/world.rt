@@ -6,14 +6,16 @@ ghost use Rattle.exercise_model.specs.Held.{kept};
 ghost use Rattle.siman_scripts.specs.Script.{script_at};
 ghost use Rattle.siman_worlds.specs.World.{sent_in};
 ghost use Rattle.siman_console.specs.Outcome.{Stream};
-ghost use Rattle.siman_console.specs.World.{Scripted, Runs, is_sent, world_line, PutsWorld, TellsWorld, EndsWorld};
+ghost use Rattle.siman_console.specs.World.{Scripted, Runs, is_sent, world_text, PutsWorld, TellsWorld, EndsWorld};
 
 use crate::fault::{Fault, end};
 use crate::input::read_text;
 use crate::recording_file::put_recording;
 use byte_files::put;
-use exercise_recording::{EntryView, LogEntry, Recording};
-use siman_worlds::{LARGEST_SCRIPT, Script, read_script, run_world};
+use exercise_model::{EntryView, LogEntry, Recording};
+use siman_scripts::{LARGEST_SCRIPT, Script, read_script};
+use siman_texts::{Field, Line, Spelling, Value, put_line};
+use siman_worlds::run_world;
 use std::alloc::{AllocError, Global};
 use std::io::{Read, Write};
 
@@ -121,12 +123,15 @@ pub(crate) fn put_world<F: Write, W: Write>(
 
 /// The line of a world: how many entries its recording has, and how many of them were sent.
 pub(crate) fn world_line(alloc: Global, recording: &Recording) -> Result<String, AllocError>
-    ensures { IfOk result (λ line. string_bytes line ≡ world_line recording.now) }
+    ensures { IfOk result (λ line. string_bytes line ≡ world_text recording.now) }
 {
     let entries = recording.entries();
-    let (records, sent) = (entries.len(), sent_count(entries));
+    let fields = [
+        Field::Keyed("records", Value::Number(entries.len() as u64)),
+        Field::Keyed("sent", Value::Number(sent_count(entries) as u64)),
+    ];
     let mut line = String::new(alloc);
-    writeln!(line, "world records={records} sent={sent}")?;
+    put_line(&mut line, Spelling::Text, &Line::named("world", &fields))?;
     Ok(line)
 }
 

@@ -1,7 +1,7 @@
 //! Runs of the program on words, files in memory and standard input, where every call goes well.
 
 use siman_console::{Outside, run};
-use siman_fixtures::{Given, Written, WELL, read_from, write_to};
+use siman_fixtures::{Given, WELL, Written, read_from, write_to};
 use siman_trials::{WireLine, lines_of};
 use std::alloc::Global;
 use std::io;

@@ -1,5 +1,5 @@
 -- What comes of lists of calls, from the start of a recording on.
-use Rattle.std.proofs.Common.{◌≡◌, ℕ, ◌<◌, List, [], ◌∷◌, length, sym, ◌∙◌, subst, arith}
+use Rattle.std.proofs.Common.{◌≡◌, ℕ, ◌<◌, List, [], ◌∷◌, length, ap, sym, ◌∙◌, subst, inr, arith}
 use Rattle.std.specs.Prelude.{true, nat_lt, Option}
 use Rattle.std.specs.List.{AllByRecursion}
 use Rattle.std.proofs.lemmas.Bool.{and_parts}
@@ -9,9 +9,16 @@ use Rattle.exercise_model.specs.History.{History, station_of, past, log_at}
 use Rattle.exercise_model.specs.Recording.{IsRecording}
 use Rattle.exercise_model.specs.Setting.{SettingData, station_in}
 use Rattle.exercise_model.proofs.Offered.{within, past_within}
-use Rattle.siman_lines.specs.Kept.{IsKept}
-use Rattle.siman_lines.specs.Calls.{IsFresh, Stations, HasStation, AreBegun, AreCalls, AreKept, DeedsStand, AreOrdersOne, ComesOfCalls}
-use Rattle.siman_lines.proofs.Events.{AllStand, deeds_stand, all_run}
+use Rattle.exercise_model.specs.Station.{StationData}
+use Rattle.exercise_recording.specs.Writer.{WriterState}
+use Rattle.siman_application.specs.OwnLog.{AreOneOrder}
+use Rattle.siman_application.specs.Application.{came}
+use Rattle.siman_stations.specs.declared.turn.Node.{Node}
+use Rattle.siman_stations.specs.Deeds.{DeedsStand, RequestsAreOrdered}
+use Rattle.siman_stations.proofs.Offered.{AllStand, all_run, requests_ordered, deeds_stand}
+use Rattle.siman_lines.specs.LineDatagrams.{Datagrams}
+use Rattle.siman_lines.specs.KeptAtLine.{IsClosed, IsKept}
+use Rattle.siman_lines.specs.Calls.{IsFresh, Stations, HasStation, AreBegun, AreCalls, AreKept, AreOrdersOne, ComesOfCalls}
 use Rattle.siman_lines.proofs.Stations.{started, fresh, found, all_calls}
 
 -- Stations as they are begun.
@@ -31,6 +38,22 @@ begun before w stations x is = record {
   written = started before w x.recorder is.setting is.starts;
   kept = all_fresh w x is.starts.setting stations is.fresh;
 }
+
+-- What stands of a station that all is kept of.
+
+pub requests_kept : (s : ℕ) (n : Node) (w : WriterState) (es : List Entry) (handed : Option Datagrams) → IsKept s n w es handed
+    → RequestsAreOrdered w.setting.exercise n.manager (log_at s (past es))
+requests_kept s n w es handed is =
+    subst (λ (x : ℕ). RequestsAreOrdered x n.manager (log_at s (past es))) is.station.exercise
+    (requests_ordered s n.application.outfit (came n.application) n.manager (log_at s (past es)) (IsClosed w) is.halves)
+
+pub deeds_kept : (s : ℕ) (n : Node) (w : WriterState) (es : List Entry) (handed : Option Datagrams) → IsKept s n w es handed
+    → AreOneOrder n.application.outfit (log_at s (past es)) → DeedsStand w.setting.exercise (station_in w.setting s) (log_at s (past es))
+deeds_kept s n w es handed is one =
+    subst (λ (x : ℕ). DeedsStand x (station_in w.setting s) (log_at s (past es))) is.station.exercise
+    (subst (λ (o : StationData). DeedsStand n.application.outfit.exercise o (log_at s (past es))) is.station.station
+    (deeds_stand s n.application.outfit (came n.application) n.manager (log_at s (past es)) (IsClosed w) is.halves
+    (is.station.address ∙ sym (ap (λ (o : StationData). o.address) is.station.station)) (inr one)))
 
 -- Entries that are a run.
 
@@ -54,7 +77,7 @@ deeds_all : (before : Option (List ℕ)) (w : SettingData) (stations : List ℕ)
     → x.recorder.setting ≡ w → AreKept before stations x es → AreOrdersOne w x (past es) → AllStand w (past es)
 deeds_all before w stations x es all e kept one = λ s within.
     subst (λ (v : SettingData). DeedsStand v.exercise (station_in v s) (log_at s (past es))) e
-    (deeds_stand s (x.node s) x.recorder es (x.handed s) (found before x es s stations (all s within) kept.kept) (one s within))
+    (deeds_kept s (x.node s) x.recorder es (x.handed s) (found before x es s stations (all s within) kept.kept) (one s within))
 
 pub comes : (before : Option (List ℕ)) (w : SettingData) (stations calls : List ℕ) (old new : Stations) → AreBegun before w stations old
     → AllByRecursion (λ s. HasStation s stations) calls

@@ -3,7 +3,7 @@ use Rattle.std.proofs.Common.{◌≡◌, ℕ, ◌+◌, ◌≤◌, List, [], ◌�
 use Rattle.std.proofs.lemmas.List.{reverse-append}
 use Rattle.std.specs.Prelude.{reverse}
 use Rattle.dis_records.specs.declared.header.TheConstants.{LARGEST_DATAGRAM}
-use Rattle.siman_lines.specs.Told.{Datagrams, Same, GrowsAll, Grows}
+use Rattle.siman_lines.specs.LineDatagrams.{Datagrams, Same, GrowsAll, Grows}
 
 pub grows_none : (old : Option Datagrams) → GrowsAll old old []
 grows_none None = tt

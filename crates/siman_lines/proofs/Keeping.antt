@@ -21,25 +21,25 @@ use Rattle.siman_application.specs.Application.{ApplicationData, came}
 use Rattle.siman_manager.specs.declared.order.Order.{Order}
 use Rattle.siman_manager.specs.declared.settings.Settings.{Settings}
 use Rattle.siman_manager.specs.Book.{Book}
-use Rattle.siman_worlds.specs.declared.turn.Node.{Node}
-use Rattle.siman_worlds.specs.declared.turn.TurnFault.{TurnFault}
-use Rattle.siman_worlds.specs.declared.turn.TurnFault.TheVariants as turn_faults
-use Rattle.siman_worlds.specs.Acts.{next_order, next_repeat, after_tick}
-use Rattle.siman_worlds.specs.Recording.{WritesOne, WritesNone}
-use Rattle.siman_worlds.specs.Turn.{stamp_of, sent_as, RecordsAll, FailsTurn, IsUnanswered}
-use Rattle.siman_worlds.proofs.Offered.{past-one, all_append, stamp_within}
+use Rattle.siman_stations.specs.declared.turn.Node.{Node}
+use Rattle.siman_stations.specs.declared.turn.TurnFault.{TurnFault}
+use Rattle.siman_stations.specs.declared.turn.TurnFault.TheVariants as turn_faults
+use Rattle.siman_stations.specs.Sending.{next_order, next_repeat, after_tick}
+use Rattle.siman_stations.specs.Recording.{WritesOne, WritesNone}
+use Rattle.siman_stations.specs.StationTurn.{stamp_of, sent_as, AreOf, RecordsAll, FailsTurn, IsUnanswered}
+use Rattle.siman_stations.specs.Halves.{HalvesFollow}
+use Rattle.siman_stations.proofs.Offered.{past-one, log-own, all_append, stamp_within, halves_pass, halves_lose, halves_order, halves_withhold, halves_tick, halves_repeat, halves_closed, none_missing}
 use Rattle.siman_lines.specs.declared.fault.ServeFault.{ServeFault}
 use Rattle.siman_lines.specs.declared.fault.ServeFault.TheVariants as faults
 use Rattle.siman_lines.specs.declared.fault.IssueFault.{IssueFault}
 use Rattle.siman_lines.specs.declared.fault.IssueFault.TheVariants as issue_faults
 use Rattle.siman_lines.specs.declared.served.Served.{Served}
-use Rattle.siman_lines.specs.Told.{Datagrams, Same, GrowsAll, MayGrow}
+use Rattle.siman_lines.specs.LineDatagrams.{Datagrams, Same, GrowsAll, MayGrow}
 use Rattle.siman_lines.specs.Serving.{State, HasTaken, LosesSend, BreaksTurn, ServeEnds, IsBytes, AreBytes, came_after, book_after, taken_with, reply_at, entries_after, text_of, texts_after, texts_by, short_of, is_short}
 use Rattle.siman_lines.specs.Ordering.{Rests, Makes, IssueEnds, NudgeEnds}
-use Rattle.siman_lines.specs.Kept.{IsWritten, IsClosed, HasSent, AreHanded, Stand, IsOfStation, IsKept, AreOf, KeepsOn, Keeps}
+use Rattle.siman_lines.specs.KeptAtLine.{IsWritten, IsClosed, HasSent, AreHanded, IsOfStation, IsKept, KeepsOn, Keeps}
 use Rattle.siman_lines.proofs.Growth.{same_itself}
-use Rattle.siman_lines.proofs.Hearing.{log_own, own_entries, stand_closed, none_missing, hear_all}
-use Rattle.siman_lines.proofs.Standing.{stand_passes, stand_loses, stand_orders, stand_withholds, stand_ticks, stand_repeats}
+use Rattle.siman_lines.proofs.Hearing.{own_entries, hear_all}
 use Rattle.siman_lines.proofs.Writings.{is_open, written_one, written_none, written_all, setting_none, setting_all, closed_none, closed_all}
 
 -- What was handed to the line.
@@ -133,11 +133,11 @@ settings_after k [] = refl
 settings_after k (b ∷ bs) = settings_taken (book_after k bs) (reading b) ∙ settings_after k bs
 
 stand_as : (s : ℕ) (a c : Outfit) (ds es : List Pdu) (k l : Book) (log : History) (closed : Type 0) → c ≡ a → es ≡ ds → l ≡ k
-    → Stand s a ds k log closed
-    → Stand s c es l log closed
+    → HalvesFollow (Unit {0}) s a ds k log closed
+    → HalvesFollow (Unit {0}) s c es l log closed
 stand_as s a c ds es k l log closed e f g is =
-    subst (λ (x : Outfit). Stand s x es l log closed) (sym e)
-    (subst (λ (x : List Pdu). Stand s a x l log closed) (sym f) (subst (λ (x : Book). Stand s a ds x log closed) (sym g) is))
+    subst (λ (x : Outfit). HalvesFollow (Unit {0}) s x es l log closed) (sym e)
+    (subst (λ (x : List Pdu). HalvesFollow (Unit {0}) s a x l log closed) (sym f) (subst (λ (x : Book). HalvesFollow (Unit {0}) s a ds x log closed) (sym g) is))
 
 pub of_station : (s : ℕ) (n m : Node) (w v : SettingData) → m.application.outfit ≡ n.application.outfit → m.manager.settings ≡ n.manager.settings
     → v ≡ w
@@ -159,7 +159,7 @@ pub record Step (s : ℕ) (before : Option (List ℕ)) (es : List Entry) (n m : 
   pub written : IsWritten before new (es ++ more)
   pub outfit : m.application.outfit ≡ n.application.outfit
   pub settings : m.manager.settings ≡ n.manager.settings
-  pub halves : Stand s n.application.outfit (came m.application) m.manager (log_at s (past (es ++ more))) (IsClosed new)
+  pub halves : HalvesFollow (Unit {0}) s n.application.outfit (came m.application) m.manager (log_at s (past (es ++ more))) (IsClosed new)
   pub handed_are : AreHanded s (es ++ more) handed
 
 pub step_keeps : (s : ℕ) (before : Option (List ℕ)) (es : List Entry) (n m : Node) (w new : WriterState) (old handed : Option Datagrams)
@@ -173,7 +173,7 @@ step_keeps s before es n m w new old handed is step = record {
   written = step.written;
   kept = record {
     station = of_station s n m w.setting new.setting step.outfit step.settings step.setting is.station;
-    halves = subst (λ (x : Outfit). Stand s x (came m.application) m.manager (log_at s (past (es ++ step.more))) (IsClosed new)) (sym step.outfit)
+    halves = subst (λ (x : Outfit). HalvesFollow (Unit {0}) s x (came m.application) m.manager (log_at s (past (es ++ step.more))) (IsClosed new)) (sym step.outfit)
         step.halves;
     handed_are = step.handed_are;
   };
@@ -230,18 +230,18 @@ keeps_unwritten s before es n w new old handed written setting closed is same =
       written = subst (IsWritten before new) (sym (append-nil es)) written;
       outfit = refl;
       settings = refl;
-      halves = subst (λ (l : List Entry). Stand s n.application.outfit (came n.application) n.manager (log_at s (past l)) (IsClosed new)) (sym
+      halves = subst (λ (l : List Entry). HalvesFollow (Unit {0}) s n.application.outfit (came n.application) n.manager (log_at s (past l)) (IsClosed new)) (sym
           (append-nil es))
-          (stand_closed s n.application.outfit (came n.application) n.manager _ (IsClosed w) (IsClosed new) closed is.halves);
+          (halves_closed s n.application.outfit (came n.application) n.manager _ (IsClosed w) (IsClosed new) closed is.halves);
       handed_are = subst (λ (l : List Entry). AreHanded s l handed) (sym (append-nil es)) (handed_same s es old handed is.handed_are same);
     })
 
 -- the log of one entry more
 log_got : (s now : ℕ) (es : List Entry) (b : List ℕ) → log_at s (past (es ++ Received s now b ∷ [])) ≡ Get s b ∷ log_at s (past es)
-log_got s now es b = log_own s es (Received s now b ∷ []) (refl, tt) ∙ ap (λ (h : History). h ++ log_at s (past es)) (past-one (Received s now b))
+log_got s now es b = log-own s es (Received s now b ∷ []) (refl, tt) ∙ ap (λ (h : History). h ++ log_at s (past es)) (past-one (Received s now b))
 
 log_sent : (s now : ℕ) (es : List Entry) (b : List ℕ) → log_at s (past (es ++ Sent s now b ∷ [])) ≡ Send s b ∷ log_at s (past es)
-log_sent s now es b = log_own s es (Sent s now b ∷ []) (refl, tt) ∙ ap (λ (h : History). h ++ log_at s (past es)) (past-one (Sent s now b))
+log_sent s now es b = log-own s es (Sent s now b ∷ []) (refl, tt) ∙ ap (λ (h : History). h ++ log_at s (past es)) (past-one (Sent s now b))
 
 stamped_one : (now : ℕ) → now < 2 ^ 64 → (s : ℕ) (b : List ℕ) → is_stamped (Received s now b) ≡ true
 stamped_one now h s b = now_stamped now h
@@ -260,10 +260,10 @@ keeps_received s now b n w new before es old handed h all written is same =
       written = written_all before (Received s now b ∷ []) w new es (ap (λ (x : Bool). x && true) (now_stamped now h)) written all;
       outfit = refl;
       settings = refl;
-      halves = subst (λ (log : History). Stand s n.application.outfit (came n.application) n.manager log (IsClosed new)) (sym (log_got s now es b))
-          (stand_closed s n.application.outfit (came n.application) n.manager _ (IsClosed w) (IsClosed new) (closed_all (Received s now b ∷ []) w new
+      halves = subst (λ (log : History). HalvesFollow (Unit {0}) s n.application.outfit (came n.application) n.manager log (IsClosed new)) (sym (log_got s now es b))
+          (halves_closed s n.application.outfit (came n.application) n.manager _ (IsClosed w) (IsClosed new) (closed_all (Received s now b ∷ []) w new
           all)
-          (stand_passes s n.application.outfit (came n.application) n.manager _ (IsClosed w) b is.halves));
+          (halves_pass s n.application.outfit (came n.application) n.manager _ (IsClosed w) b (inr tt) is.halves));
       handed_are = handed_same s (es ++ Received s now b ∷ []) old handed (handed_more s es (Received s now b ∷ []) old is.handed_are) same;
     })
 
@@ -304,9 +304,9 @@ keeps_unanswered s now b fault n m w new before es old handed h bytes u written 
           (written_one before w u.next es (Received s now b) (now_stamped now h) written u.received) u.unsent.refused;
       outfit = u.unsent.application.outfit;
       settings = ap (λ (k : Book). k.settings) u.manager;
-      halves = subst (λ (log : History). Stand s a (came m.application) m.manager log (IsClosed new)) (sym (log_got s now es b))
+      halves = subst (λ (log : History). HalvesFollow (Unit {0}) s a (came m.application) m.manager log (IsClosed new)) (sym (log_got s now es b))
           (stand_as s a a (with_request a ds q) (came m.application) n.manager m.manager _ (IsClosed new) refl u.unsent.application.came_is u.manager
-          (stand_loses s a ds n.manager (log_at s (past es)) (IsClosed w) (IsClosed new) b q (stamp_of now) is.halves
+          (halves_lose s a ds n.manager (log_at s (past es)) (IsClosed w) (IsClosed new) b q (stamp_of now) is.halves
           (none_missing s a ds n.manager _ (IsClosed w) is.halves (is_open w (Received s now b) u.received.taken))
           (record { bytes = bytes; read = u.read }) (stamp_within now) (ap is_some u.unsent.due) shut));
       handed_are = handed_same s (es ++ Received s now b ∷ []) old handed (handed_more s es (Received s now b ∷ []) old is.handed_are) same;
@@ -393,7 +393,7 @@ keeps_serves s now turns old new (Err faults.Memory) h ends = λ before es writt
 keeps_text : (s now : ℕ) (text : List ℕ) (n m : Node) (w new : WriterState) (before : Option (List ℕ)) (es : List Entry) (old handed : Option
     Datagrams) → now < 2 ^ 64
     → WritesOne w (Sent s now text) new → m.application ≡ n.application → m.manager.settings ≡ n.manager.settings
-    → Stand s n.application.outfit (came n.application) m.manager (Send s text ∷ log_at s (past es)) (IsClosed w)
+    → HalvesFollow (Unit {0}) s n.application.outfit (came n.application) m.manager (Send s text ∷ log_at s (past es)) (IsClosed w)
     → AreHanded s (es ++ Sent s now text ∷ []) handed → IsWritten before w es → IsKept s n w es old → KeepsOn s before es m w new handed
 keeps_text s now text n m w new before es old handed h one application settings halves handed_are written is =
     step_keeps s before es n m w new old handed is (record {
@@ -404,10 +404,10 @@ keeps_text s now text n m w new before es old handed h one application settings 
       written = written_one before w new es (Sent s now text) (now_stamped now h) written one;
       outfit = ap (λ (a : ApplicationData). a.outfit) application;
       settings = settings;
-      halves = subst (λ (ds : List Pdu). Stand s n.application.outfit ds m.manager (log_at s (past (es ++ Sent s now text ∷ []))) (IsClosed new))
+      halves = subst (λ (ds : List Pdu). HalvesFollow (Unit {0}) s n.application.outfit ds m.manager (log_at s (past (es ++ Sent s now text ∷ []))) (IsClosed new))
           (sym (ap came application))
-          (subst (λ (log : History). Stand s n.application.outfit (came n.application) m.manager log (IsClosed new)) (sym (log_sent s now es text))
-          (stand_closed s n.application.outfit (came n.application) m.manager _ (IsClosed w) (IsClosed new)
+          (subst (λ (log : History). HalvesFollow (Unit {0}) s n.application.outfit (came n.application) m.manager log (IsClosed new)) (sym (log_sent s now es text))
+          (halves_closed s n.application.outfit (came n.application) m.manager _ (IsClosed w) (IsClosed new)
           (λ c. absurd (is_open w (Sent s now text) one.taken c)) halves));
       handed_are = handed_are;
     })
@@ -416,7 +416,7 @@ keeps_text s now text n m w new before es old handed h one application settings 
 pub keeps_quiet : (s : ℕ) (before : Option (List ℕ)) (es : List Entry) (n m : Node) (w new : WriterState) (old handed : Option Datagrams)
     → IsWritten before new es
     → new.setting ≡ w.setting → (IsClosed w → IsClosed new) → m.application ≡ n.application → m.manager.settings ≡ n.manager.settings
-    → Stand s n.application.outfit (came n.application) m.manager (log_at s (past es)) (IsClosed w) → IsKept s n w es old → Same old handed
+    → HalvesFollow (Unit {0}) s n.application.outfit (came n.application) m.manager (log_at s (past es)) (IsClosed w) → IsKept s n w es old → Same old handed
     → KeepsOn s before es m w new handed
 keeps_quiet s before es n m w new old handed written setting closed application settings halves is same =
     step_keeps s before es n m w new old handed is (record {
@@ -427,11 +427,11 @@ keeps_quiet s before es n m w new old handed written setting closed application 
       written = subst (IsWritten before new) (sym (append-nil es)) written;
       outfit = ap (λ (a : ApplicationData). a.outfit) application;
       settings = settings;
-      halves = subst (λ (ds : List Pdu). Stand s n.application.outfit ds m.manager (log_at s (past (es ++ []))) (IsClosed new)) (sym (ap came
+      halves = subst (λ (ds : List Pdu). HalvesFollow (Unit {0}) s n.application.outfit ds m.manager (log_at s (past (es ++ []))) (IsClosed new)) (sym (ap came
           application))
-          (subst (λ (l : List Entry). Stand s n.application.outfit (came n.application) m.manager (log_at s (past l)) (IsClosed new)) (sym
+          (subst (λ (l : List Entry). HalvesFollow (Unit {0}) s n.application.outfit (came n.application) m.manager (log_at s (past l)) (IsClosed new)) (sym
           (append-nil es))
-          (stand_closed s n.application.outfit (came n.application) m.manager _ (IsClosed w) (IsClosed new) closed halves));
+          (halves_closed s n.application.outfit (came n.application) m.manager _ (IsClosed w) (IsClosed new) closed halves));
       handed_are = subst (λ (l : List Entry). AreHanded s l handed) (sym (append-nil es)) (handed_same s es old handed is.handed_are same);
     })
 
@@ -451,22 +451,22 @@ handed_text s now text es old new h may =
 -- what stands of the halves after an order was made
 order_sent : (s now : ℕ) (order : Order) (n m : Node) (w : WriterState) (es : List Entry) (old : Option Datagrams) → is_request_body order.body ≡ true
     → Makes now order n m → IsKept s n w es old
-    → Stand s n.application.outfit (came n.application) m.manager (Send s (pdu_text (next_order n.manager now order)) ∷ log_at s (past es)) (IsClosed
+    → HalvesFollow (Unit {0}) s n.application.outfit (came n.application) m.manager (Send s (pdu_text (next_order n.manager now order)) ∷ log_at s (past es)) (IsClosed
     w)
 order_sent s now order n m w es old request makes is =
-    subst (λ (x : Node). Stand s n.application.outfit (came n.application) x.manager (Send s (pdu_text (next_order n.manager now order)) ∷ log_at s
+    subst (λ (x : Node). HalvesFollow (Unit {0}) s n.application.outfit (came n.application) x.manager (Send s (pdu_text (next_order n.manager now order)) ∷ log_at s
     (past es)) (IsClosed w))
     (sym makes.halves)
-    (stand_orders s n.application.outfit (came n.application) n.manager _ (IsClosed w) order now is.halves (exercise_own s n w.setting is.station)
+    (halves_order s n.application.outfit (came n.application) n.manager _ (IsClosed w) order now is.halves (exercise_own s n w.setting is.station)
     (address_own s n w.setting is.station) request makes.made makes.in_range)
 
 order_withheld : (s now : ℕ) (order : Order) (n m : Node) (w : WriterState) (es : List Entry) (old : Option Datagrams)
     → is_request_body order.body ≡ true
     → Makes now order n m → IsKept s n w es old
-    → Stand s n.application.outfit (came n.application) m.manager (log_at s (past es)) (IsClosed w)
+    → HalvesFollow (Unit {0}) s n.application.outfit (came n.application) m.manager (log_at s (past es)) (IsClosed w)
 order_withheld s now order n m w es old request makes is =
-    subst (λ (x : Node). Stand s n.application.outfit (came n.application) x.manager (log_at s (past es)) (IsClosed w)) (sym makes.halves)
-    (stand_withholds s n.application.outfit (came n.application) n.manager _ (IsClosed w) order now is.halves request makes.made makes.in_range)
+    subst (λ (x : Node). HalvesFollow (Unit {0}) s n.application.outfit (came n.application) x.manager (log_at s (past es)) (IsClosed w)) (sym makes.halves)
+    (halves_withhold s n.application.outfit (came n.application) n.manager _ (IsClosed w) order now is.halves request makes.made makes.in_range)
 
 makes_application : (now : ℕ) (order : Order) (n m : Node) → Makes now order n m → m.application ≡ n.application
 makes_application now order n m makes = ap (λ (x : Node). x.application) makes.halves
@@ -512,18 +512,18 @@ keeps_issue s now order old new (Err issue_faults.Memory) h request ends = λ be
 -- what stands of the halves after a tick
 tick_sent : (s now : ℕ) (p : Pdu) (n m : Node) (w : WriterState) (es : List Entry) (old : Option Datagrams) → m ≡ after_tick n now
     → next_repeat n.manager now ≡ Some p
-    → IsKept s n w es old → Stand s n.application.outfit (came n.application) m.manager (Send s (pdu_text p) ∷ log_at s (past es)) (IsClosed w)
+    → IsKept s n w es old → HalvesFollow (Unit {0}) s n.application.outfit (came n.application) m.manager (Send s (pdu_text p) ∷ log_at s (past es)) (IsClosed w)
 tick_sent s now p n m w es old after due is =
-    subst (λ (x : Node). Stand s n.application.outfit (came n.application) x.manager (Send s (pdu_text p) ∷ log_at s (past es)) (IsClosed w)) (sym
+    subst (λ (x : Node). HalvesFollow (Unit {0}) s n.application.outfit (came n.application) x.manager (Send s (pdu_text p) ∷ log_at s (past es)) (IsClosed w)) (sym
     after)
-    (stand_repeats s n.application.outfit (came n.application) n.manager _ (IsClosed w) now p is.halves (exercise_own s n w.setting is.station)
+    (halves_repeat s n.application.outfit (came n.application) n.manager _ (IsClosed w) now p is.halves (exercise_own s n w.setting is.station)
     (address_own s n w.setting is.station) due)
 
 tick_quiet : (s now : ℕ) (n m : Node) (w : WriterState) (es : List Entry) (old : Option Datagrams) → m ≡ after_tick n now → IsKept s n w es old
-    → Stand s n.application.outfit (came n.application) m.manager (log_at s (past es)) (IsClosed w)
+    → HalvesFollow (Unit {0}) s n.application.outfit (came n.application) m.manager (log_at s (past es)) (IsClosed w)
 tick_quiet s now n m w es old after is =
-    subst (λ (x : Node). Stand s n.application.outfit (came n.application) x.manager (log_at s (past es)) (IsClosed w)) (sym after)
-    (stand_ticks s n.application.outfit (came n.application) n.manager _ (IsClosed w) now is.halves)
+    subst (λ (x : Node). HalvesFollow (Unit {0}) s n.application.outfit (came n.application) x.manager (log_at s (past es)) (IsClosed w)) (sym after)
+    (halves_tick s n.application.outfit (came n.application) n.manager _ (IsClosed w) now is.halves)
 
 -- nothing was written at a tick
 keeps_tick : (s now : ℕ) (old new : State) (before : Option (List ℕ)) (es : List Entry) → new.node ≡ after_tick old.node now → Rests old new
@@ -559,3 +559,8 @@ keeps_nudge s now old new (Err (issue_faults.Record fault)) h ends = λ before e
     (ap (λ (x : Node). x.application) ends.0) (ap (λ (x : Node). x.manager.settings) ends.0)
     (tick_quiet s now old.node new.node old.recorder es old.sent ends.0 is) is ends.1.left.sent_are)
 keeps_nudge s now old new (Err issue_faults.Memory) h ends = λ before es written is. keeps_tick s now old new before es ends.0 ends.2 written is
+
+-- Nothing was done.
+pub keeps_nothing : (s : ℕ) (n : Node) (w : WriterState) (handed : Option Datagrams) → Keeps s n w handed n w handed
+keeps_nothing s n w handed = λ before es written is.
+    keeps_unwritten s before es n w w handed handed written refl (λ closed. closed) is (same_itself handed)

@@ -1,14 +1,12 @@
 pub mod Handing
 pub mod Growth
 pub mod Taking
-pub mod Turns
+pub mod ServedTurns
 pub mod Ordered
-pub mod Standing
 pub mod Writings
 pub mod Hearing
 pub mod Keeping
 pub mod States
 pub mod Stations
-pub mod Events
 pub mod Coming
 pub mod Refusing

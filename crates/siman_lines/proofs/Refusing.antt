@@ -9,11 +9,11 @@ use Rattle.exercise_model.specs.Setting.{SettingData}
 use Rattle.exercise_recording.specs.declared.fault.WriterFault.{WriterFault}
 use Rattle.exercise_recording.specs.Writer.{WriterState}
 use Rattle.siman_manager.specs.declared.order.Order.{Order}
-use Rattle.siman_worlds.specs.declared.turn.Node.{Node}
-use Rattle.siman_worlds.specs.declared.turn.TurnFault.TheVariants as turn_faults
-use Rattle.siman_worlds.specs.Acts.{next_order}
-use Rattle.siman_worlds.specs.Recording.{WritesOne, WritesNone}
-use Rattle.siman_worlds.specs.Turn.{FailsTurn}
+use Rattle.siman_stations.specs.declared.turn.Node.{Node}
+use Rattle.siman_stations.specs.declared.turn.TurnFault.TheVariants as turn_faults
+use Rattle.siman_stations.specs.Sending.{next_order}
+use Rattle.siman_stations.specs.Recording.{WritesOne, WritesNone}
+use Rattle.siman_stations.specs.StationTurn.{FailsTurn}
 use Rattle.siman_lines.specs.declared.fault.ServeFault.{ServeFault}
 use Rattle.siman_lines.specs.declared.fault.ServeFault.TheVariants as faults
 use Rattle.siman_lines.specs.declared.fault.IssueFault.{IssueFault}
@@ -21,7 +21,7 @@ use Rattle.siman_lines.specs.declared.fault.IssueFault.TheVariants as issue_faul
 use Rattle.siman_lines.specs.declared.served.Served.{Served}
 use Rattle.siman_lines.specs.Serving.{State, ServeEnds, is_short}
 use Rattle.siman_lines.specs.Ordering.{IssueEnds, NudgeEnds}
-use Rattle.siman_lines.specs.Kept.{IsRightRefusal, RefusesServe, RefusesIssue}
+use Rattle.siman_lines.specs.KeptAtLine.{IsRightRefusal, RefusesServe, RefusesIssue}
 use Rattle.siman_lines.proofs.Writings.{right_refusal, refusal_before, setting_all}
 
 good_at : (s n : ℕ) (b : List ℕ) → s < n → length b ≤ LARGEST_DATAGRAM → (nat_lt s n && nat_le (length b) LARGEST_DATAGRAM) ≡ true

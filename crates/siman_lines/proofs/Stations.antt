@@ -7,23 +7,21 @@ use Rattle.std.proofs.lemmas.Bool.Decides.{nat_tests}
 use Rattle.std.proofs.lemmas.List.Concat.{flat_map-append}
 use Rattle.std.proofs.lemmas.List.{take-append-drop}
 use Rattle.std.specs.Prelude.{drop}
-use Rattle.siman_pdus.specs.declared.pdu.Pdu.{Pdu}
 use Rattle.exercise_model.specs.Entry.{Entry}
 use Rattle.exercise_model.specs.History.{History, past, log_at}
 use Rattle.exercise_model.specs.Recording.{IsRecording}
 use Rattle.exercise_model.specs.Setting.{SettingData, IsSetting}
 use Rattle.exercise_recording.specs.Text.{head_text, entry_text, end_text}
 use Rattle.exercise_recording.specs.Writer.{WriterState, Starts}
-use Rattle.siman_application.specs.Outfit.{Outfit}
 use Rattle.siman_application.specs.KeptRequests.{requests}
-use Rattle.siman_application.specs.Ranges.{IsOutfitInRange}
 use Rattle.siman_application.specs.Application.{came}
-use Rattle.siman_manager.specs.Book.{Book}
-use Rattle.siman_worlds.specs.declared.turn.Node.{Node}
-use Rattle.siman_lines.specs.Told.{Datagrams}
-use Rattle.siman_lines.specs.Kept.{IsTail, IsWritten, IsClosed, AreHanded, Stand, IsOfStation, IsKept, AreOf, KeepsOn}
+use Rattle.siman_stations.specs.declared.turn.Node.{Node}
+use Rattle.siman_lines.specs.LineDatagrams.{Datagrams}
+use Rattle.siman_stations.specs.Halves.{HalvesFollow}
+use Rattle.siman_stations.specs.StationTurn.{AreOf}
+use Rattle.siman_stations.proofs.Offered.{log-other, halves_begun, halves_closed}
+use Rattle.siman_lines.specs.KeptAtLine.{IsTail, IsWritten, IsClosed, AreHanded, IsOfStation, IsKept, KeepsOn}
 use Rattle.siman_lines.specs.Calls.{IsUnused, IsFresh, Stations, HasStation, IsCall, AreCalls, AreKept, IsBeginningOf}
-use Rattle.siman_lines.proofs.Hearing.{log_other, stand_closed}
 use Rattle.siman_lines.proofs.Keeping.{handed_more}
 
 -- Beginnings.
@@ -53,27 +51,12 @@ no_past : (s : ℕ) → log_at s (past []) ≡ []
 unfolding log_at past
 no_past s = refl
 
-stand_fresh : (s : ℕ) (a : Outfit) (k : Book) (closed : Type 0) (ds : List Pdu) → ds ≡ [] → k.orders ≡ [] → IsOutfitInRange a
-    → Stand s a ds k [] closed
-stand_fresh s a k closed ds none orders own = record {
-  turns = [];
-  calls = [];
-  own_log = record { outfit = own; turns = tt; log_is = refl; taken_is = refl };
-  application = none;
-  missing = inl tt;
-  told = tt;
-  manager = orders;
-  fit = tt;
-  heard = refl;
-  ordered = tt;
-}
-
 pub fresh : (s : ℕ) (n : Node) (recorder : WriterState) (handed : Option Datagrams) → IsFresh s n recorder.setting handed
     → IsKept s n recorder [] handed
 fresh s n recorder handed is = record {
   station = is.station;
-  halves = subst (λ (log : History). Stand s n.application.outfit (came n.application) n.manager log (IsClosed recorder)) (sym (no_past s))
-      (stand_fresh s n.application.outfit n.manager (IsClosed recorder) (came n.application) (ap requests is.nothing_came) is.no_order is.ranges);
+  halves = subst (λ (log : History). HalvesFollow (Unit {0}) s n.application.outfit (came n.application) n.manager log (IsClosed recorder)) (sym (no_past s))
+      (halves_begun s n.application.outfit n.manager (IsClosed recorder) (came n.application) (ap requests is.nothing_came) is.no_order is.ranges);
   handed_are = none_handed s handed is.unused;
 }
 
@@ -88,9 +71,9 @@ stays : (s t : ℕ) (n : Node) (w new : WriterState) (es more : List Entry) (han
     → (IsClosed w → IsClosed new) → IsKept t n w es handed → IsKept t n new (es ++ more) handed
 stays s t n w new es more handed apart own setting closed is = record {
   station = subst (IsOfStation t n) (sym setting) is.station;
-  halves = subst (λ (log : History). Stand t n.application.outfit (came n.application) n.manager log (IsClosed new))
-      (sym (log_other s t es more (apart_test s t apart) own))
-      (stand_closed t n.application.outfit (came n.application) n.manager _ (IsClosed w) (IsClosed new) closed is.halves);
+  halves = subst (λ (log : History). HalvesFollow (Unit {0}) t n.application.outfit (came n.application) n.manager log (IsClosed new))
+      (sym (log-other s t es more (apart_test s t apart) own))
+      (halves_closed t n.application.outfit (came n.application) n.manager _ (IsClosed w) (IsClosed new) closed is.halves);
   handed_are = handed_more t es more handed is.handed_are;
 }
 

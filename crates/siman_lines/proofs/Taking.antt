@@ -7,10 +7,10 @@ use Rattle.exercise_recording.specs.Writer.{WriterState}
 use Rattle.siman_application.specs.Outfit.{Outfit}
 use Rattle.siman_application.specs.Application.{ApplicationData, came}
 use Rattle.siman_manager.specs.Book.{Book}
-use Rattle.siman_worlds.specs.declared.turn.Node.{Node}
-use Rattle.siman_worlds.specs.Recording.{WritesOne}
-use Rattle.siman_worlds.specs.Turn.{stamp_of, sent_as, reply_due, turn_entries, RecordsAll, TakesBoth}
-use Rattle.siman_lines.specs.Told.{Datagrams}
+use Rattle.siman_stations.specs.declared.turn.Node.{Node}
+use Rattle.siman_stations.specs.Recording.{WritesOne}
+use Rattle.siman_stations.specs.StationTurn.{stamp_of, sent_as, reply_due, turn_entries, RecordsAll, TakesBoth}
+use Rattle.siman_lines.specs.LineDatagrams.{Datagrams}
 use Rattle.siman_lines.specs.Serving.{came_with, taken_with, reply_with, reply_at, entries_after, HasTaken}
 
 -- Entries are recorded one after the other.

@@ -1,27 +1,19 @@
 -- What lists of calls over one recorder come to: stations that each serve a line of their own, issue and repeat orders, and tell states (profile). Histories have THE LAST EVENT FIRST.
-use Rattle.std.specs.Prelude.{◌≡◌, ◌≤◌, ◌<◌, ℕ, List, [], ◌∷◌, ◌++◌, length, true, slice_get, Option, Some, None, ◌⊎◌}
+use Rattle.std.specs.Prelude.{◌≡◌, ◌≤◌, ◌<◌, ℕ, List, [], ◌∷◌, ◌++◌, length, Option, Some, None, ◌⊎◌}
 use Rattle.std.specs.List.{AllByRecursion}
-use Rattle.siman_pdus.specs.declared.pdu.Pdu.{Pdu}
-use Rattle.siman_pdus.specs.Role.{is_request_body}
-use Rattle.siman_pdus.specs.Same.{IsSameOrder}
-use Rattle.exercise_model.specs.Cause.{send_cause, was_sent, same_state}
 use Rattle.exercise_model.specs.Entry.{Entry}
-use Rattle.exercise_model.specs.History.{History, Send, Get, Tell, past, log_at}
-use Rattle.exercise_model.specs.Meaning.{meaning}
+use Rattle.exercise_model.specs.History.{History, past, log_at}
 use Rattle.exercise_model.specs.Recording.{PlainRecording, IsRecording}
 use Rattle.exercise_model.specs.Run.{IsRun}
-use Rattle.exercise_model.specs.Setting.{SettingData, IsSetting, is_from}
-use Rattle.exercise_model.specs.State.{state_after}
-use Rattle.exercise_model.specs.Station.{StationData}
+use Rattle.exercise_model.specs.Setting.{SettingData, IsSetting}
 use Rattle.exercise_recording.specs.Text.{recording_text}
 use Rattle.exercise_recording.specs.Writer.{WriterState, Starts}
 use Rattle.siman_application.specs.OwnLog.{AreOneOrder}
 use Rattle.siman_application.specs.Ranges.{IsOutfitInRange}
-use Rattle.siman_manager.specs.declared.kept.KeptOrder.{KeptOrder}
-use Rattle.siman_manager.specs.Book.{Book}
-use Rattle.siman_worlds.specs.declared.turn.Node.{Node}
-use Rattle.siman_lines.specs.Told.{Datagrams}
-use Rattle.siman_lines.specs.Kept.{IsWritten, IsOfStation, IsKept, Keeps}
+use Rattle.siman_stations.specs.declared.turn.Node.{Node}
+use Rattle.siman_stations.specs.Deeds.{ReceivesSent}
+use Rattle.siman_lines.specs.LineDatagrams.{Datagrams}
+use Rattle.siman_lines.specs.KeptAtLine.{IsWritten, IsOfStation, IsKept, Keeps}
 
 -- Beginnings.
 
@@ -88,34 +80,6 @@ pub record IsBeginningOf (before : List ℕ) (w : WriterState) (es : List Entry)
   pub rest : List ℕ
   pub contents : w.contents ≡ Some (before ++ front)
   pub text : front ++ rest ≡ recording_text recording
-
--- Nothing that the log of a station sends or tells has a cause against it, after the events before it.
-abbrev pub DeedsStand : ℕ → StationData → History → Type 0
-DeedsStand x o [] = Unit {0}
-DeedsStand x o (Send s b ∷ log) = ((p : Pdu) → meaning x b ≡ Some p → send_cause x o log p ≡ None) × DeedsStand x o log
-DeedsStand x o (Get s b ∷ log) = DeedsStand x o log
-DeedsStand x o (Tell s e y ∷ log) = (same_state y (state_after x o log e) ≡ true) × DeedsStand x o log
-
--- Each datagram that is received and is not other was sent before.
-abbrev pub ReceivesSent : SettingData → History → Type 0
-ReceivesSent w [] = Unit {0}
-ReceivesSent w (Send s b ∷ h) = ReceivesSent w h
-ReceivesSent w (Get s b ∷ h) = ((p : Pdu) → meaning w.exercise b ≡ Some p → was_sent b h ≡ true) × ReceivesSent w h
-ReceivesSent w (Tell s e y ∷ h) = ReceivesSent w h
-
--- A REQUEST THAT IS SENT comes from the manager's address, and is the same order as one that the manager keeps.
-pub record IsOrdered (k : Book) (p : Pdu) : Type 0 where
-  pub from : is_from k.settings.address p ≡ true
-  pub order : KeptOrder
-  pub number : ℕ
-  pub there : slice_get k.orders number ≡ Some order
-  pub same : IsSameOrder p order.pdu
-
-abbrev pub RequestsAreOrdered : ℕ → Book → History → Type 0
-RequestsAreOrdered x k [] = Unit {0}
-RequestsAreOrdered x k (Send s b ∷ log) = ((p : Pdu) → meaning x b ≡ Some p → is_request_body p.body ≡ true → IsOrdered k p) × RequestsAreOrdered x k log
-RequestsAreOrdered x k (Get s b ∷ log) = RequestsAreOrdered x k log
-RequestsAreOrdered x k (Tell s e y ∷ log) = RequestsAreOrdered x k log
 
 -- NO SITE AND APPLICATION USED ONE REQUEST IDENTIFIER FOR TWO ORDERS, as far as each station received them.
 abbrev pub AreOrdersOne : SettingData → Stations → History → Type 0

@@ -1,6 +1,7 @@
-pub mod Told
+pub mod LineDatagrams
 pub mod Memory
 pub mod Serving
 pub mod Ordering
-pub mod Kept
+pub mod KeptAtLine
 pub mod Calls
+pub mod AtLine

@@ -8,14 +8,14 @@ use Rattle.exercise_recording.specs.declared.fault.WriterFault.{WriterFault}
 use Rattle.siman_manager.specs.declared.order.Order.{Order}
 use Rattle.siman_manager.specs.Answers.{refusal_of, told_by}
 use Rattle.siman_manager.specs.Book.{next_id}
-use Rattle.siman_worlds.specs.declared.turn.Node.{Node}
-use Rattle.siman_worlds.specs.Acts.{next_order, after_order, next_repeat, after_tick}
-use Rattle.siman_worlds.specs.Recording.{WritesOne, WritesNone}
-use Rattle.siman_worlds.specs.Turn.{stamp_of}
-use Rattle.siman_worlds.specs.WorldLaw.{IsOrderInRange}
+use Rattle.siman_stations.specs.declared.turn.Node.{Node}
+use Rattle.siman_stations.specs.Sending.{next_order, after_order, next_repeat, after_tick}
+use Rattle.siman_stations.specs.Recording.{WritesOne, WritesNone}
+use Rattle.siman_stations.specs.StationTurn.{stamp_of}
+use Rattle.siman_stations.specs.Sending.{IsOrderInRange}
 use Rattle.siman_lines.specs.declared.fault.IssueFault.{IssueFault}
 use Rattle.siman_lines.specs.declared.fault.IssueFault.TheVariants as faults
-use Rattle.siman_lines.specs.Told.{Same, Grows, MayGrow}
+use Rattle.siman_lines.specs.LineDatagrams.{Same, Grows, MayGrow}
 use Rattle.siman_lines.specs.Serving.{State}
 
 -- Of a text, beside the halves.

@@ -12,16 +12,16 @@ use Rattle.siman_application.specs.Play.{reply_after}
 use Rattle.siman_application.specs.Application.{came}
 use Rattle.siman_manager.specs.Answers.{taken}
 use Rattle.siman_manager.specs.Book.{Book}
-use Rattle.siman_worlds.specs.declared.turn.Node.{Node}
-use Rattle.siman_worlds.specs.declared.turn.TurnFault.{TurnFault}
-use Rattle.siman_worlds.specs.declared.turn.TurnFault.TheVariants as turn_faults
-use Rattle.siman_worlds.specs.Recording.{WritesOne, WritesNone}
-use Rattle.siman_worlds.specs.Turn.{stamp_of, sent_as, reply_due, turn_entries, RecordsAll, TakesBoth, FailsTurn as FailsHalves}
+use Rattle.siman_stations.specs.declared.turn.Node.{Node}
+use Rattle.siman_stations.specs.declared.turn.TurnFault.{TurnFault}
+use Rattle.siman_stations.specs.declared.turn.TurnFault.TheVariants as turn_faults
+use Rattle.siman_stations.specs.Recording.{WritesOne, WritesNone}
+use Rattle.siman_stations.specs.StationTurn.{stamp_of, sent_as, reply_due, turn_entries, RecordsAll, TakesBoth, FailsTurn as FailsHalves}
 use Rattle.exercise_recording.specs.declared.fault.WriterFault.{WriterFault}
 use Rattle.siman_lines.specs.declared.fault.ServeFault.{ServeFault}
 use Rattle.siman_lines.specs.declared.fault.ServeFault.TheVariants as faults
 use Rattle.siman_lines.specs.declared.served.Served.{Served}
-use Rattle.siman_lines.specs.Told.{Datagrams, Same, GrowsAll, Grows, MayGrow}
+use Rattle.siman_lines.specs.LineDatagrams.{Datagrams, Same, GrowsAll, Grows, MayGrow}
 
 -- Of datagrams that a station takes, each in its turn.
 

@@ -2,6 +2,7 @@
 
 use exercise_recording::WriterFault;
 use siman_manager::OrderFault;
+use siman_stations::StationFault;
 use thiserror::Error;
 
 /// Why a station ended its turns early. What was recorded stands after each of them.
@@ -38,5 +39,19 @@ pub enum IssueFault {
     Record(WriterFault),
     /// Memory ran out: nothing was recorded or sent; the manager half counts the request as sent.
     #[error("memory")]
+    Memory,
+}
+
+/// What hindered a station at its line. What was recorded stands after each of them.
+#[derive(Clone, Copy, Debug, PartialEq, Eq)]
+pub enum AtLineFault {
+    /// The station does not do what it was asked to, and is as it was.
+    Station(StationFault),
+    /// A call of the line failed.
+    Line,
+    /// An entry was not recorded, and what it tells of was not done. No further entry can be
+    /// written.
+    Record(WriterFault),
+    /// Memory ran out.
     Memory,
 }

@@ -9,10 +9,11 @@ ghost use Rattle.exercise_model.specs.Run.{IsRun};
 ghost use Rattle.exercise_model.specs.Setting.{SettingData, IsSetting, station_in};
 ghost use Rattle.exercise_recording.specs.Writer.{WriterState, Starts};
 ghost use Rattle.siman_application.specs.OwnLog.{AreOneOrder};
-ghost use Rattle.siman_worlds.specs.declared.turn.Node.{Node};
-ghost use Rattle.siman_lines.specs.Told.{Datagrams};
-ghost use Rattle.siman_lines.specs.Kept.{IsWritten, IsKept};
-ghost use Rattle.siman_lines.specs.Calls.{IsFresh, Stations, HasStation, AreBegun, AreCalls, AreKept, IsBeginningOf, DeedsStand, ReceivesSent, RequestsAreOrdered, ComesOfCalls};
+ghost use Rattle.siman_stations.specs.declared.turn.Node.{Node};
+ghost use Rattle.siman_stations.specs.Deeds.{DeedsStand, ReceivesSent, RequestsAreOrdered};
+ghost use Rattle.siman_lines.specs.LineDatagrams.{Datagrams};
+ghost use Rattle.siman_lines.specs.KeptAtLine.{IsWritten, IsKept};
+ghost use Rattle.siman_lines.specs.Calls.{IsFresh, Stations, HasStation, AreBegun, AreCalls, AreKept, IsBeginningOf, ComesOfCalls};
 
 /// What is kept of stations over one recorder: it holds of them as they are begun, and after every
 /// list of calls of [`serve`](crate::serve), [`issue`](crate::issue), [`nudge`](crate::nudge) and

@@ -9,16 +9,20 @@ mod memory;
 mod ordering;
 mod served;
 mod serving;
+mod station_at_line;
 mod telling;
 mod udp;
 
-pub use fault::{IssueFault, ServeFault};
+pub use fault::{AtLineFault, IssueFault, ServeFault};
 pub use laws::{calls_are_kept, calls_make_a_run, what_is_kept_stands};
 pub use line::{Line, LineFault};
 pub use memory::MemoryLine;
 pub use ordering::{issue, nudge};
 pub use served::Served;
 pub use serving::serve;
-pub use siman_worlds::Node;
+pub use siman_stations::Node;
+pub use station_at_line::{
+    StationAtLine, order_at, repeat_at, serve_rounds, stations_at_lines, tell_at,
+};
 pub use telling::tell;
 pub use udp::UdpLine;

@@ -1,7 +1,7 @@
 //! What a line is.
 
 ghost use Rattle.std.specs.Prelude.{◌≡◌, ℕ, ◌<◌, List, Option, None, IfOk, OnOk, OnErr, MatchOption};
-ghost use Rattle.siman_lines.specs.Told.{Grows, Hands, MayGrow, Same};
+ghost use Rattle.siman_lines.specs.LineDatagrams.{Grows, Hands, MayGrow, Same};
 
 use thiserror::Error;
 

@@ -35,10 +35,19 @@ fn requests(application: &mut Application) -> u32 {
     MOST
 }
 
+fn order_count(alloc: Global) -> io::Result<u32> {
+    Ok(orders(&mut manager(alloc)?))
+}
+
+fn request_count(alloc: Global) -> io::Result<u32> {
+    Ok(requests(&mut application(alloc)?))
+}
+
 /// Calls a manager and an application, and prints how far they came.
 pub fn put_halves<W: Write>(alloc: Global, out: &mut W) -> io::Result<()> {
-    writeln!(out, "orders: {}", orders(&mut manager(alloc)?))?;
-    writeln!(out, "requests: {}", requests(&mut application(alloc)?))?;
+    let (orders, requests) = (order_count(alloc)?, request_count(alloc)?);
+    writeln!(out, "orders: {orders}")?;
+    writeln!(out, "requests: {requests}")?;
     Ok(())
 }
 
@@ -98,8 +107,18 @@ fn nudged<W: Write>(
     MOST
 }
 
-/// Calls a station at its line, and prints how far it came.
-pub fn put_station<W: Write>(alloc: Global, out: &mut W) -> io::Result<()> {
+/// How far a station came at its line.
+#[derive(Clone, Copy)]
+struct StationCounts {
+    served: u32,
+    issued: u32,
+    nudged: u32,
+    /// How many datagrams are on the line.
+    sent: usize,
+}
+
+/// Calls a station at its line.
+fn station_counts(alloc: Global) -> io::Result<StationCounts> {
     let RecordedStation {
         stations,
         mut node,
@@ -112,7 +131,23 @@ pub fn put_station<W: Write>(alloc: Global, out: &mut W) -> io::Result<()> {
     let served = served(alloc, &mut line, &mut node, &mut recorder);
     let issued = issued(alloc, &mut line, &mut node, &mut recorder);
     let nudged = nudged(alloc, &mut line, &mut node, &mut recorder);
+    Ok(StationCounts {
+        served,
+        issued,
+        nudged,
+        sent: line.sent().len(),
+    })
+}
+
+/// Calls a station at its line, and prints how far it came.
+pub fn put_station<W: Write>(alloc: Global, out: &mut W) -> io::Result<()> {
+    let StationCounts {
+        served,
+        issued,
+        nudged,
+        sent,
+    } = station_counts(alloc)?;
     writeln!(out, "served: {served}, issued: {issued}, nudged: {nudged}")?;
-    writeln!(out, "on the line: {}", line.sent().len())?;
+    writeln!(out, "on the line: {sent}")?;
     Ok(())
 }

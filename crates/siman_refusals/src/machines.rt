@@ -102,10 +102,12 @@ pub(crate) struct Taking {
 
 impl Taking {
     fn begin(alloc: Global, request: &[u8], answer: &[u8]) -> io::Result<Taking> {
+        // The application last: what is alive where a call may refuse is dear to prove.
+        let (request, answer) = (read(alloc, request)?, read(alloc, answer)?);
         Ok(Taking {
             application: application(alloc)?,
-            request: read(alloc, request)?,
-            answer: read(alloc, answer)?,
+            request,
+            answer,
         })
     }
 

@@ -30,6 +30,24 @@ fn copies(alloc: Global) -> io::Result<Vec<Vec<u8>>> {
     Ok(coming)
 }
 
+fn stations_of(alloc: Global, site: u16, application: u16) -> io::Result<Vec<Station>> {
+    let mut stations = Vec::new(alloc);
+    stations.push(station(alloc, site, application)?)?;
+    Ok(stations)
+}
+
+/// A station without entities and datums, whose manager has made no order.
+fn node_of(alloc: Global, site: u16, application: u16) -> io::Result<Node> {
+    let station = station(alloc, site, application)?;
+    match Application::begin(alloc, 1, &station, &[], Vec::new(alloc), &[]) {
+        Ok(application) => Ok(Node {
+            application,
+            manager: Manager::begin(alloc, 1, station.address(), 1, 3, 10),
+        }),
+        Err(_) => Err(unmade()),
+    }
+}
+
 impl RecordedStation {
     /// A station to whose line these come; there is room for a small recording.
     pub(crate) fn begin(
@@ -38,22 +56,14 @@ impl RecordedStation {
         application: u16,
         coming: Vec<Vec<u8>>,
     ) -> io::Result<RecordedStation> {
-        let station = station(alloc, site, application)?;
-        let manager = Manager::begin(alloc, 1, station.address(), 1, 3, 10);
-        let Ok(application) = Application::begin(alloc, 1, &station, &[], Vec::new(alloc), &[])
-        else {
-            return Err(unmade());
-        };
-        let mut stations = Vec::new(alloc);
-        stations.push(station)?;
+        let text = Vec::with_capacity(alloc, 1024)?;
+        let stations = stations_of(alloc, site, application)?;
+        let node = node_of(alloc, site, application)?;
         Ok(RecordedStation {
             stations,
-            node: Node {
-                application,
-                manager,
-            },
+            node,
             line: MemoryLine::new(alloc, coming, None),
-            text: Vec::with_capacity(alloc, 1024)?,
+            text,
         })
     }
 

@@ -12,6 +12,8 @@ mod datagrams;
 #[cfg(test)]
 mod faults;
 #[cfg(test)]
+mod lines;
+#[cfg(test)]
 mod managers;
 #[cfg(test)]
 mod pdus;

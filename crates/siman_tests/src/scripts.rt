@@ -8,7 +8,7 @@ use crate::scripts::Deed::{
 use dis_records::{ClockTime, EntityId, EntityState, FixedDatum};
 use siman_manager::Order;
 use siman_pdus::{Body, DatumIds, Datums};
-use siman_worlds::{Act, Move, Script, WorldStation, read_script};
+use siman_scripts::{Act, Move, Script, WorldStation, read_script};
 use std::alloc::{AllocError, Global};
 use std::test::Fail;
 

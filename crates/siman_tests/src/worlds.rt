@@ -4,7 +4,8 @@ use dis_records::{Address, EntityId};
 use exercise_model::Station;
 use siman_manager::Order;
 use siman_pdus::{Body, Datums};
-use siman_worlds::{Act, Move, MoveFault, WorldFault, WorldStation, run_world};
+use siman_scripts::{Act, Move, WorldStation};
+use siman_worlds::{MoveFault, WorldFault, run_world};
 use std::alloc::Global;
 use std::test::Fail;
 

@@ -3,7 +3,7 @@ use Rattle.std.proofs.Common.{◌≡◌, ℕ, ◌≤◌, List, length, take, min
 use Rattle.std.specs.Prelude.{Option, Some, None, IfSome, MatchOption}
 use Rattle.std.proofs.lemmas.Grind.{common_steps}
 use Rattle.std.proofs.lemmas.List.{length-take-le, take-take}
-use Rattle.siman_lines.specs.Told.{Same, Hands}
+use Rattle.siman_lines.specs.LineDatagrams.{Same, Hands}
 
 min_same : (n m k : ℕ) → k ≡ n → n ≤ m → n ≡ min k m
 min_same n m k e h = grind (arith, common_steps)

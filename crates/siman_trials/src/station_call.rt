@@ -5,7 +5,7 @@ use exercise_recording::RecordingWriter;
 use siman_fixtures::Call;
 use siman_lines::{IssueFault, MemoryLine, Node, ServeFault, Served, issue, nudge, serve};
 use siman_manager::OrderStatus;
-use siman_worlds::{Act, Move};
+use siman_scripts::{Act, Move};
 use std::alloc::{AllocError, Global};
 use std::io::Write;
 

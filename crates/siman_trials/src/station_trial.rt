@@ -1,10 +1,12 @@
 //! Runs the calls of a station at its line, and tells what it left.
 
 use crate::station_call::make_call;
-use exercise_recording::{Recording, RecordingWriter};
+use exercise_model::Recording;
+use exercise_recording::RecordingWriter;
 use siman_fixtures::{Call, Calls, Case, Entries, WELL, Written, entries_of, found, write_to};
 use siman_lines::{MemoryLine, Node};
-use siman_worlds::{Beginning, Move, Script, begin_world, read_script};
+use siman_scripts::{Move, Script, read_script};
+use siman_worlds::{Beginning, begin_world};
 use std::alloc::{AllocError, Global};
 use std::io;
 use std::io::{ErrorKind, Write};

@@ -10,7 +10,7 @@ use Rattle.siman_application.specs.declared.kept.KeptRequest.{KeptRequest}
 use Rattle.siman_manager.specs.Book.{Book}
 use Rattle.siman_manager.specs.declared.kept.KeptOrder.{KeptOrder}
 use Rattle.siman_manager.specs.declared.settings.Settings.{Settings}
-use Rattle.siman_worlds.specs.declared.turn.Node.{Node}
+use Rattle.siman_stations.specs.declared.turn.Node.{Node}
 use Rattle.siman_worlds.specs.declared.world.World.{World}
 use Rattle.siman_scripts.specs.Stations.{WorldStationData}
 use Rattle.siman_worlds.specs.World.{WorldData, setting_of, settings_of, is_world_station, no_station, course_of}

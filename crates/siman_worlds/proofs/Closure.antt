@@ -3,34 +3,30 @@ use Rattle.std.proofs.Common.{◌≡◌, ℕ, ◌<◌, List, [], ◌∷◌, leng
 use Rattle.std.specs.Prelude.{Bool, true, false, Option, Some, None, if◌then◌else◌}
 use Rattle.std.specs.List.{AllByRecursion}
 use Rattle.std.proofs.lemmas.List.{reverse-append}
-use Rattle.exercise_model.specs.History.{past, log_at}
+use Rattle.exercise_model.specs.History.{past}
 use Rattle.exercise_model.specs.Run.{IsRun}
 use Rattle.siman_application.specs.Distinct.{distinct}
 use Rattle.siman_application.specs.Play.{state_over}
-use Rattle.siman_application.proofs.Offered.{states_stand}
 use Rattle.siman_scripts.specs.declared.act.Move.{Move}
 use Rattle.siman_worlds.specs.declared.world_fault.WorldFault.{WorldFault}
 use Rattle.siman_worlds.specs.declared.world_fault.WorldFault.TheVariants.{Stations}
 use Rattle.siman_worlds.specs.World.{WorldData, setting_of, outfit_of, state_by, are_world_stations, first_fault, course_of, entries_of, world_refusal}
 use Rattle.siman_worlds.specs.WorldLaw.{IsWorldInRange, IsActInRange, AreMovesInRange}
-use Rattle.siman_worlds.proofs.Logs.{turns_of}
-use Rattle.siman_worlds.proofs.LogsSends.{all_made, all_append}
-use Rattle.siman_worlds.proofs.LogsTurns.{own_log, clear, miss_none}
-use Rattle.siman_worlds.proofs.ClosureRuns.{all_run}
+use Rattle.siman_stations.proofs.Offered.{all_append}
+use Rattle.siman_worlds.proofs.Made.{all_made}
+use Rattle.siman_worlds.proofs.Stations.{state_is, all_sound, sound_run}
 
 -- THE STATE that a station tells after moves that can be made, the latest first, is that of its application
 pub state_is_told : (w : WorldData) (moves : List Move) → IsWorldInRange w → AreMovesInRange moves → first_fault w moves ≡ None → (s : ℕ)
     → s < length w.stations → (e : ℕ)
     → state_by w (course_of w moves) s e ≡ state_over (outfit_of w s) (distinct (outfit_of w s) ((course_of w moves).came s)) e
 state_is_told w moves own ranges none s within e =
-    states_stand (outfit_of w s) s (turns_of w s moves) (log_at s (past (course_of w moves).entries)) ((course_of w moves).came s)
-    (own_log w s moves own within (all_made w moves ranges none)) (clear w s moves (log_at s (past (course_of w moves).entries)))
-    (miss_none w s moves) e
+    state_is w (course_of w moves) s ((all_sound w moves own (all_made w moves ranges none)).halves s within) e
 
 -- A WORLD IS A RUN: the entries of moves that can be made, the latest first
 pub is_run : (w : WorldData) (moves : List Move) → IsWorldInRange w → AreMovesInRange moves → first_fault w moves ≡ None
     → IsRun (setting_of w) (past (course_of w moves).entries)
-is_run w moves own ranges none = all_run w moves own (all_made w moves ranges none)
+is_run w moves own ranges none = sound_run w (course_of w moves) (all_sound w moves own (all_made w moves ranges none))
 
 no_refusal : (stations : Bool) (fault : Option WorldFault) → (if stations then fault else Some Stations) ≡ None → fault ≡ None
 no_refusal true fault e = e

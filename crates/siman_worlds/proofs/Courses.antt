@@ -9,27 +9,27 @@ use Rattle.dis_records.specs.declared.header.TheConstants.{LARGEST_DATAGRAM}
 use Rattle.siman_pdus.specs.declared.pdu.Pdu.{Pdu}
 use Rattle.siman_pdus.specs.Spelling.{pdu_size}
 use Rattle.exercise_model.specs.declared.recording.TheConstants.{MOST_ENTRIES}
-use Rattle.exercise_model.specs.Entry.{Entry}
+use Rattle.exercise_model.specs.Entry.{Entry, Sent, Received, Told}
 use Rattle.exercise_model.specs.Recording.{PlainRecording}
 use Rattle.siman_manager.specs.Book.{Book}
 use Rattle.siman_manager.specs.Calls.{AreRequests}
 use Rattle.siman_scripts.specs.declared.act.Move.{Move}
-use Rattle.siman_worlds.specs.declared.turn.Node.{Node}
+use Rattle.siman_stations.specs.declared.turn.Node.{Node}
 use Rattle.siman_worlds.specs.declared.world.World.{World}
 use Rattle.siman_worlds.specs.declared.world_fault.MoveFault.{MoveFault}
 use Rattle.siman_worlds.specs.declared.world_fault.MoveFault.TheVariants as faults
 use Rattle.siman_worlds.specs.declared.world_fault.WorldFault.{WorldFault}
 use Rattle.siman_worlds.specs.declared.world_fault.WorldFault.TheVariants as world_faults
-use Rattle.siman_worlds.specs.World.{WorldData, Course, setting_of, settings_of, sent_in, brought, call_of, put_at, repeated_by, entries_by, act_fault, move_fault, first_fault, after_move, course_of}
+use Rattle.siman_worlds.specs.World.{WorldData, Course, setting_of, outfit_of, settings_of, sent_in, brought, call_of, put_at, repeated_by, entries_by, act_fault, move_fault, first_fault, after_move, course_of}
 use Rattle.siman_worlds.specs.WorldLaw.{IsActInRange}
-use Rattle.siman_worlds.specs.Acts.{sends_of, with_entries, halves_entries, next_repeat}
+use Rattle.siman_stations.specs.Sending.{next_repeat}
+use Rattle.siman_worlds.specs.Acts.{sends_of, with_entries, halves_entries}
 use Rattle.siman_worlds.specs.Moves.{IsFit, Does, step_fault, node_fault}
 use Rattle.siman_worlds.specs.Holds.{IsNode, Holds, IsAfter}
-use Rattle.siman_worlds.proofs.CoursesTicks.{repeat_told}
+use Rattle.siman_stations.proofs.Offered.{fit_requests, repeat_is, repeat_own, repeat_told}
 use Rattle.siman_worlds.proofs.CoursesActs.{AreTold, entries_same, act_same, node_on}
-use Rattle.siman_worlds.proofs.Logs.{put_other}
-use Rattle.siman_worlds.proofs.LogsOrders.{fit_requests}
-use Rattle.siman_worlds.proofs.LogsSends.{all_made, all_stand, repeat_own, sent_in-append}
+use Rattle.siman_worlds.proofs.Made.{all_made}
+use Rattle.siman_worlds.proofs.Stations.{put_other, all_sound}
 use Rattle.siman_worlds.proofs.Closure.{state_is_told}
 
 -- Places.
@@ -53,6 +53,13 @@ get_none (x ∷ xs) (suc k) e = let h : length xs ≤ k = get_none xs k e in ome
 
 other_false : (t s : ℕ) → (t ≡ s → ⊥) → (t == s) ≡ false
 other_false t s h = grind (arith, nat_tests)
+
+-- what two parts of the entries send
+sent_in-append : (es fs : List Entry) → sent_in (es ++ fs) ≡ sent_in es ++ sent_in fs
+sent_in-append [] fs = refl
+sent_in-append (Sent s stamp b ∷ es) fs = ap (λ (bs : List (List ℕ)). b ∷ bs) (sent_in-append es fs)
+sent_in-append (Received s stamp b ∷ es) fs = sent_in-append es fs
+sent_in-append (Told s e y ∷ es) fs = sent_in-append es fs
 
 -- A move that is made.
 
@@ -132,12 +139,12 @@ after_on w moves m old new is d can range =
     made_next (first_fault w moves) (length moves) (move_fault w (course_of w moves) m) is.made
     (sym (moves_same w (course_of w moves) m old is.holds) ∙ can) in
     let made = all_made w (m ∷ moves) (range, is.moves_are) none in
-    let stands = all_stand w moves is.world made.1 in
+    let stands = all_sound w moves is.world made.1 in
     record {
       world = is.world;
       moves_are = (range, is.moves_are);
       made = none;
-      holds = holds_on w (course_of w moves) m old new is.holds (fit_requests ((course_of w moves).calls m.station) (stands.calls_are m.station))
+      holds = holds_on w (course_of w moves) m old new is.holds (fit_requests ((course_of w moves).calls m.station) (stands.fit m.station))
           (state_is_told w moves is.world is.moves_are is.made m.station made.0.within) made.0.can d;
     }
 
@@ -168,7 +175,7 @@ repeat_same w c s now n is are =
 pub is_fit : (w : WorldData) (moves : List Move) (kept : World) → IsAfter w moves kept → IsFit kept
 is_fit w moves kept is =
     let made = all_made w moves is.moves_are is.made in
-    let stands = all_stand w moves is.world made in
+    let stands = all_sound w moves is.world made in
     record {
       stations = is.holds.count ∙ (sym (length-map w.stations (λ s. s.station))
           ∙ ap (λ (r : PlainRecording). length r.setting.stations) (sym is.holds.recording));
@@ -176,8 +183,9 @@ is_fit w moves kept is =
       repeats = λ s n at now.
           let within : s < length w.stations = (let h : s < length kept.nodes.items = slice_get_within kept.nodes.items s n at in
           omega (arith, is.holds.count)) in
-          let fit = stands.calls_are s in
+          let fit = stands.fit s in
           short_if (next_repeat n.manager now) (λ p e.
-          (repeat_own w (course_of w moves) s now p (is.world s within) fit
-          (sym (repeat_same w (course_of w moves) s now n (is.holds.nodes s n at) (fit_requests ((course_of w moves).calls s) fit)) ∙ e)).order.size);
+          (repeat_own (outfit_of w s) (settings_of w s) refl refl (is.world s within) ((course_of w moves).calls s) fit now p
+          (repeat_is (settings_of w s) ((course_of w moves).calls s) now p
+          (sym (repeat_same w (course_of w moves) s now n (is.holds.nodes s n at) (fit_requests ((course_of w moves).calls s) fit)) ∙ e))).order.size);
     }

@@ -1,11 +1,12 @@
 -- What an act makes of the halves of a station is what is told of the PDUs that came and of the calls.
 use Rattle.std.proofs.Common.{◌≡◌, ℕ, List, [], ◌∷◌, length, Option, Some, None, refl, sym, ap, subst, ◌∙◌}
-use Rattle.std.specs.Prelude.{slice_get, option_map, option_and_then, nat_lt, if◌then◌else◌}
+use Rattle.std.specs.Prelude.{Bool, true, false, slice_get, option_map, option_and_then, nat_lt, if◌then◌else◌}
 use Rattle.dis_records.specs.declared.entity_state.EntityState.{EntityState}
 use Rattle.siman_pdus.specs.declared.pdu.Pdu.{Pdu}
 use Rattle.siman_pdus.specs.Reading.{reading}
 use Rattle.siman_pdus.specs.Role.{is_request_body}
 use Rattle.exercise_model.specs.Entry.{Received, Told}
+use Rattle.exercise_model.specs.Station.{is_entity}
 use Rattle.siman_application.specs.Distinct.{distinct, with_request}
 use Rattle.siman_application.specs.Outfit.{Outfit}
 use Rattle.siman_application.specs.Play.{state_over, reply_after}
@@ -13,24 +14,23 @@ use Rattle.siman_application.specs.Application.{came}
 use Rattle.siman_manager.specs.declared.fault.OrderFault.{OrderFault}
 use Rattle.siman_manager.specs.declared.order.Order.{Order}
 use Rattle.siman_manager.specs.Answers.{taken, with_orders, ticked}
-use Rattle.siman_manager.specs.Book.{Book, order_pdu, next_id, refusal, after_request, with_order}
+use Rattle.siman_manager.specs.Book.{Book, order_pdu, next_id, refusal, with_order}
 use Rattle.siman_manager.specs.Calls.{Call, Requested, Came, Ticked, AreRequests, kept, count_made}
 use Rattle.siman_manager.proofs.Offered.{counts}
 use Rattle.siman_scripts.specs.declared.act.Act.{Act}
 use Rattle.siman_scripts.specs.declared.act.Act.TheVariants.{Command, Deliver, Tick, Tell}
-use Rattle.siman_worlds.specs.declared.turn.Node.{Node}
+use Rattle.siman_stations.specs.declared.turn.Node.{Node}
 use Rattle.siman_worlds.specs.declared.world_fault.MoveFault.TheVariants as faults
-use Rattle.siman_worlds.specs.Turn.{stamp_of, sent_as, reply_due, TakesBoth}
+use Rattle.siman_stations.specs.StationTurn.{stamp_of, sent_as, reply_due, TakesBoth}
 use Rattle.siman_worlds.specs.World.{WorldData, Course, outfit_of, settings_of, sent_in, datagram, brought, call_of, put_at, reply_by, arrival, state_by, entries_by, act_fault}
-use Rattle.siman_worlds.specs.Acts.{next_order, after_order, next_repeat, after_tick, order_fault, turn_if, halves_fault, halves_entries, Goes}
+use Rattle.siman_stations.specs.declared.station_fault.StationFault.TheVariants as station_faults
+use Rattle.siman_stations.specs.Asked.{order_fault}
+use Rattle.siman_stations.specs.Sending.{next_order, after_order, next_repeat, after_tick}
+use Rattle.siman_worlds.specs.Acts.{as_move, turn_if, halves_fault, halves_entries, Goes}
 use Rattle.siman_worlds.specs.Holds.{IsNode}
-use Rattle.siman_worlds.proofs.CoursesTicks.{repeat_told}
-use Rattle.siman_worlds.proofs.Logs.{put_own}
-use Rattle.siman_worlds.proofs.LogsSends.{can_order}
-
--- the manager half after some calls
-abbrev book_of : WorldData → ℕ → List Call → Book
-book_of w s calls = record { settings = settings_of w s; orders = kept (settings_of w s) calls }
+use Rattle.siman_stations.proofs.Offered.{repeat_told}
+use Rattle.siman_worlds.proofs.Made.{can_order}
+use Rattle.siman_worlds.proofs.Stations.{put_own, book_made}
 
 -- Entries.
 
@@ -75,15 +75,27 @@ entries_same w c s now (Tell e) sends n is are told same =
 
 -- The fault of an act.
 
+order_same : (request : Bool) (r : Option OrderFault)
+    → as_move (if request then option_map station_faults.Order r else Some station_faults.NotARequest)
+    ≡ (if request then option_map faults.Order r else Some faults.NotARequest)
+order_same false r = refl
+order_same true None = refl
+order_same true (Some fault) = refl
+
+tell_same : (there : Bool) → as_move (if there then None else Some station_faults.NoSuchEntity) ≡ (if there then None else Some faults.NoSuchEntity)
+tell_same true = refl
+tell_same false = refl
+
 pub act_same : (w : WorldData) (c : Course) (s now : ℕ) (act : Act) (sends : List (List ℕ)) (n : Node) → IsNode w s (c.came s) (c.calls s) n
     → sends ≡ sent_in c.entries → halves_fault sends n now act ≡ act_fault w c s now act
 act_same w c s now (Command order) sends n is same =
-    ap (λ (b : Book). order_fault b now order) is.manager
+    ap (λ (b : Book). as_move (order_fault b now order)) is.manager
+    ∙ (order_same (is_request_body order.body) (refusal (settings_of w s) (length (kept (settings_of w s) (c.calls s))) order (stamp_of now))
     ∙ ap (λ (k : ℕ). if is_request_body order.body then option_map faults.Order
-    (refusal (settings_of w s) k order (stamp_of now)) else Some faults.NotARequest) (counts (settings_of w s) (c.calls s))
+    (refusal (settings_of w s) k order (stamp_of now)) else Some faults.NotARequest) (counts (settings_of w s) (c.calls s)))
 act_same w c s now (Deliver k) sends n is same = ap (λ (bs : List (List ℕ)). if nat_lt k (length bs) then None else Some faults.NoSuchSend) same
 act_same w c s now Tick sends n is same = refl
-act_same w c s now (Tell e) sends n is same = refl
+act_same w c s now (Tell e) sends n is same = tell_same (is_entity e)
 
 -- The halves after an act.
 
@@ -97,8 +109,7 @@ made_on w s now order qs calls before after is can goes =
       outfit = ap (λ (n : Node). n.application.outfit) goes ∙ is.outfit;
       came_is = ap (λ (n : Node). came n.application) goes ∙ is.came_is;
       manager = ap (λ (n : Node). n.manager) goes ∙ (ap (λ (b : Book). with_orders b (with_order b.settings order now (stamp_of now) b.orders)) is.manager
-          ∙ ap (λ (r : Option OrderFault). with_orders (book_of w s calls)
-          (after_request r (settings_of w s) order now (stamp_of now) (kept (settings_of w s) calls))) (sym none));
+          ∙ book_made w s now order calls none);
     }
 
 took_on : (w : WorldData) (s : ℕ) (q : Pdu) (qs : List Pdu) (calls : List Call) (before after : Node) → IsNode w s qs calls before

@@ -8,7 +8,7 @@ use Rattle.dis_records.specs.declared.header.TheConstants.{LARGEST_DATAGRAM}
 use Rattle.exercise_model.specs.declared.recording.TheConstants.{MOST_ENTRIES}
 use Rattle.exercise_model.specs.Entry.{Entry, Sent, Received, Told, is_entry}
 use Rattle.siman_scripts.specs.declared.act.Move.{Move}
-use Rattle.siman_worlds.specs.declared.turn.Node.{Node}
+use Rattle.siman_stations.specs.declared.turn.Node.{Node}
 use Rattle.siman_worlds.specs.declared.world.World.{World}
 use Rattle.siman_worlds.specs.World.{sent_in}
 use Rattle.siman_worlds.specs.Acts.{AreShort, sends_of, halves_fault}

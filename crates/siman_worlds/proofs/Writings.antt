@@ -16,11 +16,11 @@ use Rattle.exercise_model.specs.Entry.{Entry, Sent, Received, is_entry}
 use Rattle.exercise_model.specs.Recording.{PlainRecording, with_entry, push_refusal, unless_memory}
 use Rattle.siman_application.specs.Application.{ApplicationData}
 use Rattle.siman_worlds.specs.declared.journal.Journal.{Journal}
-use Rattle.siman_worlds.specs.declared.turn.Node.{Node}
-use Rattle.siman_worlds.specs.declared.turn.TurnFault.{TurnFault}
-use Rattle.siman_worlds.specs.declared.turn.TurnFault.TheVariants as faults
-use Rattle.siman_worlds.specs.Recording.{KeepsOut}
-use Rattle.siman_worlds.specs.Turn.{sent_as, turn_entries, RecordsAll, TakesBoth, FailsTurn}
+use Rattle.siman_stations.specs.declared.turn.Node.{Node}
+use Rattle.siman_stations.specs.declared.turn.TurnFault.{TurnFault}
+use Rattle.siman_stations.specs.declared.turn.TurnFault.TheVariants as faults
+use Rattle.siman_stations.specs.Recording.{KeepsOut}
+use Rattle.siman_stations.specs.StationTurn.{sent_as, turn_entries, RecordsAll, TakesBoth, FailsTurn}
 use Rattle.siman_worlds.specs.Acts.{Writes, HasRoom, LacksMemory, sends_of, with_entries, turn_if}
 
 -- what was written is told of the journal as it was before another text stood in it, and of the PDU whose text it is

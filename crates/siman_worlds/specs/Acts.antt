@@ -1,37 +1,33 @@
 -- What the acts of a station make of what is kept of a world: of its journal, and of the two halves of the station (profile).
 use Rattle.std.specs.Prelude.{◌≡◌, ℕ, ◌+◌, ◌<◌, ◌≤◌, nat_lt, List, [], ◌∷◌, ◌++◌, length, map, slice_get, Option, Some, None, IfSome, option_map, option_and_then, if◌then◌else◌}
 use Rattle.dis_records.specs.declared.header.TheConstants.{LARGEST_DATAGRAM}
-use Rattle.siman_pdus.specs.declared.pdu.Pdu.{Pdu}
 use Rattle.siman_pdus.specs.Reading.{reading}
-use Rattle.siman_pdus.specs.Role.{is_request_body}
 use Rattle.siman_pdus.specs.Spelling.{pdu_size}
 use Rattle.exercise_model.specs.declared.recording.TheConstants.{MOST_ENTRIES}
 use Rattle.exercise_model.specs.Entry.{Entry, Told}
 use Rattle.exercise_model.specs.declared.fault.LogFault.{LogFault}
 use Rattle.exercise_model.specs.Recording.{PlainRecording, unless_memory}
-use Rattle.exercise_model.specs.Station.{is_entity}
 use Rattle.siman_application.specs.Play.{state_over}
 use Rattle.siman_application.specs.Application.{ApplicationData, came}
-use Rattle.siman_manager.specs.declared.order.Order.{Order}
-use Rattle.siman_manager.specs.Answers.{refusal_of, told_by, with_orders, ticked}
-use Rattle.siman_manager.specs.Book.{Book, order_pdu, next_id, repeated, with_order}
+use Rattle.siman_manager.specs.Book.{Book}
 use Rattle.siman_scripts.specs.declared.act.Act.{Act}
 use Rattle.siman_scripts.specs.declared.act.Act.TheVariants.{Command, Deliver, Tick, Tell}
 use Rattle.siman_worlds.specs.declared.journal.Journal.{Journal}
-use Rattle.siman_worlds.specs.declared.sending.OrderTextFault.{OrderTextFault}
-use Rattle.siman_worlds.specs.declared.sending.OrderTextFault.TheVariants as text_faults
-use Rattle.siman_worlds.specs.declared.turn.Node.{Node}
-use Rattle.siman_worlds.specs.declared.turn.TurnFault.{TurnFault}
-use Rattle.siman_worlds.specs.declared.turn.TurnFault.TheVariants as turn_faults
+use Rattle.siman_stations.specs.declared.turn.Node.{Node}
+use Rattle.siman_stations.specs.declared.turn.TurnFault.{TurnFault}
+use Rattle.siman_stations.specs.declared.turn.TurnFault.TheVariants as turn_faults
 use Rattle.siman_worlds.specs.declared.world_fault.MoveFault.{MoveFault}
 use Rattle.siman_worlds.specs.declared.world_fault.MoveFault.TheVariants as faults
 use Rattle.siman_worlds.specs.declared.world_fault.WorldFault.{WorldFault}
 use Rattle.siman_worlds.specs.declared.world_fault.WorldFault.TheVariants as world_faults
 use Rattle.siman_worlds.specs.declared.moving.StepFault.{StepFault}
 use Rattle.siman_worlds.specs.declared.moving.StepFault.TheVariants as step_faults
-use Rattle.siman_worlds.specs.Turn.{stamp_of, sent_as, turn_entries, TakesBoth}
+use Rattle.siman_stations.specs.declared.station_fault.StationFault.{StationFault}
+use Rattle.siman_stations.specs.declared.station_fault.StationFault.TheVariants as station_faults
+use Rattle.siman_stations.specs.Asked.{order_fault, tell_fault}
+use Rattle.siman_stations.specs.Sending.{next_order, after_order, next_repeat, after_tick}
+use Rattle.siman_stations.specs.StationTurn.{sent_as, turn_entries, TakesBoth}
 use Rattle.siman_worlds.specs.World.{sent_in}
-use Rattle.siman_worlds.specs.WorldLaw.{IsOrderInRange}
 
 -- Of the journal.
 
@@ -55,39 +51,18 @@ pub record HasRoom (s : ℕ) (r : PlainRecording) : Type 0 where
 
 -- Of the halves.
 
--- the PDU of the next order
-abbrev pub next_order : Book → ℕ → Order → Pdu
-next_order b now order = order_pdu b.settings (next_id b.settings (length b.orders)) order (stamp_of now)
+-- what a station does not do, as a fault of its move
+abbrev pub of_station : StationFault → MoveFault
+of_station station_faults.NoSuchEntity = faults.NoSuchEntity
+of_station station_faults.NotARequest = faults.NotARequest
+of_station (station_faults.Order fault) = faults.Order fault
 
--- the halves after an order was made
-abbrev pub after_order : Node → ℕ → Order → Node
-after_order n now order = record n { manager = with_orders n.manager (with_order n.manager.settings order now (stamp_of now) n.manager.orders) }
-
--- the repeat that is due
-abbrev pub next_repeat : Book → ℕ → Option Pdu
-next_repeat b now = repeated b.settings now (stamp_of now) b.orders
-
--- the halves after a tick
-abbrev pub after_tick : Node → ℕ → Node
-after_tick n now = record n { manager = ticked n.manager now (stamp_of now) }
-
--- why an order is not made
-abbrev pub order_fault : Book → ℕ → Order → Option MoveFault
-order_fault b now order = if is_request_body order.body then option_map faults.Order (refusal_of b order (stamp_of now)) else Some faults.NotARequest
-
--- What is left where the text of an order is not there: the halves as they were, where it was refused; else they have the order.
-abbrev pub FailsOrder : ℕ → Order → Node → Node → OrderTextFault → Type 0
-FailsOrder now order old new (text_faults.Order fault) = (new ≡ old) × (refusal_of old.manager order (stamp_of now) ≡ told_by fault)
-FailsOrder now order old new text_faults.Memory =
-    (new ≡ after_order old now order) × (refusal_of old.manager order (stamp_of now) ≡ None) × IsOrderInRange order
+abbrev pub as_move : Option StationFault → Option MoveFault
+as_move o = option_map of_station o
 
 -- why a datagram is not delivered
 abbrev pub send_fault : List (List ℕ) → ℕ → Option MoveFault
 send_fault sends k = if nat_lt k (length sends) then None else Some faults.NoSuchSend
-
--- why no state is told
-abbrev pub tell_fault : ℕ → Option MoveFault
-tell_fault e = if is_entity e then None else Some faults.NoSuchEntity
 
 -- the entries of a datagram that comes, if there is one
 abbrev pub turn_if : ApplicationData → ℕ → ℕ → Option (List ℕ) → List Entry
@@ -98,10 +73,10 @@ turn_if a s now (Some b) = turn_entries a s now b
 
 -- why an act is not done, after these datagrams were sent
 abbrev pub halves_fault : List (List ℕ) → Node → ℕ → Act → Option MoveFault
-halves_fault sends n now (Command order) = order_fault n.manager now order
+halves_fault sends n now (Command order) = as_move (order_fault n.manager now order)
 halves_fault sends n now (Deliver k) = send_fault sends k
 halves_fault sends n now Tick = None
-halves_fault sends n now (Tell e) = tell_fault e
+halves_fault sends n now (Tell e) = as_move (tell_fault e)
 
 -- the entries that an act makes
 abbrev pub halves_entries : List (List ℕ) → Node → ℕ → ℕ → Act → List Entry

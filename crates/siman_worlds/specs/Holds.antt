@@ -6,7 +6,7 @@ use Rattle.siman_application.specs.Ranges.{IsOutfitInRange}
 use Rattle.siman_application.specs.Application.{came}
 use Rattle.siman_manager.specs.Calls.{Call, kept}
 use Rattle.siman_scripts.specs.declared.act.Move.{Move}
-use Rattle.siman_worlds.specs.declared.turn.Node.{Node}
+use Rattle.siman_stations.specs.declared.turn.Node.{Node}
 use Rattle.siman_worlds.specs.declared.world.World.{World}
 use Rattle.siman_scripts.specs.Stations.{WorldStationData}
 use Rattle.siman_worlds.specs.World.{WorldData, Course, setting_of, outfit_of, settings_of, sent_in, course_of, first_fault, is_world_station}

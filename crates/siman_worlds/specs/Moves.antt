@@ -3,7 +3,7 @@ use Rattle.std.specs.Prelude.{◌≡◌, ℕ, ◌+◌, nat_le, List, length, sli
 use Rattle.exercise_model.specs.declared.recording.TheConstants.{MOST_ENTRIES}
 use Rattle.siman_scripts.specs.declared.act.Act.{Act}
 use Rattle.siman_scripts.specs.declared.act.Move.{Move}
-use Rattle.siman_worlds.specs.declared.turn.Node.{Node}
+use Rattle.siman_stations.specs.declared.turn.Node.{Node}
 use Rattle.siman_worlds.specs.declared.world.World.{World}
 use Rattle.siman_worlds.specs.declared.world_fault.MoveFault.{MoveFault}
 use Rattle.siman_worlds.specs.declared.world_fault.MoveFault.TheVariants as faults

@@ -10,7 +10,6 @@ use Rattle.siman_pdus.specs.Reading.{reading}
 use Rattle.siman_pdus.specs.Role.{is_request_body}
 use Rattle.exercise_model.specs.Entry.{Entry, Sent, Received, Told}
 use Rattle.exercise_model.specs.History.{log_at, past}
-use Rattle.exercise_model.specs.Place.{first_below}
 use Rattle.exercise_model.specs.Recording.{PlainRecording}
 use Rattle.exercise_model.specs.declared.form.Form.TheVariants.{First}
 use Rattle.exercise_model.specs.Setting.{SettingData, nowhere}
@@ -21,7 +20,7 @@ use Rattle.siman_application.specs.Play.{reply}
 use Rattle.siman_manager.specs.declared.order.Order.{Order}
 use Rattle.siman_manager.specs.declared.settings.Settings.{Settings}
 use Rattle.siman_manager.specs.Book.{order_pdu, next_id, refusal, with_stamp}
-use Rattle.siman_manager.specs.Calls.{Call, Requested, Came, Ticked, Life, life, count_made, is_ready_at, passes}
+use Rattle.siman_manager.specs.Calls.{Call, Requested, Came, Ticked, count_made}
 use Rattle.siman_scripts.specs.declared.act.Act.{Act}
 use Rattle.siman_scripts.specs.declared.act.Act.TheVariants.{Command, Deliver, Tick, Tell}
 use Rattle.siman_scripts.specs.declared.act.Move.{Move}
@@ -30,7 +29,8 @@ use Rattle.siman_worlds.specs.declared.world_fault.MoveFault.TheVariants as faul
 use Rattle.siman_worlds.specs.declared.world_fault.WorldFault.{WorldFault}
 use Rattle.siman_worlds.specs.declared.world_fault.WorldFault.TheVariants as world_faults
 use Rattle.siman_scripts.specs.Stations.{WorldStationData}
-use Rattle.siman_worlds.specs.Turn.{stamp_of, sent_as}
+use Rattle.siman_stations.specs.Orders.{ready_after}
+use Rattle.siman_stations.specs.StationTurn.{stamp_of, sent_as}
 
 -- the exercise of a world and its stations
 pub record WorldData : Type 0 where
@@ -119,11 +119,6 @@ reply_by w c s now q = reply (outfit_of w s) (c.came s) q (stamp_of now)
 abbrev pub arrival : WorldData → Course → ℕ → ℕ → Option (List ℕ) → List Entry
 arrival w c s now None = []
 arrival w c s now (Some b) = Received s now b ∷ sent_as s now (option_and_then (reply_by w c s now) (reading b))
-
--- the order that these calls leave ready to be sent once more: the first, in order of making, that waits, is due, and was sent fewer than `tries` times
-abbrev pub ready_after : Settings → List Call → ℕ → Option Life
-ready_after settings calls now =
-    option_and_then (life settings calls) (first_below (λ k. passes (is_ready_at settings now) (life settings calls k)) (count_made settings calls))
 
 -- the repeat that a tick of a station sends, if one is due
 abbrev pub repeated_by : WorldData → Course → ℕ → ℕ → Option Pdu

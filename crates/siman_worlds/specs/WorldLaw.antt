@@ -1,23 +1,16 @@
 -- What the types say of a world and of its moves: their numbers are in the ranges of the fields that carry them.
 use Rattle.std.specs.Prelude.{ℕ, ◌<◌, List, length}
 use Rattle.std.specs.List.{AllByRecursion}
-use Rattle.siman_pdus.specs.Ranges.{IsEntityIdInRange, IsBodyInRange}
 use Rattle.siman_application.specs.Ranges.{IsOutfitInRange}
-use Rattle.siman_manager.specs.declared.order.Order.{Order}
-use Rattle.siman_manager.specs.Book.{numbered}
 use Rattle.siman_scripts.specs.declared.act.Act.{Act}
 use Rattle.siman_scripts.specs.declared.act.Act.TheVariants.{Command, Deliver, Tick, Tell}
 use Rattle.siman_scripts.specs.declared.act.Move.{Move}
+use Rattle.siman_stations.specs.Sending.{IsOrderInRange}
 use Rattle.siman_worlds.specs.World.{WorldData, outfit_of}
 
 -- THE NUMBERS OF A WORLD: those of the outfit of each station, which its application half is begun with
 abbrev pub IsWorldInRange : WorldData → Type 0
 IsWorldInRange w = (s : ℕ) → s < length w.stations → IsOutfitInRange (outfit_of w s)
-
--- the numbers of an order: of its receiving identifier and of its body, whose own request identifier is of no account
-pub record IsOrderInRange (order : Order) : Type 0 where
-  pub target : IsEntityIdInRange order.target
-  pub body : IsBodyInRange (numbered 0 order.body)
 
 -- the numbers of an act that are sent: those of an order
 abbrev pub IsActInRange : Act → Type 0

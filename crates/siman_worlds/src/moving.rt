@@ -8,18 +8,20 @@ ghost use Rattle.exercise_model.specs.Entry.{Told};
 ghost use Rattle.exercise_model.specs.Station.{is_entity};
 ghost use Rattle.siman_application.specs.Play.{state_over};
 ghost use Rattle.siman_application.specs.Application.{came};
-ghost use Rattle.siman_worlds.specs.Acts.{HasRoom, Writes, RepeatsShort, AreShort, Gives, LacksMemory, at_move, Goes, send_fault, tell_fault, sends_of, next_order, after_order, order_fault, next_repeat, after_tick, turn_if, halves_fault, halves_entries};
-ghost use Rattle.siman_worlds.specs.Turn.{sent_as, TakesBoth};
-ghost use Rattle.siman_worlds.specs.WorldLaw.{IsOrderInRange, IsActInRange};
+ghost use Rattle.siman_stations.specs.Asked.{order_fault, tell_fault};
+ghost use Rattle.siman_stations.specs.Sending.{next_order, after_order, next_repeat, after_tick};
+ghost use Rattle.siman_worlds.specs.Acts.{HasRoom, Writes, RepeatsShort, AreShort, Gives, LacksMemory, at_move, Goes, send_fault, as_move, sends_of, turn_if, halves_fault, halves_entries};
+ghost use Rattle.siman_stations.specs.StationTurn.{sent_as, TakesBoth};
+ghost use Rattle.siman_stations.specs.Sending.{IsOrderInRange};
+ghost use Rattle.siman_worlds.specs.WorldLaw.{IsActInRange};
 
 use crate::journal::Journal;
-use crate::sending::{OrderTextFault, order_text, repeat_text};
-use crate::turn::{Node, TurnFault, take_turn};
 use crate::world_fault::{MoveFault, WorldFault};
 use exercise_model::{LogFault, is_entity};
 use siman_manager::{Order, OrderFault};
 use siman_pdus::EncodeFault;
 use siman_scripts::Act;
+use siman_stations::{Node, OrderTextFault, TurnFault, order_text, repeat_text, take_turn};
 use std::alloc::{AllocError, Global};
 
 /// Why a move was not made.
@@ -57,9 +59,9 @@ fn make_order(node: &mut Node, now: u64, order: Order, text: &mut Vec<u8>) -> Re
     ensures node { OnOk result (node.new ≡ after_order node.old now order) }
     ensures text { OnOk result (text.new.items ≡ pdu_text (next_order node.old.manager now order)) }
     ensures size { OnOk result (length text.new.items ≤ LARGEST_DATAGRAM) }
-    ensures made { OnOk result (order_fault node.old.manager now order ≡ None) }
+    ensures made { OnOk result (as_move (order_fault node.old.manager now order) ≡ None) }
     ensures in_range { OnOk result (IsOrderInRange order) }
-    ensures fault { IfErr result (Gives (order_fault node.old.manager now order)) }
+    ensures fault { IfErr result (Gives (as_move (order_fault node.old.manager now order))) }
 {
     if !order.body.is_request() {
         return Err(StepFault::Move(MoveFault::NotARequest));
@@ -100,9 +102,9 @@ fn command(
     requires { HasRoom station journal.old.recording }
     ensures entries { OnOk result (Writes (sent_as station now (Some (next_order node.old.manager now order))) journal.old journal.new) }
     ensures halves { OnOk result (node.new ≡ after_order node.old now order) }
-    ensures made { OnOk result (order_fault node.old.manager now order ≡ None) }
+    ensures made { OnOk result (as_move (order_fault node.old.manager now order) ≡ None) }
     ensures in_range { OnOk result (IsOrderInRange order) }
-    ensures fault { IfErr result (Gives (order_fault node.old.manager now order)) }
+    ensures fault { IfErr result (Gives (as_move (order_fault node.old.manager now order))) }
 {
     make_order(node, now, order, &mut journal.text)?;
     journal.send(alloc, station, now)?;
@@ -183,7 +185,7 @@ fn tell(journal: &mut Journal, node: &Node, station: u16, entity: u16) -> Result
     requires { HasRoom station journal.old.recording }
     ensures entries { OnOk result (Writes (Told station entity (state_over node.now.application.outfit (came node.now.application) entity) ∷ []) journal.old journal.new) }
     ensures entity { OnOk result (is_entity entity ≡ true) }
-    ensures fault { IfErr result (Gives (tell_fault entity)) }
+    ensures fault { IfErr result (Gives (as_move (tell_fault entity))) }
 {
     if !is_entity(entity) {
         return Err(StepFault::Move(MoveFault::NoSuchEntity));

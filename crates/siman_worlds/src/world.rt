@@ -15,13 +15,13 @@ ghost use Rattle.siman_worlds.specs.WorldLaw.{IsActInRange};
 
 use crate::journal::Journal;
 use crate::moving::{StepFault, act_at};
-use crate::turn::Node;
 use crate::world_fault::{MoveFault, WorldFault};
 use dis_records::VariableDatum;
 use exercise_model::{ExerciseLog, MOST_ENTRIES, Recording};
 use siman_application::{AppFault, Application};
 use siman_manager::Manager;
 use siman_scripts::{Move, WorldStation};
+use siman_stations::Node;
 use std::alloc::{AllocError, Global};
 
 /// How many entities a station opens with at most (profile).

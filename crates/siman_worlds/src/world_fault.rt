@@ -4,6 +4,7 @@ ghost use Rattle.std.specs.Prelude.{◌≡◌};
 ghost use Rattle.siman_worlds.specs.declared.world_fault.WorldFault.TheVariants.{Memory};
 
 use siman_manager::OrderFault;
+use siman_stations::StationFault;
 use std::alloc::{AllocError, AllocFailed};
 use thiserror::Error;
 
@@ -43,6 +44,21 @@ pub enum WorldFault {
     /// Memory ran out.
     #[error("memory")]
     Memory,
+}
+
+impl From<StationFault> for MoveFault {
+    ghost use Rattle.std.specs.Prelude.{◌≡◌};
+    ghost use Rattle.siman_worlds.specs.Acts.{of_station};
+
+    ghost from_gives = { λ fault e. e ≡ of_station fault };
+
+    fn from(fault: StationFault) -> MoveFault {
+        match fault {
+            StationFault::NoSuchEntity => MoveFault::NoSuchEntity,
+            StationFault::NotARequest => MoveFault::NotARequest,
+            StationFault::Order(fault) => MoveFault::Order(fault),
+        }
+    }
 }
 
 impl From<AllocError> for WorldFault {

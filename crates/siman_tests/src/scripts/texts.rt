@@ -1,6 +1,6 @@
 //! Texts of any bytes.
 
-use siman_worlds::{ScriptFault, read_script};
+use siman_scripts::{ScriptFault, read_script};
 use std::alloc::{AllocError, Global};
 use std::test::Fail;
 

@@ -1,6 +1,6 @@
 use Rattle.std.proofs.Common.{refl}
 use Rattle.siman_pdus.specs.Spelling.{pdu_text}
-use Rattle.siman_worlds.specs.Acts.{next_order}
+use Rattle.siman_stations.specs.Sending.{next_order}
 use Rattle.siman_worlds.proofs.Writings.{writes_sent}
 use Rattle.siman_worlds.proofs.moving.command.Goals as goal
 

@@ -1,6 +1,6 @@
 use Rattle.std.proofs.Common.{◌≡◌, true, false, is_some, refl, sym, ◌∙◌, arith}
 use Rattle.siman_pdus.specs.Reading.{reading}
-use Rattle.siman_worlds.specs.Turn.{stamp_of, reply_due}
+use Rattle.siman_stations.specs.StationTurn.{stamp_of, reply_due}
 use Rattle.siman_worlds.proofs.Writings.{writes_reply, writes_none, datagram_at, writes_at, takes_at, turn_lacks}
 use Rattle.siman_worlds.proofs.moving.deliver.Goals as goal
 

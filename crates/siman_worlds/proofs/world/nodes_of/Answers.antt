@@ -1,6 +1,6 @@
 use Rattle.std.proofs.Common.{◌+◌, ◌<◌, List, [], ◌∷◌, ◌++◌, length, take, subst, sym, ap, ◌∙◌, arith}
 use Rattle.std.proofs.lemmas.List.{take_more}
-use Rattle.siman_worlds.specs.declared.turn.Node.{Node}
+use Rattle.siman_stations.specs.declared.turn.Node.{Node}
 use Rattle.siman_worlds.specs.Holds.{AreNewNodes}
 use Rattle.siman_scripts.specs.Stations.{WorldStationData}
 use Rattle.siman_worlds.proofs.Begins.{new_push}

@@ -9,7 +9,7 @@ use Rattle.siman_worlds.specs.declared.world_fault.WorldFault.TheVariants.{Memor
 use Rattle.siman_worlds.specs.World.{first_fault}
 use Rattle.siman_worlds.specs.Holds.{IsAfter}
 use Rattle.siman_worlds.proofs.Courses.{after_on, is_fit}
-use Rattle.siman_worlds.proofs.Runs.{plain, all_plain, latest_first, stands, run_fault}
+use Rattle.siman_worlds.proofs.NumberedMoves.{plain, all_plain, latest_first, stands, run_fault}
 use Rattle.siman_worlds.proofs.world.World.run.Goals as goal
 
 pub step-requires : goal.step-requires

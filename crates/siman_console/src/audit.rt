@@ -1,0 +1,249 @@
+//! The command `audit`: a recording, searched for an order that explains it.
+
+ghost use Rattle.std.specs.Prelude.{◌≡◌, ◌<◌, ◌≤◌, ◌++◌, map, length, All, Ok, IfOk, IfSome, OnOk, string_bytes};
+ghost use Rattle.std.specs.Io.KnownBytes.{Keeps};
+ghost use Rattle.exercise_recording.specs.Reading.{recording_at};
+ghost use Rattle.exercise_check.specs.Certificate.{certificate_text};
+ghost use Rattle.exercise_check.specs.Goodness.{IsGood};
+ghost use Rattle.exercise_audit.specs.declared.blocks.Block.{Block as BlockData};
+ghost use Rattle.exercise_audit.specs.Audit.{IsBlocked};
+ghost use Rattle.siman_console.specs.declared.show.TheConstants.{LARGEST_RECORDING};
+ghost use Rattle.siman_console.specs.Check.{Recorded};
+ghost use Rattle.siman_console.specs.Outcome.{Stream};
+ghost use Rattle.siman_texts.specs.Spelled.{line_text, lines_text};
+ghost use Rattle.siman_console.specs.Audit.{explained_text, block_at, block_line, Finds, Searches, PutsBoth, PutsBlocked, PutsFinding, TellsAudit, EndsAudit};
+
+use crate::fault::{Fault, end};
+use crate::show::LARGEST_RECORDING;
+use byte_files::put;
+use dis_records::Address;
+use exercise_audit::{Audit, Block, audit};
+use exercise_check::{Certificate, good_steps_have_no_cause, write_certificate};
+use exercise_model::{ExerciseLog, what_explains_holds};
+use exercise_recording::{RecordingView, fetch_recording};
+use siman_texts::{Field, Line, Spelling, Value, put_line};
+use std::alloc::{AllocError, Global};
+use std::io::{Read, Write};
+
+/// What a search found, with the texts that tell of it.
+#[derive(Drop)]
+pub(crate) enum Finding {
+    /// Some order explains the recording: the text of its certificate, and its line.
+    Order { certificate: Vec<u8>, line: String },
+    /// No order does: the blocked list.
+    Stuck(String),
+}
+
+/// Searches the recording that a reader has for an order that explains it. Where there is one, its
+/// certificate is written to the file, whole, and then `explained steps=N` to `out`, with status 0.
+/// Where there is none, `blocked stations=N` and a line `blocked ADDRESS record=N cause=N NAME` for
+/// each station that can't go on are written to `out` with status 1, and the file is not touched.
+///
+/// Status 2 with a line on `errors` tells the first field of the recording that is bad (`recording:
+/// NAME at OFFSET`) or a failed read (`recording: read`), both with nothing written, or a failed
+/// write (`output: write`), after which a prefix of the certificate is written and no line, or the
+/// certificate and a prefix of the line. Status 3 is want of memory (`memory`), and nothing is
+/// written.
+pub fn audit_command<R: Read + Drop, F: Write, W: Write, E: Write>(
+    alloc: Global,
+    recording: R,
+    certificate: &mut F,
+    out: &mut W,
+    errors: &mut E,
+) -> u8
+    ensures known { let file : Stream = record { old = F.contents certificate.old; new = F.contents certificate.new } in
+        let out : Stream = record { old = W.contents out.old; new = W.contents out.new } in
+        let errors : Stream = record { old = E.contents errors.old; new = E.contents errors.new } in
+        IfSome (R.remaining recording) (λ bytes. EndsAudit (recording_at LARGEST_RECORDING bytes) result file out errors) }
+    // Whatever it read, it ended as that asks for.
+    ensures ends { let file : Stream = record { old = F.contents certificate.old; new = F.contents certificate.new } in
+        let out : Stream = record { old = W.contents out.old; new = W.contents out.new } in
+        let errors : Stream = record { old = E.contents errors.old; new = E.contents errors.new } in
+        (recorded : Recorded) × EndsAudit recorded result file out errors }
+    ensures silent { result ≤ 1 → Keeps (E.contents errors.old) (E.contents errors.new) }
+{
+    end(audited(alloc, recording, certificate, out), errors).status
+}
+
+/// Searches the recording that a reader has, writes what was found, and gives the status.
+fn audited<R: Read + Drop, F: Write, W: Write>(
+    alloc: Global,
+    recording: R,
+    certificate: &mut F,
+    out: &mut W,
+) -> Result<u8, Fault<'static>>
+    ensures known { let file : Stream = record { old = F.contents certificate.old; new = F.contents certificate.new } in
+        let out : Stream = record { old = W.contents out.old; new = W.contents out.new } in
+        IfSome (R.remaining recording) (λ bytes. TellsAudit (recording_at LARGEST_RECORDING bytes) result file out) }
+    ensures some { let file : Stream = record { old = F.contents certificate.old; new = F.contents certificate.new } in
+        let out : Stream = record { old = W.contents out.old; new = W.contents out.new } in
+        (recorded : Recorded) × TellsAudit recorded result file out }
+{
+    let finding = search(alloc, recording)?;
+    put_finding(&finding, certificate, out)
+}
+
+/// Searches the recording that a reader has for an order that explains it.
+pub(crate) fn search<R: Read + Drop>(alloc: Global, recording: R) -> Result<Finding, Fault<'static>>
+    ensures known { IfSome (R.remaining recording) (λ bytes. Searches (recording_at LARGEST_RECORDING bytes) result) }
+    ensures some { (recorded : Recorded) × Searches recorded result }
+{
+    let bytes = fetch_recording(alloc, recording, LARGEST_RECORDING)?;
+    search_bytes(alloc, &bytes)
+}
+
+/// Searches the recording whose file these bytes are for an order that explains it.
+fn search_bytes(alloc: Global, bytes: &[u8]) -> Result<Finding, Fault<'static>>
+    ensures { Searches (recording_at LARGEST_RECORDING bytes.now) result }
+{
+    let log = RecordingView::over_limited(alloc, bytes, LARGEST_RECORDING)?;
+    Ok(found(alloc, &log)?)
+}
+
+fn found<L: ExerciseLog>(alloc: Global, log: &L) -> Result<Finding, AllocError>
+    ensures { IfOk result (Finds (Ok (L.recording log.now))) }
+{
+    match audit(alloc, log)? {
+        Audit::Explained(certificate) => order(alloc, log, &certificate),
+        Audit::Blocked(blocks) => stuck(alloc, log, &blocks),
+    }
+}
+
+/// The texts of an order that explains a recording.
+fn order<L: ExerciseLog>(
+    alloc: Global,
+    log: &L,
+    certificate: &Certificate,
+) -> Result<Finding, AllocError>
+    requires { IsGood (L.recording log.now) certificate.now.steps.items }
+    ensures { IfOk result (Finds (Ok (L.recording log.now))) }
+{
+    good_steps_have_no_cause();
+    what_explains_holds();
+    // There is a step for each entry.
+    let steps = log.entry_count();
+    Ok(Finding::Order {
+        certificate: certificate_bytes(alloc, certificate)?,
+        line: explained_line(alloc, steps)?,
+    })
+}
+
+fn certificate_bytes(alloc: Global, certificate: &Certificate) -> Result<Vec<u8>, AllocError>
+    requires { length certificate.now.steps.items ≤ 4294967295 }
+    ensures { IfOk result (λ bytes. bytes.items ≡ certificate_text certificate.now.steps.items) }
+{
+    let mut bytes = Vec::new(alloc);
+    match write_certificate(certificate, &mut bytes) {
+        Ok(()) => Ok(bytes),
+        Err(_) => Err(AllocError),
+    }
+}
+
+/// The line of an order of so many steps.
+pub(crate) fn explained_line(alloc: Global, steps: usize) -> Result<String, AllocError>
+    ensures { IfOk result (λ line. string_bytes line ≡ explained_text steps) }
+{
+    let mut line = String::new(alloc);
+    let fields = [Field::Keyed("steps", Value::Number(steps as u64))];
+    put_line(
+        &mut line,
+        Spelling::Text,
+        &Line::named("explained", &fields),
+    )?;
+    Ok(line)
+}
+
+/// The blocked list of a recording that no order explains.
+#[tactic(auto, using(crate::proofs::Searches::blocks_within))]
+fn stuck<L: ExerciseLog>(alloc: Global, log: &L, blocks: &[Block]) -> Result<Finding, AllocError>
+    requires { IsBlocked (L.recording log.now) blocks.now }
+    ensures { IfOk result (Finds (Ok (L.recording log.now))) }
+{
+    let mut text = String::new(alloc);
+    let fields = [Field::Keyed("stations", Value::Number(blocks.len() as u64))];
+    put_line(&mut text, Spelling::Text, &Line::named("blocked", &fields))?;
+    put_blocks(alloc, &mut text, log, blocks)?;
+    Ok(Finding::Stuck(text))
+}
+
+fn put_blocks<L: ExerciseLog>(
+    alloc: Global,
+    text: &mut String,
+    log: &L,
+    blocks: &[Block],
+) -> Result<(), AllocError>
+    requires { All (λ (b : BlockData). b.station < length (L.recording log.now).setting.stations) blocks.now }
+    ensures { OnOk result (string_bytes text.new ≡ string_bytes text.old ++ lines_text (map (block_line (L.recording log.now)) blocks.now)) }
+{
+    for block in blocks {
+        put_block(alloc, text, log.station(block.station).address(), *block)?;
+    }
+    Ok(())
+}
+
+/// The line of a block of the station of an address.
+fn put_block(
+    alloc: Global,
+    text: &mut String,
+    address: Address,
+    block: Block,
+) -> Result<(), AllocError>
+    ensures { OnOk result (string_bytes text.new ≡ string_bytes text.old ++ line_text (block_at address block)) }
+{
+    let cause = block.cause;
+    let name = format!(in alloc; "{cause}")?;
+    let fields = [
+        Field::Bare("address", Value::Address(address)),
+        Field::Keyed("record", Value::Number(block.entry as u64)),
+        Field::Keyed("cause", Value::Number(cause.number() as u64)),
+        Field::Bare("name", Value::Word(&name)),
+    ];
+    put_line(text, Spelling::Text, &Line::named("blocked", &fields))
+}
+
+/// Writes what was found, and gives the status.
+fn put_finding<F: Write, W: Write>(
+    finding: &Finding,
+    file: &mut F,
+    out: &mut W,
+) -> Result<u8, Fault<'static>>
+    ensures { let file : Stream = record { old = F.contents file.old; new = F.contents file.new } in
+        let out : Stream = record { old = W.contents out.old; new = W.contents out.new } in
+        PutsFinding finding.now result file out }
+{
+    match finding {
+        Finding::Order { certificate, line } => put_order(certificate, line, file, out),
+        Finding::Stuck(text) => put_stuck(text, out),
+    }
+}
+
+/// Writes the text of a certificate, whole, and then its line, and gives the status.
+pub(crate) fn put_order<F: Write, W: Write>(
+    certificate: &[u8],
+    line: &str,
+    file: &mut F,
+    out: &mut W,
+) -> Result<u8, Fault<'static>>
+    ensures { let file : Stream = record { old = F.contents file.old; new = F.contents file.new } in
+        let out : Stream = record { old = W.contents out.old; new = W.contents out.new } in
+        PutsBoth certificate.now line.now result file out }
+{
+    if put(file, certificate).is_err() {
+        return Err(Fault::Output);
+    }
+    match put(out, line.as_bytes()) {
+        Ok(()) => Ok(0),
+        Err(_) => Err(Fault::Output),
+    }
+}
+
+/// Writes a blocked list, and gives the status.
+pub(crate) fn put_stuck<W: Write>(list: &str, out: &mut W) -> Result<u8, Fault<'static>>
+    ensures { let out : Stream = record { old = W.contents out.old; new = W.contents out.new } in
+        PutsBlocked list.now result out }
+{
+    match put(out, list.as_bytes()) {
+        Ok(()) => Ok(1),
+        Err(_) => Err(Fault::Output),
+    }
+}

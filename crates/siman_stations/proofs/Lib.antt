@@ -1,0 +1,10 @@
+pub mod Replies
+pub mod Orders
+pub mod Requests
+pub mod Repeats
+pub mod Entries
+pub mod Halves
+pub mod Deeds
+pub mod Runs
+pub mod Bytes
+pub mod Offered

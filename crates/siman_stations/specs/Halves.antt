@@ -1,0 +1,50 @@
+-- THE INVARIANT OF A STATION: its halves are where its log leaves them (profile). Histories, turns and calls have THE LAST ONE FIRST.
+use Rattle.std.specs.Prelude.{◌≡◌, ℕ, List, [], ◌∷◌, ◌⊎◌}
+use Rattle.siman_pdus.specs.declared.pdu.Pdu.{Pdu}
+use Rattle.exercise_model.specs.History.{History}
+use Rattle.siman_application.specs.Distinct.{distinct}
+use Rattle.siman_application.specs.Outfit.{Outfit}
+use Rattle.siman_application.specs.OwnLog.{OwnTurn, Tells, Orders, Passes, Takes, Loses, taken_in, IsOwnLog, MissNone, TakesAll}
+use Rattle.siman_application.specs.Play.{state_over}
+use Rattle.siman_manager.specs.Book.{Book}
+use Rattle.siman_manager.specs.Calls.{Call, Requested, Came, Ticked, kept}
+use Rattle.siman_stations.specs.Orders.{AreFit, SendOwnOrders}
+
+-- the PDUs that came to the manager half in these calls
+abbrev pub came_in : List Call → List Pdu
+came_in [] = []
+came_in (Requested order now stamp ∷ calls) = came_in calls
+came_in (Came p ∷ calls) = p ∷ came_in calls
+came_in (Ticked now stamp ∷ calls) = came_in calls
+
+-- the PDUs of the turns that were done whole
+abbrev pub heard_in : List OwnTurn → List Pdu
+heard_in [] = []
+heard_in (Tells e y ∷ ts) = heard_in ts
+heard_in (Orders p ∷ ts) = heard_in ts
+heard_in (Passes b ∷ ts) = heard_in ts
+heard_in (Takes b q stamp ∷ ts) = q ∷ heard_in ts
+heard_in (Loses b q stamp ∷ ts) = heard_in ts
+
+-- Each state that is told is that of the application, and no reply is missing before it.
+abbrev pub TellsOwn : Outfit → List OwnTurn → Type 0
+TellsOwn a [] = Unit {0}
+TellsOwn a (Tells e y ∷ ts) = (y ≡ state_over a (distinct a (taken_in ts)) e) × MissNone ts × TellsOwn a ts
+TellsOwn a (Orders p ∷ ts) = TellsOwn a ts
+TellsOwn a (Passes b ∷ ts) = TellsOwn a ts
+TellsOwn a (Takes b q stamp ∷ ts) = TellsOwn a ts
+TellsOwn a (Loses b q stamp ∷ ts) = TellsOwn a ts
+
+-- THE HALVES ARE WHERE THE LOG OF THEIR STATION LEAVES THEM: the log is one that such a station writes, whose turns brought the application where it is; the manager took the PDUs of these turns and no other, and each request that the log sends is the same order as one that the manager keeps; each state that it tells is that of the application. A PDU that came is passed over only where the station may want for memory, and a reply is missing only where no further entry can be written.
+pub record HalvesFollow (wants : Type 0) (s : ℕ) (a : Outfit) (ds : List Pdu) (k : Book) (log : History) (closed : Type 0) : Type 0 where
+  pub turns : List OwnTurn
+  pub calls : List Call
+  pub own_log : IsOwnLog a s turns log (taken_in turns)
+  pub application : ds ≡ distinct a (taken_in turns)
+  pub passed : TakesAll turns ⊎ wants
+  pub missing : MissNone turns ⊎ closed
+  pub told : TellsOwn a turns
+  pub manager : k.orders ≡ kept k.settings calls
+  pub fit : AreFit calls
+  pub heard : came_in calls ≡ heard_in turns
+  pub ordered : SendOwnOrders k.settings calls a.exercise log

@@ -1,0 +1,85 @@
+-- The turn of a station at which a datagram comes (profile).
+use Rattle.std.specs.Prelude.{◌≡◌, ◌≤◌, ◌⊎◌, ℕ, ◌*◌, ◌%◌, ◌^◌, List, [], ◌∷◌, length, Option, Some, None}
+use Rattle.std.specs.List.{AllByRecursion}
+use Rattle.dis_records.specs.declared.header.TheConstants.{LARGEST_DATAGRAM}
+use Rattle.siman_pdus.specs.declared.pdu.Pdu.{Pdu}
+use Rattle.siman_pdus.specs.Reading.{reading}
+use Rattle.siman_pdus.specs.Spelling.{pdu_text}
+use Rattle.exercise_model.specs.Entry.{Entry, Sent, Received}
+use Rattle.exercise_model.specs.History.{event_of, station_of}
+use Rattle.siman_application.specs.Play.{reply_after}
+use Rattle.siman_application.specs.Application.{ApplicationData, Takes, came}
+use Rattle.siman_manager.specs.Answers.{taken}
+use Rattle.siman_stations.specs.declared.turn.Node.{Node}
+use Rattle.siman_stations.specs.declared.turn.TurnFault.{TurnFault}
+use Rattle.siman_stations.specs.declared.turn.TurnFault.TheVariants as faults
+
+-- the timestamp of what is sent while the clock shows this: the time past the hour is its lower 31 bits, relative (IEEE 1278.1-2012, 6.2.88; which bits is this project's profile)
+abbrev pub stamp_of : ℕ → ℕ
+stamp_of now = 2 * (now % 2 ^ 31)
+
+-- the entry of a PDU that a station sends, if there is one: its canonical text
+abbrev pub sent_as : ℕ → ℕ → Option Pdu → List Entry
+sent_as s now None = []
+sent_as s now (Some p) = Sent s now (pdu_text p) ∷ []
+
+-- the entries are of one station
+abbrev pub AreOf : ℕ → List Entry → Type 0
+AreOf s es = AllByRecursion (λ e. station_of (event_of e) ≡ s) es
+
+-- the reply that an application has for what came, if that is a PDU and a reply is due
+abbrev pub reply_due : ApplicationData → Option Pdu → ℕ → Option Pdu
+reply_due s None stamp = None
+reply_due s (Some q) stamp = reply_after s.outfit (came s) q stamp
+
+-- Entries are recorded one after the other, and no other.
+abbrev pub RecordsAll : {R : Type 0} → (R → Entry → R → Type 0) → List Entry → R → R → Type 0
+RecordsAll records [] old new = new ≡ old
+RecordsAll {R} records (e ∷ es) old new = (next : R) × records old e next × RecordsAll records es next new
+
+-- What came was taken by both halves, if it is a PDU.
+abbrev pub TakesBoth : Option Pdu → Node → Node → Type 0
+TakesBoth None old new = new ≡ old
+TakesBoth (Some q) old new = Takes old.application q new.application × (new.manager ≡ taken old.manager q)
+
+-- THE ENTRIES OF A TURN: the datagram is received, and the reply is sent, if one is due
+abbrev pub turn_entries : ApplicationData → ℕ → ℕ → List ℕ → List Entry
+turn_entries a s now b = Received s now b ∷ sent_as s now (reply_due a (reading b) (stamp_of now))
+
+-- Of an answer.
+
+-- The application took the PDU, and the reply that is due, which a datagram can carry, was not recorded.
+pub record IsUnsent {R F : Type 0} (refuses : R → Entry → F → R → Type 0) (s now : ℕ) (q : Pdu) (fault : F) (old new : R) (before after : ApplicationData) : Type 0 where
+  pub answer : Pdu
+  pub due : reply_due before (Some q) (stamp_of now) ≡ Some answer
+  pub size : length (pdu_text answer) ≤ LARGEST_DATAGRAM
+  pub refused : refuses old (Sent s now (pdu_text answer)) fault new
+  pub application : Takes before q after
+
+-- What a fault leaves: want of memory leaves all as it was.
+abbrev pub FailsAnswer : {R F : Type 0} → (R → Entry → F → R → Type 0) → ℕ → ℕ → Pdu → TurnFault F → R → R → ApplicationData → ApplicationData → Type 0
+FailsAnswer refuses s now q (faults.Record fault) old new before after = IsUnsent refuses s now q fault old new before after
+FailsAnswer refuses s now q faults.Memory old new before after = (new ≡ old) × (after ≡ before)
+
+-- Of a turn.
+
+-- The datagram was not recorded, and nothing was done.
+pub record IsUnheard {R F : Type 0} (refuses : R → Entry → F → R → Type 0) (s now : ℕ) (b : List ℕ) (fault : F) (old new : R) (before after : Node) : Type 0 where
+  pub refused : refuses old (Received s now b) fault new
+  pub halves : after ≡ before
+
+-- The datagram was recorded, and the application took its PDU; the reply was not recorded, and the manager half is as it was.
+pub record IsUnanswered {R F : Type 0} (records : R → Entry → R → Type 0) (refuses : R → Entry → F → R → Type 0) (s now : ℕ) (b : List ℕ) (fault : F) (old new : R) (before after : Node) : Type 0 where
+  pub next : R
+  pub pdu : Pdu
+  pub received : records old (Received s now b) next
+  pub read : reading b ≡ Some pdu
+  pub unsent : IsUnsent refuses s now pdu fault next new before.application after.application
+  pub manager : after.manager ≡ before.manager
+
+-- What a fault leaves: after want of memory the datagram is recorded, and the station is as it was, so that a later copy is answered.
+abbrev pub FailsTurn : {R F : Type 0} → (R → Entry → R → Type 0) → (R → Entry → F → R → Type 0) → ℕ → ℕ → List ℕ → TurnFault F → R → R → Node → Node
+    → Type 0
+FailsTurn records refuses s now b (faults.Record fault) old new before after =
+    IsUnheard refuses s now b fault old new before after ⊎ IsUnanswered records refuses s now b fault old new before after
+FailsTurn records refuses s now b faults.Memory old new before after = RecordsAll records (Received s now b ∷ []) old new × (after ≡ before)

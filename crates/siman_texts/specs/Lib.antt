@@ -1,0 +1,4 @@
+pub mod Line
+pub mod Keys
+pub mod Spelled
+pub mod Lent

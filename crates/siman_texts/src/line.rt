@@ -1,0 +1,108 @@
+//! A line, and its two spellings.
+
+ghost use Rattle.std.specs.Prelude.{◌≡◌, ◌++◌, OnOk, string_bytes, option_map};
+ghost use Rattle.siman_texts.specs.Line.{named_line};
+ghost use Rattle.siman_texts.specs.Spelled.{opening_spelled, field_spelled, fields_spelled, end_spelled, line_spelled};
+ghost use Rattle.siman_texts.specs.Lent.{field_of, fields_of, line_of};
+
+use crate::field::Field;
+use crate::json::put_member;
+use crate::spelling::Spelling;
+use crate::text::put_as_text;
+use std::alloc::AllocError;
+
+/// A line: a name and fields in their order.
+#[derive(Clone, Copy)]
+pub struct Line<'a> {
+    /// What sort of line it is.
+    pub name: &'a str,
+    /// The field that stands in the place of the name in text, where the name does not.
+    pub opening: Option<Field<'a>>,
+    /// The fields behind.
+    pub fields: &'a [Field<'a>],
+}
+
+impl<'a> Line<'a> {
+    /// A line that begins with its name in text.
+    pub fn named(name: &'a str, fields: &'a [Field<'a>]) -> Line<'a>
+        ensures { line_of result ≡ named_line name.now (fields_of fields.now) }
+    {
+        Line {
+            name,
+            opening: None,
+            fields,
+        }
+    }
+}
+
+/// The beginning of a line: its name, and the field that stands in its place in text.
+pub fn put_opening(
+    text: &mut String,
+    spelling: Spelling,
+    name: &str,
+    opening: &Option<Field<'_>>,
+) -> Result<(), AllocError>
+    ensures { OnOk result (string_bytes text.new ≡ string_bytes text.old ++ opening_spelled spelling name.now (option_map field_of opening.now)) }
+{
+    match spelling {
+        Spelling::Text => match opening {
+            None => text.push_str(name),
+            Some(field) => put_as_text(text, field),
+        },
+        Spelling::Json => {
+            text.push_str("{\"line\":\"")?;
+            text.push_str(name)?;
+            text.push_str("\"")?;
+            match opening {
+                None => Ok(()),
+                Some(field) => put_member(text, field),
+            }
+        }
+    }
+}
+
+/// Fields of a line, one after the other.
+pub fn put_fields(
+    text: &mut String,
+    spelling: Spelling,
+    fields: &[Field<'_>],
+) -> Result<(), AllocError>
+    ensures { OnOk result (string_bytes text.new ≡ string_bytes text.old ++ fields_spelled spelling (fields_of fields.now)) }
+{
+    for field in fields {
+        put_field(text, spelling, field)?;
+    }
+    Ok(())
+}
+
+/// A field behind what a line has already.
+pub fn put_field(text: &mut String, spelling: Spelling, field: &Field<'_>) -> Result<(), AllocError>
+    ensures { OnOk result (string_bytes text.new ≡ string_bytes text.old ++ field_spelled spelling (field_of field.now)) }
+{
+    match spelling {
+        Spelling::Text => {
+            text.push_str(" ")?;
+            put_as_text(text, field)
+        }
+        Spelling::Json => put_member(text, field),
+    }
+}
+
+/// The end of a line, with its line end.
+pub fn put_end(text: &mut String, spelling: Spelling) -> Result<(), AllocError>
+    ensures { OnOk result (string_bytes text.new ≡ string_bytes text.old ++ end_spelled spelling) }
+{
+    match spelling {
+        Spelling::Text => text.push_str("\n"),
+        Spelling::Json => text.push_str("}\n"),
+    }
+}
+
+/// A line in a spelling, with its line end.
+pub fn put_line(text: &mut String, spelling: Spelling, line: &Line<'_>) -> Result<(), AllocError>
+    ensures { OnOk result (string_bytes text.new ≡ string_bytes text.old ++ line_spelled spelling (line_of line.now)) }
+{
+    put_opening(text, spelling, line.name, &line.opening)?;
+    put_fields(text, spelling, line.fields)?;
+    put_end(text, spelling)
+}

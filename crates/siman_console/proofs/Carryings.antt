@@ -16,12 +16,9 @@ use Rattle.siman_console.specs.declared.convert.TheConstants.{LARGEST_OLD_RECORD
 use Rattle.siman_console.specs.declared.fault.Fault.{Fault}
 use Rattle.siman_console.specs.declared.fault.Fault.TheVariants.{Memory}
 use Rattle.siman_console.specs.Check.{Recorded}
-use Rattle.siman_console.specs.Convert.{converted_text, IsUncarried, CarriesTexts, Carries, TellsConvert}
+use Rattle.siman_console.specs.Convert.{converted_text, IsUncarried, CarriesTexts, Carries}
 use Rattle.siman_console.specs.Ending.{of_convert}
-use Rattle.siman_console.specs.Outcome.{Stream}
-use Rattle.siman_console.specs.Outside.{Deed}
-use Rattle.siman_console.specs.Program.{Answered, MakesBoth, ConvertsRecorded, ConvertsFound}
-use Rattle.siman_console.specs.Audit.{PutsBoth}
+use Rattle.siman_console.specs.Input.{Gives}
 use Rattle.siman_console.proofs.Searches.{unsearched}
 
 -- nothing was readied
@@ -53,36 +50,8 @@ readied c line is recorded p = (
 )
 
 -- What follows, whatever was read, of what is known of it.
-pub known_on : (P Q : Recorded → Type 0) (known : Option (List ℕ)) → ((recorded : Recorded) → P recorded → Q recorded)
-    → IfSome known (λ bytes. P (recording_at LARGEST_OLD_RECORDING bytes)) → IfSome known (λ bytes. Q (recording_at LARGEST_OLD_RECORDING bytes))
-known_on P Q None on said = tt
-known_on P Q (Some bytes) on said = on (recording_at LARGEST_OLD_RECORDING bytes) said
-
--- what is carried over is told
-pub tells_carried : (carried : Carried) (answered : Result ℕ Fault) (file out : Stream) → PutsBoth carried.conversion.text (string_bytes carried.line) answered file out
-    → (recorded : Recorded) → Carries recorded (Ok carried) → TellsConvert recorded answered file out
-tells_carried carried answered file out puts recorded p =
-    let first = subst (λ t. PutsBoth t (string_bytes carried.line) answered file out) p.2.text_is puts in
-    inr (p.0, p.1, subst (λ t. PutsBoth (recording_text (converted p.0)) t answered file out) p.2.line_is first)
-
--- a file is made of it
-over_made : (name : List ℕ) (carried : Carried) (deeds : List Deed) (answered : Answered) (out : Stream)
-    → MakesBoth name carried.conversion.text (string_bytes carried.line) deeds answered out
-    → (recorded : Recorded) → Carries recorded (Ok carried) → ConvertsRecorded recorded name deeds answered out
-over_made name carried deeds answered out made recorded p =
-    let first = subst (λ t. MakesBoth name t (string_bytes carried.line) deeds answered out) p.2.text_is made in
-    inr (p.0, p.1, subst (λ t. MakesBoth name (recording_text (converted p.0)) t deeds answered out) p.2.line_is first)
-
-pub converting : (bytes : Option (List ℕ)) (name : List ℕ) (carried : Carried) (deeds : List Deed) (answered : Answered) (out : Stream)
-    → IfSome bytes (λ b. Carries (recording_at LARGEST_OLD_RECORDING b) (Ok carried)) → (recorded : Recorded) × Carries recorded (Ok carried)
-    → MakesBoth name carried.conversion.text (string_bytes carried.line) deeds answered out → ConvertsFound bytes name deeds answered out
-converting (Some b) name carried deeds answered out known some made =
-    over_made name carried deeds answered out made (recording_at LARGEST_OLD_RECORDING b) known
-converting None name carried deeds answered out known some made = (some.0, over_made name carried deeds answered out made some.0 some.1)
-
--- none is made, where nothing is carried over
-pub not_converting : (bytes : Option (List ℕ)) (name : List ℕ) (fault : Fault) (out : Stream)
-    → IfSome bytes (λ b. Carries (recording_at LARGEST_OLD_RECORDING b) (Err fault)) → (recorded : Recorded) × Carries recorded (Err fault)
-    → Keeps out.old out.new → ConvertsFound bytes name [] (Err fault) out
-not_converting (Some b) name fault out known some kept = inl (fault, known, refl, refl, kept)
-not_converting None name fault out known some kept = (some.0, inl (fault, some.1, refl, refl, kept))
+pub of_some : (P Q : Recorded → Type 0) (known : Option (List ℕ)) → ((recorded : Recorded) → P recorded → Q recorded)
+    → IfSome known (λ bytes. P (recording_at LARGEST_OLD_RECORDING bytes)) → (recorded : Recorded) × P recorded
+    → (recorded : Recorded) × Gives (recording_at LARGEST_OLD_RECORDING) known recorded × Q recorded
+of_some P Q None on said some = (some.0, tt, on some.0 some.1)
+of_some P Q (Some bytes) on said some = (recording_at LARGEST_OLD_RECORDING bytes, refl, on (recording_at LARGEST_OLD_RECORDING bytes) said)

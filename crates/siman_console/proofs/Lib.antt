@@ -1,5 +1,7 @@
 pub mod Endings
-pub mod Fetches
+pub mod Inputs
+pub mod Makings
+pub mod Openings
 pub mod Files
 pub mod HexTexts
 pub mod Keyed

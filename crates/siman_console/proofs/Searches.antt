@@ -65,13 +65,6 @@ told_order recorded certificate line steps answered file out finds texts puts =
 
 pub tells_found : (recorded : Recorded) (finding : Finding) (answered : Result ℕ Fault) (file out : Stream) → Finds recorded finding
     → PutsFinding finding answered file out → TellsAudit recorded answered file out
-tells_found recorded (Order certificate line) answered file out finds puts =
-    told_order recorded certificate.items (string_bytes line) finds.0 answered file out finds.1 finds.2 puts
+tells_found recorded (Order texts) answered file out finds puts =
+    told_order recorded texts.certificate.items (string_bytes texts.line) finds.0 answered file out finds.1 finds.2 puts
 tells_found recorded (Stuck text) answered file out finds puts = inr (inr (string_bytes text, finds, puts.0, puts.1))
-
--- the same of what a reader has, where that is known
-pub tells_found_known : (known : Option (List ℕ)) (finding : Finding) (answered : Result ℕ Fault) (file out : Stream)
-    → IfSome known (λ bytes. Finds (recording_at LARGEST_RECORDING bytes) finding) → PutsFinding finding answered file out
-    → IfSome known (λ bytes. TellsAudit (recording_at LARGEST_RECORDING bytes) answered file out)
-tells_found_known None finding answered file out finds puts = tt
-tells_found_known (Some bytes) finding answered file out finds puts = tells_found (recording_at LARGEST_RECORDING bytes) finding answered file out finds puts

@@ -3,7 +3,6 @@ use Rattle.std.proofs.Common.{◌≡◌, ℕ, List, [], ◌++◌, length, Option
 use Rattle.std.specs.Result.{IsErrAnd}
 use Rattle.std.specs.Io.KnownBytes.{Appends, Keeps}
 use Rattle.exercise_recording.specs.declared.format_fault.FormatFault.{FormatFault}
-use Rattle.exercise_recording.specs.declared.format_fault.FormatFault.TheVariants as faults
 use Rattle.exercise_recording.specs.declared.format_fault.RecordingFault.{RecordingFault}
 use Rattle.exercise_recording.specs.declared.format_fault.RecordingFault.TheVariants as recordings
 use Rattle.exercise_model.specs.Recording.{PlainRecording}
@@ -29,12 +28,6 @@ recording_refused recorded recordings.Memory old new why keeps = inl keeps
 pub whole_text : (r : PlainRecording) (line : List ℕ) → line ≡ line_spelled Text (counts_line r)
     → (line ++ texts_below (station_shown r) (length r.setting.stations)) ++ texts_below (entry_shown r) (length r.entries) ≡ show_text r
 whole_text r line e = rw e refl
-
--- what may have been read where a fault is told
-pub some_recorded : (fault : RecordingFault) → (recorded : Recorded) × Fails (format_of fault) recorded
-some_recorded (recordings.Format f) = (Err f, refl)
-some_recorded recordings.Read = (Err (faults.Magic 0), tt)
-some_recorded recordings.Memory = (Err (faults.Magic 0), tt)
 
 -- a recording that could not be read
 pub recording_unread : (recorded : Recorded) (fault : RecordingFault) (result : Result (Unit {0}) Fault) (old new : Option (List ℕ))

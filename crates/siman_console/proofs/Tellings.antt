@@ -16,7 +16,7 @@ use Rattle.siman_console.specs.declared.hex_text.TheConstants.{LONGEST_HEX}
 use Rattle.siman_console.specs.declared.fault.Ended.{Ended}
 use Rattle.siman_console.specs.declared.fault.Fault.{Fault}
 use Rattle.siman_console.specs.Ending.{Wrote}
-use Rattle.siman_console.specs.declared.fault.Fault.TheVariants.{NotBytePairs, HexLine, Input, File, Words, Recording, Already, Certificate, Script, ScriptRead, World, LineFailed, Output, Memory}
+use Rattle.siman_console.specs.declared.fault.Fault.TheVariants.{NotBytePairs, HexLine, Input, File, Words, Recording, Already, Certificate, Script, ScriptRead, World, LineFailed, Output, SameAs, Exists, Memory}
 use Rattle.siman_console.specs.declared.pdus.Stop.{Stop}
 use Rattle.siman_console.specs.declared.pdus.Stop.TheVariants as stops
 use Rattle.siman_console.specs.Answer.{not_byte_pairs, said_of_reading, said_of_bytes, said_of_hex, IsSaid}
@@ -181,6 +181,8 @@ line-stopped number line (Script f) o p e some said other = absurd said
 line-stopped number line ScriptRead o p e some said other = absurd said
 line-stopped number line (World f) o p e some said other = absurd said
 line-stopped number line LineFailed o p e some said other = absurd said
+line-stopped number line (SameAs name) o p e some said other = absurd said
+line-stopped number line Exists o p e some said other = absurd said
 line-stopped number line Output o p e some said other =
     (Keeps-refl e, inr (refl, subst (WritesPart o p) (sym (out_of_line number line some)) said))
 line-stopped number line Memory o p e some said other = (Keeps-refl e, inl (refl, said))

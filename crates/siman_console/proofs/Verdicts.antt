@@ -5,7 +5,6 @@ use Rattle.siman_console.specs.declared.check.TheConstants.{LARGEST_CERTIFICATE}
 use Rattle.std.specs.Result.{IsErrAnd}
 use Rattle.std.specs.Io.KnownBytes.{Keeps}
 use Rattle.exercise_model.specs.declared.cause.Cause.{Cause}
-use Rattle.exercise_recording.specs.declared.format_fault.FormatFault.TheVariants as recording_faults
 use Rattle.exercise_recording.specs.declared.format_fault.RecordingFault.{RecordingFault}
 use Rattle.exercise_recording.specs.declared.format_fault.RecordingFault.TheVariants as recordings
 use Rattle.exercise_model.specs.Recording.{PlainRecording}
@@ -20,6 +19,7 @@ use Rattle.exercise_check.specs.Goodness.{IsGood, Refuses}
 use Rattle.exercise_check.specs.Certificate as certificate
 use Rattle.siman_console.specs.declared.files_fault.FilesFault.{FilesFault}
 use Rattle.siman_console.specs.Check.{Recorded, Certified, Judges, of_recording, of_certificate}
+use Rattle.siman_console.specs.Input.{Gives}
 
 -- what is refused is not good
 pub not_good : (r : PlainRecording) (steps : List Step) (k : ℕ) (cause : Cause) → Refuses r steps (Bad k cause) → ¬ IsGood r steps
@@ -53,17 +53,6 @@ certificate_unread recorded certified r fault (Ok b) old new passed read why kee
 certificate_unread recorded certified r fault (Err e) old new passed read why keeps =
     rw passed (certificate_refused recorded certified r fault old new read why keeps)
 
--- what may have been read where a fault is told
-pub some_recorded : (fault : RecordingFault) → (recorded : Recorded) × Fails (reading.format_of fault) recorded
-some_recorded (recordings.Format f) = (Err f, refl)
-some_recorded recordings.Read = (Err (recording_faults.Magic 0), tt)
-some_recorded recordings.Memory = (Err (recording_faults.Magic 0), tt)
-
-pub some_certified : (fault : CertificateFault) → (certified : Certified) × Fails (certificate.format_of fault) certified
-some_certified (certificates.Format f) = (Err f, refl)
-some_certified certificates.Read = (Err (certificate_faults.Magic 0), tt)
-some_certified certificates.Memory = (Err (certificate_faults.Magic 0), tt)
-
 -- two files that were read and judged
 pub judged_files : (recorded : Recorded) (certified : Certified) (r : PlainRecording) (steps : List Step) (result : Result Bool FilesFault) (old new : Option (List ℕ))
     → recorded ≡ Ok r → certified ≡ Ok steps
@@ -71,7 +60,21 @@ pub judged_files : (recorded : Recorded) (certified : Certified) (r : PlainRecor
 judged_files recorded certified r steps result old new read read_too judged = rw read (rw read_too judged)
 
 -- what is said whatever the certificate is
-pub judged_whatever : (known : Option (List ℕ)) (P : Certified → Type 0) → ((certified : Certified) → P certified)
-    → IfSome known (λ bytes. P (certificate.certificate_at LARGEST_CERTIFICATE bytes))
-judged_whatever None P said = tt
-judged_whatever (Some bytes) P said = said (certificate.certificate_at LARGEST_CERTIFICATE bytes)
+pub some_certificate : (known : Option (List ℕ)) (P : Certified → Type 0) → ((certified : Certified) → P certified)
+    → (certified : Certified) × Gives (certificate.certificate_at LARGEST_CERTIFICATE) known certified × P certified
+some_certificate None P said = (Err (certificate_faults.Magic 0), tt, said _)
+some_certificate (Some bytes) P said = (certificate.certificate_at LARGEST_CERTIFICATE bytes, refl, said _)
+
+-- a certificate that was read, and one that was not
+pub read_certified : (known : Option (List ℕ)) (steps : List Step) → IfSome known (λ bytes. certificate.certificate_at LARGEST_CERTIFICATE bytes ≡ Ok steps)
+    → (certified : Certified) × Gives (certificate.certificate_at LARGEST_CERTIFICATE) known certified × (certified ≡ Ok steps)
+read_certified None steps read = (Ok steps, tt, refl)
+read_certified (Some bytes) steps read = (certificate.certificate_at LARGEST_CERTIFICATE bytes, refl, read)
+
+pub unread_certified : (known : Option (List ℕ)) (fault : CertificateFault)
+    → IfSome known (λ bytes. Fails (certificate.format_of fault) (certificate.certificate_at LARGEST_CERTIFICATE bytes))
+    → (certified : Certified) × Gives (certificate.certificate_at LARGEST_CERTIFICATE) known certified × Fails (certificate.format_of fault) certified
+unread_certified None (certificates.Format f) read = (Err f, tt, refl)
+unread_certified None certificates.Read read = (Err (certificate_faults.Magic 0), tt, tt)
+unread_certified None certificates.Memory read = (Err (certificate_faults.Magic 0), tt, tt)
+unread_certified (Some bytes) fault read = (certificate.certificate_at LARGEST_CERTIFICATE bytes, refl, read)

@@ -7,7 +7,7 @@ use Rattle.siman_pdus.specs.declared.pdu.Pdu.{Pdu}
 use Rattle.siman_pdus.specs.Reading.{pdu_from, refusal_of}
 use Rattle.siman_pdus.specs.Texts.{refusal_number, pdu_fault_text}
 use Rattle.siman_console.specs.declared.fault.Fault.{Fault}
-use Rattle.siman_console.specs.declared.fault.Fault.TheVariants.{NotBytePairs, HexLine, Input, File, Words, Recording, Already, Certificate, Script, ScriptRead, World, LineFailed, Output, Memory}
+use Rattle.siman_console.specs.declared.fault.Fault.TheVariants.{NotBytePairs, HexLine, Input, File, Words, Recording, Already, Certificate, Script, ScriptRead, World, LineFailed, Output, SameAs, Exists, Memory}
 use Rattle.siman_console.specs.Ending.{EndsWith}
 use Rattle.siman_console.specs.HexText.{bytes_of}
 use Rattle.siman_texts.specs.declared.spelling.Spelling.TheVariants.{Text}
@@ -63,6 +63,8 @@ IsSaid said (Err (Script fault)) old new = ⊥
 IsSaid said (Err ScriptRead) old new = ⊥
 IsSaid said (Err (World fault)) old new = ⊥
 IsSaid said (Err LineFailed) old new = ⊥
+IsSaid said (Err (SameAs name)) old new = ⊥
+IsSaid said (Err Exists) old new = ⊥
 IsSaid said (Err Output) old new = (n : ℕ) × Appends old new (take n said.text)
 IsSaid said (Err Memory) old new = Keeps old new
 

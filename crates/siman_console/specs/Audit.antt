@@ -92,8 +92,8 @@ pub record AreTextsOf (steps : List Step) (certificate line : List ℕ) : Type 0
 
 -- what a search found, with its texts
 abbrev pub Finds : Recorded → Finding → Type 0
-Finds recorded (Order certificate line) =
-    (steps : List Step) × FindsOrder recorded steps × AreTextsOf steps certificate.items (string_bytes line)
+Finds recorded (Order texts) =
+    (steps : List Step) × FindsOrder recorded steps × AreTextsOf steps texts.certificate.items (string_bytes texts.line)
 Finds recorded (Stuck text) = FindsNone recorded (string_bytes text)
 
 abbrev pub Searches : Recorded → Result Finding Fault → Type 0
@@ -125,7 +125,7 @@ PutsBlocked list (Err fault) out = (fault ≡ Output) × WritesPart out.old out.
 
 -- what is written of a finding
 abbrev pub PutsFinding : Finding → Result ℕ Fault → (file out : Stream) → Type 0
-PutsFinding (Order certificate line) answered file out = PutsBoth certificate.items (string_bytes line) answered file out
+PutsFinding (Order texts) answered file out = PutsBoth texts.certificate.items (string_bytes texts.line) answered file out
 PutsFinding (Stuck text) answered file out = Keeps file.old file.new × PutsBlocked (string_bytes text) answered out
 
 -- What `audit` tells: nothing was searched, and nothing is written; or an order explains the recording, and its certificate and its line are written; or none does, the file is as it was, and the blocked list is written.

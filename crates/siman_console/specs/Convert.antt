@@ -1,6 +1,5 @@
 -- What `convert` does with a recording, and how it ends.
 use Rattle.std.specs.Prelude.{◌≡◌, ◌⊎◌, ℕ, List, [], ◌∷◌, length, codes, Result, Ok, Err, string_bytes}
-use Rattle.std.specs.Io.KnownBytes.{Keeps}
 use Rattle.exercise_model.specs.Recording.{PlainRecording}
 use Rattle.exercise_model.specs.Conversion.{converted}
 use Rattle.exercise_recording.specs.Text.{recording_text}
@@ -9,7 +8,6 @@ use Rattle.siman_console.specs.declared.convert.Carried.{Carried}
 use Rattle.siman_console.specs.declared.fault.Fault.{Fault}
 use Rattle.siman_console.specs.declared.fault.Fault.TheVariants.{Already}
 use Rattle.siman_console.specs.Check.{Recorded}
-use Rattle.siman_console.specs.Ending.{EndsWith}
 use Rattle.siman_console.specs.Outcome.{Stream}
 use Rattle.siman_texts.specs.Line.{Number, Keyed, Line, named_line}
 use Rattle.siman_texts.specs.Spelled.{line_text}
@@ -39,14 +37,3 @@ Carries recorded (Err fault) = IsUncarried recorded fault
 -- WHAT IS WRITTEN OF A RECORDING of the first format: the text of its conversion to the file, whole, and then its line, with status 0
 abbrev pub PutsConverted : PlainRecording → Result ℕ Fault → (file out : Stream) → Type 0
 PutsConverted r answered file out = PutsBoth (recording_text (converted r)) (converted_text (length r.entries)) answered file out
-
--- What `convert` tells: nothing is carried over, and nothing is written; or the recording is one of the first format, and its conversion and its line are written.
-abbrev pub TellsConvert : Recorded → (answered : Result ℕ Fault) → (file out : Stream) → Type 0
-TellsConvert recorded answered file out =
-    ((fault : Fault) × IsUncarried recorded fault × (answered ≡ Err fault) × Keeps file.old file.new × Keeps out.old out.new)
-    ⊎ ((r : PlainRecording) × IsOld recorded r × PutsConverted r answered file out)
-
--- HOW `convert` ENDS: what it made of the recording is in the file and out, and it ends as that asks for
-abbrev pub EndsConvert : Recorded → (status : ℕ) → (file out errors : Stream) → Type 0
-EndsConvert recorded status file out errors =
-    (answered : Result ℕ Fault) × TellsConvert recorded answered file out × EndsWith answered status errors.old errors.new

@@ -22,7 +22,7 @@ use Rattle.siman_console.specs.declared.place.Place.{Place}
 use Rattle.siman_console.specs.declared.place.Place.TheVariants.{Offset, Line, Move}
 use Rattle.siman_console.specs.declared.fault.Fault.{Fault}
 use Rattle.siman_console.specs.declared.fault.Ended.{Ended}
-use Rattle.siman_console.specs.declared.fault.Fault.TheVariants.{NotBytePairs, HexLine, Input, File, Words, Recording, Already, Certificate, Script, ScriptRead, World, LineFailed, Output, Memory}
+use Rattle.siman_console.specs.declared.fault.Fault.TheVariants.{NotBytePairs, HexLine, Input, File, Words, Recording, Already, Certificate, Script, ScriptRead, World, LineFailed, Output, SameAs, Exists, Memory}
 use Rattle.siman_console.specs.declared.files_fault.FilesFault.{FilesFault}
 use Rattle.siman_console.specs.declared.files_fault.FilesFault.TheVariants as files
 use Rattle.siman_console.specs.declared.trial_fault.TrialFault.{TrialFault}
@@ -44,6 +44,8 @@ subject_of ScriptRead = codes "script: "
 subject_of (World fault) = codes "world: "
 subject_of LineFailed = codes "live: "
 subject_of Output = codes "output: "
+subject_of (SameAs name) = codes "output: same as "
+subject_of Exists = codes "output: "
 subject_of Memory = []
 
 -- the name of a fault of a recording, and of one of a certificate
@@ -93,6 +95,8 @@ name_of ScriptRead = codes "read"
 name_of (World fault) = world_fault_name fault
 name_of LineFailed = codes "line"
 name_of Output = codes "write"
+name_of (SameAs name) = name.now
+name_of Exists = codes "exists"
 name_of Memory = codes "memory"
 
 -- where it is: the offset of a field in bytes from 0, a line of a script or of hex texts from 1, a move of a world from 0
@@ -130,6 +134,8 @@ place_of ScriptRead = None
 place_of (World fault) = world_place fault
 place_of LineFailed = None
 place_of Output = None
+place_of (SameAs name) = None
+place_of Exists = None
 place_of Memory = None
 
 abbrev pub place_words : Place → List ℕ
@@ -168,6 +174,8 @@ fault_status ScriptRead = 2
 fault_status (World fault) = 2
 fault_status LineFailed = 2
 fault_status Output = 2
+fault_status (SameAs name) = 2
+fault_status Exists = 2
 fault_status Memory = 3
 
 -- how the fault of a file is told

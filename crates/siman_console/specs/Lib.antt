@@ -16,3 +16,6 @@ pub mod Live
 pub mod Trial
 pub mod Pdus
 pub mod Program
+pub mod Input
+pub mod Making
+pub mod Opening

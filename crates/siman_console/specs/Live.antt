@@ -8,9 +8,8 @@ use Rattle.siman_worlds.specs.declared.world_fault.WorldFault.TheVariants as wor
 use Rattle.siman_scripts.specs.Script.{ScriptData}
 use Rattle.siman_worlds.specs.World.{are_world_stations}
 use Rattle.siman_console.specs.declared.fault.Fault.{Fault}
-use Rattle.siman_console.specs.declared.fault.Fault.TheVariants.{NotBytePairs, HexLine, Input, File, Words, Recording, Already, Certificate, Script, ScriptRead, World, LineFailed, Output, Memory}
+use Rattle.siman_console.specs.declared.fault.Fault.TheVariants.{NotBytePairs, HexLine, Input, File, Words, Recording, Already, Certificate, Script, ScriptRead, World, LineFailed, Output, SameAs, Exists, Memory}
 use Rattle.siman_console.specs.declared.live.Begun.{Begun}
-use Rattle.siman_console.specs.Ending.{EndsWith}
 use Rattle.siman_console.specs.Outcome.{Stream}
 use Rattle.siman_console.specs.Records.{line_end}
 use Rattle.siman_console.specs.World.{Scripted}
@@ -29,6 +28,8 @@ BeginsNone scripted (World worlds.Stations) = (s : ScriptData) × (scripted ≡ 
 BeginsNone scripted (World (worlds.Move number fault)) = ⊥
 BeginsNone scripted (World worlds.Memory) = ⊥
 BeginsNone scripted LineFailed = (s : ScriptData) × (scripted ≡ Ok s) × (are_world_stations s.stations ≡ true)
+BeginsNone scripted (SameAs name) = ⊥
+BeginsNone scripted Exists = ⊥
 BeginsNone scripted NotBytePairs = ⊥
 BeginsNone scripted (HexLine number) = ⊥
 BeginsNone scripted Input = ⊥
@@ -47,6 +48,8 @@ TellsMoves count (Err (World worlds.Stations)) out = ⊥
 TellsMoves count (Err (World (worlds.Move number fault))) out = (number < count) × Keeps out.old out.new
 TellsMoves count (Err (World worlds.Memory)) out = ⊥
 TellsMoves count (Err LineFailed) out = Keeps out.old out.new
+TellsMoves count (Err (SameAs name)) out = ⊥
+TellsMoves count (Err Exists) out = ⊥
 TellsMoves count (Err Output) out = Keeps out.old out.new ⊎ ((n : ℕ) × (n ≤ MOST_ENTRIES) × WritesPart out.old out.new (live_line n))
 TellsMoves count (Err Memory) out = Keeps out.old out.new
 TellsMoves count (Err NotBytePairs) out = ⊥
@@ -64,6 +67,8 @@ TellsMoves count (Err ScriptRead) out = ⊥
 abbrev pub HaltsIn : (count : ℕ) → Fault → Type 0
 HaltsIn count (World (worlds.Move number fault)) = number < count
 HaltsIn count LineFailed = ⊤
+HaltsIn count (SameAs name) = ⊥
+HaltsIn count Exists = ⊥
 HaltsIn count Output = ⊤
 HaltsIn count Memory = ⊤
 HaltsIn count (World worlds.Stations) = ⊥
@@ -89,14 +94,3 @@ pub record IsBegun (scripted : Scripted) (begun : Begun) : Type 0 where
 abbrev pub Begins : Scripted → Result Begun Fault → Type 0
 Begins scripted (Ok begun) = IsBegun scripted begun
 Begins scripted (Err fault) = BeginsNone scripted fault
-
--- What `live` tells: nothing comes of the script, and nothing is written; or its stations make its moves.
-abbrev pub TellsLive : Scripted → (answered : Result ℕ Fault) → (file out : Stream) → Type 0
-TellsLive scripted answered file out =
-    ((fault : Fault) × BeginsNone scripted fault × (answered ≡ Err fault) × Keeps file.old file.new × Keeps out.old out.new)
-    ⊎ ((s : ScriptData) × (scripted ≡ Ok s) × (are_world_stations s.stations ≡ true) × TellsMoves (length s.moves) answered out)
-
--- HOW `live` ENDS: what it made of the script is in the file and out, and it ends as that asks for
-abbrev pub EndsLive : Scripted → (status : ℕ) → (file out errors : Stream) → Type 0
-EndsLive scripted status file out errors =
-    (answered : Result ℕ Fault) × TellsLive scripted answered file out × EndsWith answered status errors.old errors.new

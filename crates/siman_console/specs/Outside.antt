@@ -1,5 +1,5 @@
--- What a program does outside: the files that it opens, makes and closes, in their order.
-use Rattle.std.specs.Prelude.{◌≡◌, ◌⊎◌, ⊤, ℕ, List, [], ◌++◌, Option, Some, None, Result, Ok, Err}
+-- What a program does outside: the files that it opens, makes, saves, discards and closes, in their order.
+use Rattle.std.specs.Prelude.{◌≡◌, ◌⊎◌, ⊤, ℕ, Bool, List, [], ◌++◌, Option, Some, None, Result, Ok, Err}
 use Rattle.std.specs.IoError.{error_kind}
 use Rattle.std.specs.declared.io.Error.{Error}
 use Rattle.std.specs.declared.io.ErrorKind.{ErrorKind}
@@ -13,10 +13,26 @@ abbrev pub found_by : {F : Type 0} → (F → Option (List ℕ)) → Result F Er
 found_by remaining (Ok file) = Ok (remaining file)
 found_by remaining (Err error) = Err (error_kind error)
 
--- a file of a name was opened to be read, or made to be written; or the file that was made was left with these bytes, where they are known
+-- that a file was saved, or why it was not
+abbrev pub Saved : Type 0
+Saved = Result (Unit {0}) ErrorKind
+
+abbrev pub saved_by : Result (Unit {0}) Error → Saved
+saved_by (Ok x) = Ok x
+saved_by (Err error) = Err (error_kind error)
+
 pub data Deed : Type 0 where
+  -- a file of a name was opened to be read
   Opens : (name : List ℕ) → Found → Deed
+  -- it was looked whether a regular file that stands under a name is the one that was opened last
+  Compares : (name : List ℕ) → Bool → Deed
+  -- a file was made that is to stand under a name; it was saved there with these bytes, where they are known, or discarded
   Makes : (name : List ℕ) → Found → Deed
+  Saves : Option (List ℕ) → Saved → Deed
+  Discards : Option (List ℕ) → Deed
+  -- it was looked whether a name is taken; a file was created under it; it was left with these bytes, where they are known
+  LooksFor : (name : List ℕ) → Bool → Deed
+  Creates : (name : List ℕ) → Found → Deed
   Leaves : Option (List ℕ) → Deed
 
 -- Where it is known what was done before, these deeds are known behind it.
@@ -38,5 +54,10 @@ IsFresh (Err kind) = ⊤
 
 abbrev pub WasHeld : (List ℕ → Option Found) → Deed → Type 0
 WasHeld holds (Opens name found) = IsHeld (holds name) found
+WasHeld holds (Compares name same) = ⊤
 WasHeld holds (Makes name made) = IsFresh made
+WasHeld holds (Saves left saved) = ⊤
+WasHeld holds (Discards left) = ⊤
+WasHeld holds (LooksFor name taken) = ⊤
+WasHeld holds (Creates name made) = IsFresh made
 WasHeld holds (Leaves left) = ⊤

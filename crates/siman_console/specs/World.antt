@@ -15,7 +15,7 @@ use Rattle.siman_worlds.specs.declared.world_fault.WorldFault.TheVariants as wor
 use Rattle.siman_scripts.specs.Script.{ScriptData}
 use Rattle.siman_worlds.specs.World.{WorldData, sent_in, world_recording, world_refusal}
 use Rattle.siman_console.specs.declared.fault.Fault.{Fault}
-use Rattle.siman_console.specs.declared.fault.Fault.TheVariants.{NotBytePairs, HexLine, Input, File, Words, Recording, Already, Certificate, Script, ScriptRead, World, LineFailed, Output, Memory}
+use Rattle.siman_console.specs.declared.fault.Fault.TheVariants.{NotBytePairs, HexLine, Input, File, Words, Recording, Already, Certificate, Script, ScriptRead, World, LineFailed, Output, SameAs, Exists, Memory}
 use Rattle.siman_console.specs.Ending.{EndsWith}
 use Rattle.siman_console.specs.Outcome.{Stream}
 use Rattle.siman_texts.specs.Line.{Number, Keyed, Line, named_line}
@@ -65,6 +65,8 @@ YieldsNone scripted (Recording fault) = ⊥
 YieldsNone scripted (Certificate fault) = ⊥
 YieldsNone scripted Already = ⊥
 YieldsNone scripted LineFailed = ⊥
+YieldsNone scripted (SameAs name) = ⊥
+YieldsNone scripted Exists = ⊥
 YieldsNone scripted Output = ⊥
 YieldsNone scripted Memory = ⊤
 
@@ -113,6 +115,8 @@ PutsWorld r (Err (Script fault)) file out = ⊥
 PutsWorld r (Err ScriptRead) file out = ⊥
 PutsWorld r (Err (World fault)) file out = ⊥
 PutsWorld r (Err LineFailed) file out = ⊥
+PutsWorld r (Err (SameAs name)) file out = ⊥
+PutsWorld r (Err Exists) file out = ⊥
 
 -- What `world` tells: the script yields no recording, and nothing is written; or it yields one, and that is written.
 abbrev pub TellsWorld : Scripted → (answered : Result ℕ Fault) → (file out : Stream) → Type 0

@@ -1,6 +1,6 @@
 //! The command `audit`: a recording, searched for an order that explains it.
 
-ghost use Rattle.std.specs.Prelude.{◌≡◌, ◌<◌, ◌≤◌, ◌++◌, map, length, All, Ok, IfOk, IfSome, OnOk, string_bytes};
+ghost use Rattle.std.specs.Prelude.{◌≡◌, ◌<◌, ◌≤◌, ◌++◌, ℕ, List, map, length, All, Ok, IfOk, OnOk, string_bytes};
 ghost use Rattle.std.specs.Io.KnownBytes.{Keeps};
 ghost use Rattle.exercise_recording.specs.Reading.{recording_at};
 ghost use Rattle.exercise_check.specs.Certificate.{certificate_text};
@@ -8,12 +8,13 @@ ghost use Rattle.exercise_check.specs.Goodness.{IsGood};
 ghost use Rattle.exercise_audit.specs.declared.blocks.Block.{Block as BlockData};
 ghost use Rattle.exercise_audit.specs.Audit.{IsBlocked};
 ghost use Rattle.siman_console.specs.declared.show.TheConstants.{LARGEST_RECORDING};
-ghost use Rattle.siman_console.specs.Check.{Recorded};
+ghost use Rattle.siman_console.specs.Input.{Has};
 ghost use Rattle.siman_console.specs.Outcome.{Stream};
 ghost use Rattle.siman_texts.specs.Spelled.{line_text, lines_text};
-ghost use Rattle.siman_console.specs.Audit.{explained_text, block_at, block_line, Finds, Searches, PutsBoth, PutsBlocked, PutsFinding, TellsAudit, EndsAudit};
+ghost use Rattle.siman_console.specs.Audit.{explained_text, block_at, block_line, Finds, Searches, PutsBlocked, PutsFinding, TellsAudit, EndsAudit};
 
 use crate::fault::{Fault, end};
+use crate::making::{Making, settle_and_say};
 use crate::show::LARGEST_RECORDING;
 use byte_files::put;
 use dis_records::Address;
@@ -25,11 +26,18 @@ use siman_texts::{Field, Line, Spelling, Value, put_line};
 use std::alloc::{AllocError, Global};
 use std::io::{Read, Write};
 
+/// The texts of an order that explains a recording: that of its certificate, and its line.
+#[derive(Drop)]
+pub(crate) struct OrderTexts {
+    pub(crate) certificate: Vec<u8>,
+    pub(crate) line: String,
+}
+
 /// What a search found, with the texts that tell of it.
 #[derive(Drop)]
 pub(crate) enum Finding {
-    /// Some order explains the recording: the text of its certificate, and its line.
-    Order { certificate: Vec<u8>, line: String },
+    /// Some order explains the recording.
+    Order(OrderTexts),
     /// No order does: the blocked list.
     Stuck(String),
 }
@@ -51,15 +59,10 @@ pub fn audit_command<R: Read + Drop, F: Write, W: Write, E: Write>(
     out: &mut W,
     errors: &mut E,
 ) -> u8
-    ensures known { let file : Stream = record { old = F.contents certificate.old; new = F.contents certificate.new } in
-        let out : Stream = record { old = W.contents out.old; new = W.contents out.new } in
-        let errors : Stream = record { old = E.contents errors.old; new = E.contents errors.new } in
-        IfSome (R.remaining recording) (λ bytes. EndsAudit (recording_at LARGEST_RECORDING bytes) result file out errors) }
-    // Whatever it read, it ended as that asks for.
     ensures ends { let file : Stream = record { old = F.contents certificate.old; new = F.contents certificate.new } in
         let out : Stream = record { old = W.contents out.old; new = W.contents out.new } in
         let errors : Stream = record { old = E.contents errors.old; new = E.contents errors.new } in
-        (recorded : Recorded) × EndsAudit recorded result file out errors }
+        (bytes : List ℕ) × Has (R.remaining recording) bytes × EndsAudit (recording_at LARGEST_RECORDING bytes) result file out errors }
     ensures silent { result ≤ 1 → Keeps (E.contents errors.old) (E.contents errors.new) }
 {
     end(audited(alloc, recording, certificate, out), errors).status
@@ -72,21 +75,19 @@ fn audited<R: Read + Drop, F: Write, W: Write>(
     certificate: &mut F,
     out: &mut W,
 ) -> Result<u8, Fault<'static>>
-    ensures known { let file : Stream = record { old = F.contents certificate.old; new = F.contents certificate.new } in
+    ensures { let file : Stream = record { old = F.contents certificate.old; new = F.contents certificate.new } in
         let out : Stream = record { old = W.contents out.old; new = W.contents out.new } in
-        IfSome (R.remaining recording) (λ bytes. TellsAudit (recording_at LARGEST_RECORDING bytes) result file out) }
-    ensures some { let file : Stream = record { old = F.contents certificate.old; new = F.contents certificate.new } in
-        let out : Stream = record { old = W.contents out.old; new = W.contents out.new } in
-        (recorded : Recorded) × TellsAudit recorded result file out }
+        (bytes : List ℕ) × Has (R.remaining recording) bytes × TellsAudit (recording_at LARGEST_RECORDING bytes) result file out }
 {
-    let finding = search(alloc, recording)?;
-    put_finding(&finding, certificate, out)
+    match search(alloc, recording) {
+        Ok(finding) => put_finding(alloc, &finding, certificate, out),
+        Err(fault) => Err(fault),
+    }
 }
 
 /// Searches the recording that a reader has for an order that explains it.
 pub(crate) fn search<R: Read + Drop>(alloc: Global, recording: R) -> Result<Finding, Fault<'static>>
-    ensures known { IfSome (R.remaining recording) (λ bytes. Searches (recording_at LARGEST_RECORDING bytes) result) }
-    ensures some { (recorded : Recorded) × Searches recorded result }
+    ensures { (bytes : List ℕ) × Has (R.remaining recording) bytes × Searches (recording_at LARGEST_RECORDING bytes) result }
 {
     let bytes = fetch_recording(alloc, recording, LARGEST_RECORDING)?;
     search_bytes(alloc, &bytes)
@@ -122,10 +123,10 @@ fn order<L: ExerciseLog>(
     what_explains_holds();
     // There is a step for each entry.
     let steps = log.entry_count();
-    Ok(Finding::Order {
+    Ok(Finding::Order(OrderTexts {
         certificate: certificate_bytes(alloc, certificate)?,
         line: explained_line(alloc, steps)?,
-    })
+    }))
 }
 
 fn certificate_bytes(alloc: Global, certificate: &Certificate) -> Result<Vec<u8>, AllocError>
@@ -203,6 +204,7 @@ fn put_block(
 
 /// Writes what was found, and gives the status.
 fn put_finding<F: Write, W: Write>(
+    alloc: Global,
     finding: &Finding,
     file: &mut F,
     out: &mut W,
@@ -212,28 +214,31 @@ fn put_finding<F: Write, W: Write>(
         PutsFinding finding.now result file out }
 {
     match finding {
-        Finding::Order { certificate, line } => put_order(certificate, line, file, out),
+        Finding::Order(order) => order.put(alloc, file, out),
         Finding::Stuck(text) => put_stuck(text, out),
     }
 }
 
-/// Writes the text of a certificate, whole, and then its line, and gives the status.
-pub(crate) fn put_order<F: Write, W: Write>(
-    certificate: &[u8],
-    line: &str,
-    file: &mut F,
-    out: &mut W,
-) -> Result<u8, Fault<'static>>
-    ensures { let file : Stream = record { old = F.contents file.old; new = F.contents file.new } in
-        let out : Stream = record { old = W.contents out.old; new = W.contents out.new } in
-        PutsBoth certificate.now line.now result file out }
-{
-    if put(file, certificate).is_err() {
-        return Err(Fault::Output);
-    }
-    match put(out, line.as_bytes()) {
-        Ok(()) => Ok(0),
-        Err(_) => Err(Fault::Output),
+/// The file of a certificate.
+impl Making for OrderTexts {
+    ghost use Rattle.std.specs.Prelude.{string_bytes};
+    ghost use Rattle.siman_console.specs.Audit.{PutsBoth};
+
+    ghost puts = { λ order. PutsBoth order.certificate.items (string_bytes order.line) };
+
+    fn put<F: Write, W: Write>(
+        &self,
+        _alloc: Global,
+        file: &mut F,
+        out: &mut W,
+    ) -> Result<u8, Fault<'static>> {
+        if put(file, &self.certificate).is_err() {
+            return Err(Fault::Output);
+        }
+        match settle_and_say(file, &self.line, out) {
+            Ok(()) => Ok(0),
+            Err(fault) => Err(fault),
+        }
     }
 }
 

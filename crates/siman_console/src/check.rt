@@ -1,12 +1,13 @@
 //! The command `check`: a recording, judged by a certificate.
 
-ghost use Rattle.std.specs.Prelude.{◌≡◌, ◌≤◌, IfSome, Ok};
+ghost use Rattle.std.specs.Prelude.{◌≡◌, ◌≤◌, ℕ, List, Ok};
 ghost use Rattle.std.specs.Io.KnownBytes.{Keeps};
 ghost use Rattle.siman_console.specs.declared.check.TheConstants.{LARGEST_CERTIFICATE};
 ghost use Rattle.siman_console.specs.declared.show.TheConstants.{LARGEST_RECORDING};
 ghost use Rattle.exercise_recording.specs.Reading.{recording_at};
 ghost use Rattle.exercise_check.specs.Certificate.{certificate_at};
-ghost use Rattle.siman_console.specs.Check.{Recorded, Certified, Judges, judged_status, TellsCheck, EndsCheck};
+ghost use Rattle.siman_console.specs.Input.{Gives, Has};
+ghost use Rattle.siman_console.specs.Check.{Certified, Judges, judged_status, TellsCheck, EndsCheck};
 
 use crate::fault::{Fault, end};
 use crate::files_fault::FilesFault;
@@ -36,9 +37,9 @@ pub fn check_files<R: Read + Drop, C: Read + Drop, W: Write>(
     certificate: C,
     out: &mut W,
 ) -> Result<bool, FilesFault>
-    ensures known { IfSome (R.remaining recording) (λ r. IfSome (C.remaining certificate) (λ c. Judges (recording_at LARGEST_RECORDING r) (certificate_at LARGEST_CERTIFICATE c) result (W.contents out.old) (W.contents out.new))) }
-    // Whatever it read, it judged that.
-    ensures some { (recorded : Recorded) × (certified : Certified) × Judges recorded certified result (W.contents out.old) (W.contents out.new) }
+    ensures { (bytes : List ℕ) × Has (R.remaining recording) bytes
+        × ((certified : Certified) × Gives (certificate_at LARGEST_CERTIFICATE) (C.remaining certificate) certified
+        × Judges (recording_at LARGEST_RECORDING bytes) certified result (W.contents out.old) (W.contents out.new)) }
 {
     let bytes = fetch_recording(alloc, recording, LARGEST_RECORDING)?;
     check_bytes(alloc, &bytes, certificate, out)
@@ -51,8 +52,8 @@ fn check_bytes<C: Read + Drop, W: Write>(
     certificate: C,
     out: &mut W,
 ) -> Result<bool, FilesFault>
-    ensures known { IfSome (C.remaining certificate) (λ c. Judges (recording_at LARGEST_RECORDING bytes.now) (certificate_at LARGEST_CERTIFICATE c) result (W.contents out.old) (W.contents out.new)) }
-    ensures some { (certified : Certified) × Judges (recording_at LARGEST_RECORDING bytes.now) certified result (W.contents out.old) (W.contents out.new) }
+    ensures { (certified : Certified) × Gives (certificate_at LARGEST_CERTIFICATE) (C.remaining certificate) certified
+        × Judges (recording_at LARGEST_RECORDING bytes.now) certified result (W.contents out.old) (W.contents out.new) }
 {
     let log = RecordingView::over_limited(alloc, bytes, LARGEST_RECORDING)?;
     let certificate = read_certificate(alloc, certificate, LARGEST_CERTIFICATE)?;
@@ -70,9 +71,9 @@ pub fn check_command<R: Read + Drop, C: Read + Drop, W: Write, E: Write>(
     out: &mut W,
     errors: &mut E,
 ) -> u8
-    ensures known { IfSome (R.remaining recording) (λ r. IfSome (C.remaining certificate) (λ c. EndsCheck (recording_at LARGEST_RECORDING r) (certificate_at LARGEST_CERTIFICATE c) result (W.contents out.old) (W.contents out.new) (E.contents errors.old) (E.contents errors.new))) }
-    // Whatever it read, it ended as that asks for.
-    ensures ends { (recorded : Recorded) × (certified : Certified) × EndsCheck recorded certified result (W.contents out.old) (W.contents out.new) (E.contents errors.old) (E.contents errors.new) }
+    ensures ends { (bytes : List ℕ) × Has (R.remaining recording) bytes
+        × ((certified : Certified) × Gives (certificate_at LARGEST_CERTIFICATE) (C.remaining certificate) certified
+        × EndsCheck (recording_at LARGEST_RECORDING bytes) certified result (W.contents out.old) (W.contents out.new) (E.contents errors.old) (E.contents errors.new)) }
     ensures silent { result ≤ 1 → Keeps (E.contents errors.old) (E.contents errors.new) }
 {
     end(check_recording(alloc, recording, certificate, out), errors).status
@@ -85,8 +86,9 @@ pub(crate) fn check_recording<R: Read + Drop, C: Read + Drop, W: Write>(
     certificate: C,
     out: &mut W,
 ) -> Result<u8, Fault<'static>>
-    ensures known { IfSome (R.remaining recording) (λ r. IfSome (C.remaining certificate) (λ c. TellsCheck (recording_at LARGEST_RECORDING r) (certificate_at LARGEST_CERTIFICATE c) result (W.contents out.old) (W.contents out.new))) }
-    ensures some { (recorded : Recorded) × (certified : Certified) × TellsCheck recorded certified result (W.contents out.old) (W.contents out.new) }
+    ensures { (bytes : List ℕ) × Has (R.remaining recording) bytes
+        × ((certified : Certified) × Gives (certificate_at LARGEST_CERTIFICATE) (C.remaining certificate) certified
+        × TellsCheck (recording_at LARGEST_RECORDING bytes) certified result (W.contents out.old) (W.contents out.new)) }
 {
     status_of(check_files(alloc, recording, certificate, out))
 }

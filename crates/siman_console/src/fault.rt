@@ -48,6 +48,10 @@ pub enum Fault<'a> {
     LineFailed,
     /// The answer could not be written whole.
     Output,
+    /// The file that is to be made is the one that is read, which the words call so.
+    SameAs(&'a str),
+    /// A file stands where one is to be created.
+    Exists,
     /// Memory ran out.
     Memory,
 }
@@ -66,7 +70,8 @@ impl<'a> Fault<'a> {
             Fault::Script(_) | Fault::ScriptRead => "script: ",
             Fault::World(_) => "world: ",
             Fault::LineFailed => "live: ",
-            Fault::Output => "output: ",
+            Fault::Output | Fault::Exists => "output: ",
+            Fault::SameAs(_) => "output: same as ",
             Fault::Memory => "",
         }
     }
@@ -78,7 +83,7 @@ impl<'a> Fault<'a> {
         match self {
             Fault::NotBytePairs | Fault::HexLine(_) => "not byte pairs",
             Fault::Input => "-",
-            Fault::File(name) => name,
+            Fault::File(name) | Fault::SameAs(name) => name,
             Fault::Words => "not UTF-8",
             Fault::Recording(RecordingFault::Format(fault)) => fault.name(),
             Fault::Certificate(CertificateFault::Format(fault)) => fault.name(),
@@ -92,6 +97,7 @@ impl<'a> Fault<'a> {
             Fault::World(WorldFault::Move(_, fault)) => move_fault_name(fault),
             Fault::LineFailed => "line",
             Fault::Output => "write",
+            Fault::Exists => "exists",
             Fault::Recording(RecordingFault::Memory)
             | Fault::Certificate(CertificateFault::Memory)
             | Fault::Script(ScriptFault::Memory)
@@ -136,7 +142,9 @@ impl<'a> Fault<'a> {
             | Fault::ScriptRead
             | Fault::World(_)
             | Fault::LineFailed
-            | Fault::Output => 2,
+            | Fault::Output
+            | Fault::SameAs(_)
+            | Fault::Exists => 2,
         }
     }
 }

@@ -1,15 +1,13 @@
 //! The commands of the program `siman`, as functions over readers and writers that answer the
 //! status to exit with, and the texts that they print.
 //!
-//! It opens no file and ends no process. The program and the tests call the same functions:
-//! [`read_words`] and [`usage_command`] for the words of a command line, [`pdu_command`] and
-//! [`pdus_command`] for datagrams in hex text, [`show_command`] for recordings, [`check_command`]
-//! for a recording and its certificate, [`audit_command`] for the search of a recording,
-//! [`convert_command`] for a recording of the first format that is carried over to the second,
-//! [`world_command`] for a script and the recording of its world, [`live_command`] for a script whose
-//! stations stand at lines, [`trial`] for a script and the
-//! report of its world. Their contracts give the status and the bytes on the writer of the answer;
-//! the writer of faults gets bytes only where the status is 2 or 3.
+//! It opens no file and ends no process. [`run`] is the whole way from the words of a command line to
+//! the status, over what a program may do [`Outside`]. Over readers and writers there are
+//! [`pdu_command`] and [`pdus_command`] for datagrams in hex text, [`show_command`] for recordings,
+//! [`check_command`] for a recording and its certificate, [`audit_command`] for the search of a
+//! recording, [`world_command`] for a script and the recording of its world, and [`trial`] for a
+//! script and the report of its world. Their contracts give the status and the bytes on the writer of
+//! the answer; the writer of faults gets bytes only where the status is 2 or 3.
 #![tactic(auto)]
 
 mod answer;
@@ -25,6 +23,8 @@ mod input;
 mod keys;
 mod live;
 mod live_moves;
+mod making;
+mod opening;
 mod outside;
 mod pdu;
 mod pdus;
@@ -42,11 +42,10 @@ mod world;
 pub use answer::answers_follow_the_grammar;
 pub use audit::audit_command;
 pub use check::{LARGEST_CERTIFICATE, check_command, check_files};
-pub use convert::{LARGEST_OLD_RECORDING, convert_command};
+pub use convert::LARGEST_OLD_RECORDING;
 pub use fault::Ended;
 pub use files_fault::FilesFault;
 pub use keys::keys_come_once;
-pub use live::live_command;
 pub use outside::Outside;
 pub use pdu::pdu_command;
 pub use pdus::pdus_command;
@@ -59,5 +58,4 @@ pub use siman_scripts::{
 pub use siman_words::{Task, read_words};
 pub use siman_worlds::{MoveFault, WorldFault, run_world};
 pub use trial_fault::TrialFault;
-pub use usage::usage_command;
 pub use world::world_command;

@@ -1,16 +1,15 @@
 //! The command `live`: the moves of a script, made by stations that each have a line of their own.
 
-ghost use Rattle.std.specs.Prelude.{◌≡◌, ◌⊎◌, ◌≤◌, None, Ok, IfOk, OnOk, IfErr, IfSome, length, string_bytes};
-ghost use Rattle.std.specs.Io.KnownBytes.{Keeps};
+ghost use Rattle.std.specs.Prelude.{◌≡◌, ◌≤◌, ℕ, List, Ok, IfOk, IfErr, length, string_bytes};
 ghost use Rattle.exercise_model.specs.declared.recording.TheConstants.{MOST_ENTRIES};
 ghost use Rattle.siman_scripts.specs.Script.{script_at};
-ghost use Rattle.siman_console.specs.Live.{Begins, TellsMoves, HaltsIn, live_line, EndsLive, TellsLive};
+ghost use Rattle.siman_console.specs.Live.{Begins, TellsMoves, HaltsIn, live_line};
 ghost use Rattle.siman_console.specs.Outcome.{Stream};
-ghost use Rattle.siman_console.specs.World.{Scripted};
+ghost use Rattle.siman_console.specs.Input.{Has};
 
-use crate::fault::{Fault, end};
+use crate::fault::Fault;
 use crate::input::read_text;
-use crate::live_moves::{make_move, stand_at_lines};
+use crate::live_moves::make_move;
 use byte_files::put;
 use exercise_model::{ExerciseLog, Recording};
 use exercise_recording::RecordingWriter;
@@ -31,72 +30,12 @@ pub(crate) struct Begun {
     pub(crate) moves: Vec<Move>,
 }
 
-/// Makes the moves of the script of a reader, each station at its line, and writes the recording of
-/// what the stations sent, received and told, entry by entry, and then a line with the number of its
-/// entries, with status 0. A Tick sends the repeat that is due, if one is; a Tell tells the state of
-/// the entity; a Deliver is passed over, since the lines deliver. After each other move four rounds
-/// serve each station in turn, for at most 64 receives.
-///
-/// Status 2 with a line on `errors` tells the first line of the script that is refused, a failed read
-/// of it or stations that a world cannot have, as [`world_command`](crate::world_command) does, or
-/// that there are not as many lines as stations (`live: line`), all with nothing written; a call of a
-/// line that failed (`live: line`), the first move that cannot be made (`world: NAME at move N`), or
-/// an entry that was not recorded or a failed write (`output: write`). Status 3 is want of memory.
-/// After a fault among the moves the recording has no end, and no line is out.
-pub fn live_command<L: Line + Drop, R: Read + Drop, F: Write, W: Write, E: Write>(
-    alloc: Global,
-    script: R,
-    lines: Vec<L>,
-    recording: &mut F,
-    out: &mut W,
-    errors: &mut E,
-) -> u8
-    ensures known { let file : Stream = record { old = F.contents recording.old; new = F.contents recording.new } in
-        let out : Stream = record { old = W.contents out.old; new = W.contents out.new } in
-        let errors : Stream = record { old = E.contents errors.old; new = E.contents errors.new } in
-        IfSome (R.remaining script) (λ text. EndsLive (script_at text) result file out errors) }
-    // Whatever it read, it ended as that asks for.
-    ensures ends { let file : Stream = record { old = F.contents recording.old; new = F.contents recording.new } in
-        let out : Stream = record { old = W.contents out.old; new = W.contents out.new } in
-        let errors : Stream = record { old = E.contents errors.old; new = E.contents errors.new } in
-        (scripted : Scripted) × EndsLive scripted result file out errors }
-    ensures status { (result ≡ 0) ⊎ (result ≡ 2) ⊎ (result ≡ 3) }
-    ensures silent { result ≡ 0 → Keeps (E.contents errors.old) (E.contents errors.new) }
-{
-    end(live(alloc, script, lines, recording, out), errors).status
-}
-
-/// As [`live_command`], and gives the status.
-fn live<L: Line + Drop, R: Read + Drop, F: Write, W: Write>(
-    alloc: Global,
-    script: R,
-    lines: Vec<L>,
-    recording: &mut F,
-    out: &mut W,
-) -> Result<u8, Fault<'static>>
-    ensures known { let file : Stream = record { old = F.contents recording.old; new = F.contents recording.new } in
-        let out : Stream = record { old = W.contents out.old; new = W.contents out.new } in
-        IfSome (R.remaining script) (λ text. TellsLive (script_at text) result file out) }
-    ensures some { let file : Stream = record { old = F.contents recording.old; new = F.contents recording.new } in
-        let out : Stream = record { old = W.contents out.old; new = W.contents out.new } in
-        (scripted : Scripted) × TellsLive scripted result file out }
-{
-    let Begun {
-        recording: head,
-        nodes,
-        moves,
-    } = begin_script(alloc, script)?;
-    let stations = stand_at_lines(alloc, nodes, lines)?;
-    put_moves(alloc, &head, stations, moves, recording, out)
-}
-
 /// The stations of the script of a reader, and its moves.
 pub(crate) fn begin_script<R: Read + Drop>(
     alloc: Global,
     script: R,
 ) -> Result<Begun, Fault<'static>>
-    ensures known { IfSome (R.remaining script) (λ text. Begins (script_at text) result) }
-    ensures some { (scripted : Scripted) × Begins scripted result }
+    ensures { (text : List ℕ) × Has (R.remaining script) text × Begins (script_at text) result }
 {
     let mut script = script;
     let text = read_text(alloc, &mut script, LARGEST_SCRIPT, Fault::ScriptRead)?;
@@ -127,7 +66,11 @@ fn begin_read(alloc: Global, script: Script) -> Result<Begun, Fault<'static>>
     })
 }
 
-/// Makes moves in their order, which writes what comes of them, and then the line.
+/// Makes moves in their order, each station at its line, and writes the recording of what the
+/// stations sent, received and told, entry by entry, and then the line. A Tick sends the repeat that is
+/// due, if one is; a Tell tells the state of the entity; a Deliver is passed over, since the lines
+/// deliver. After each other move four rounds serve each station in turn, for at most 64 receives.
+/// After a fault among the moves the recording has no end, and no line is out.
 pub(crate) fn put_moves<L: Line + Drop, F: Write, W: Write>(
     alloc: Global,
     head: &Recording,

@@ -5,22 +5,23 @@ use std::alloc::Global;
 use std::io;
 use std::io::{Read, Write};
 
-/// The files that a program may open and make, and the lines that it may have. In contracts it may tell what it holds and what it
-/// did; the files of the operating system tell neither.
+/// The files that a program may open and make, and the lines that it may have. In contracts it may
+/// tell what it holds and what it did; the files of the operating system tell neither.
 pub trait Outside {
     ghost use Rattle.std.specs.Prelude.{◌≡◌, ◌∷◌, [], ℕ, List, Option, None};
-    ghost use Rattle.siman_console.specs.Outside.{Found, Deed, Opens, Makes, Leaves, found_by, Adds, IsHeld, IsFresh};
+    ghost use Rattle.siman_console.specs.Outside.{Found, Deed, Opens, Compares, Makes, Saves, Discards, LooksFor, Creates, Leaves, found_by, saved_by, Adds, IsHeld, IsFresh};
 
     /// A file that was opened to be read.
     type File: Read + Drop;
 
-    /// A file that was made to be written.
+    /// A file that was made to be written. Where it is flushed, what was written so far outlasts the
+    /// machine.
     type Made: Write + Drop;
 
     /// The end of a network at one station.
     type Line: Line + Drop;
 
-    /// What was opened, made and closed so far, oldest first, where it is known.
+    /// What was done so far, oldest first, where it is known.
     ghost deeds: { Self → Option (List Deed) } = { λ _. None };
 
     /// What opening the file of a name finds, where it is known.
@@ -32,12 +33,38 @@ pub trait Outside {
         ensures held { IsHeld (holds self.old name.now) (found_by Self.File.remaining result) }
         ensures stays { holds self.new ≡ holds self.old };
 
-    /// Makes the file of a name to write it from its start; what stood in it is gone.
+    /// Whether a regular file stands under a name, and is the one that was opened: by the same name,
+    /// by another, or by a link.
+    fn is_opened(&mut self, file: &Self::File, name: &str) -> bool
+        ensures done { Adds (deeds self.old) (deeds self.new) (Compares name.now result ∷ []) };
+
+    /// Makes the file that is to stand under a name, to write it from its start. Until it is saved,
+    /// what stands under that name stays as it is, unless that is no regular file but a device, a
+    /// pipe or a socket, which is written as it stands.
     fn make(&mut self, name: &str) -> io::Result<Self::Made>
         ensures done { Adds (deeds self.old) (deeds self.new) (Makes name.now (found_by Self.Made.contents result) ∷ []) }
         ensures fresh { IsFresh (found_by Self.Made.contents result) };
 
-    /// Closes a file that was made, and leaves it as it is.
+    /// Saves a file that was made: it takes its name, in one step, or what stands there stays as it
+    /// is.
+    fn save(&mut self, file: Self::Made) -> io::Result<()>
+        ensures done { Adds (deeds self.old) (deeds self.new) (Saves (Self.Made.contents file) (saved_by result) ∷ []) };
+
+    /// Discards a file that was made: what stands under its name stays as it is.
+    fn discard(&mut self, file: Self::Made)
+        ensures done { Adds (deeds self.old) (deeds self.new) (Discards (Self.Made.contents file) ∷ []) };
+
+    /// Whether anything stands under a name that a file would have to take the place of: a device, a
+    /// pipe or a socket is none such.
+    fn is_taken(&mut self, name: &str) -> bool
+        ensures done { Adds (deeds self.old) (deeds self.new) (LooksFor name.now result ∷ []) };
+
+    /// Creates a file under a name where none stands, to write it as it stands there.
+    fn create(&mut self, name: &str) -> io::Result<Self::Made>
+        ensures done { Adds (deeds self.old) (deeds self.new) (Creates name.now (found_by Self.Made.contents result) ∷ []) }
+        ensures fresh { IsFresh (found_by Self.Made.contents result) };
+
+    /// Closes a file that was created, and leaves it as it is.
     fn close(&mut self, file: Self::Made)
         ensures done { Adds (deeds self.old) (deeds self.new) (Leaves (Self.Made.contents file) ∷ []) };
 

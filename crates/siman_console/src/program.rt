@@ -1,26 +1,28 @@
 //! The whole way from the words of a command line to the status.
 
-ghost use Rattle.std.specs.Prelude.{ℕ, List, Option, length, string_bytes};
+ghost use Rattle.std.specs.Prelude.{ℕ, List, Option, length};
 ghost use Rattle.std.specs.IoError.{error_kind};
 ghost use Rattle.std.specs.List.{All};
 ghost use Rattle.siman_console.specs.Outside.{Deed, Found, Adds, WasHeld};
 ghost use Rattle.siman_console.specs.Outcome.{Stream, Outcome};
-ghost use Rattle.siman_console.specs.Program.{IsUnopened, IsUnmade, ShowsFile, ChecksFiles, MakesFile, RunsFile, IsUnlined, MakesMoves, LivesBegun, LivesFile, MakesBoth, MakesFinding, AuditsFile, ConvertsFile, EndsTask, EndsProgram, words_by};
+ghost use Rattle.siman_console.specs.Program.{ShowsFile, ChecksFiles, RunsFile, IsUnlined, IsUncreated, CreatesMoves, LivesAtLines, LivesBegun, LivesFile, MakesFinding, AuditsFile, ConvertsFile, EndsTask, EndsProgram, words_by};
 ghost use Rattle.siman_words.specs.Words.{asked_by};
 
-use crate::audit::{Finding, put_order, put_stuck, search};
+use crate::audit::{Finding, put_stuck, search};
 use crate::check::check_recording;
-use crate::convert::{Carried, carry, put_carried};
+use crate::convert::carry;
 use crate::fault::{Ended, Fault, end};
 use crate::live::{Begun, begin_script, put_moves};
 use crate::live_moves::stand_at_lines;
+use crate::making::make_file;
+use crate::opening::{open_apart, unopened};
 use crate::outside::Outside;
 use crate::pdu::tell_word;
 use crate::pdus::end_lines;
 use crate::script_trial::tell_trial;
 use crate::show::show_recording;
 use crate::usage::{end_usage, unread};
-use crate::world::{put_world, run_script};
+use crate::world::run_script;
 use exercise_model::Recording;
 use siman_lines::StationAtLine;
 use siman_scripts::Move;
@@ -28,16 +30,6 @@ use siman_words::{Task, read_words};
 use std::alloc::Global;
 use std::io;
 use std::io::{ErrorKind, Read, Write};
-
-/// How it is told that the file of a name could not be opened.
-fn unopened<'a>(name: &'a str, error: &io::Error) -> Fault<'a>
-    ensures { IsUnopened name.now (error_kind error.now) result }
-{
-    if error.kind() == ErrorKind::OutOfMemory {
-        return Fault::Memory;
-    }
-    Fault::File(name)
-}
 
 /// Opens a file, and shows the recording that it has.
 fn show_file<'a, O: Outside, W: Write>(
@@ -77,40 +69,7 @@ fn check_named<'a, O: Outside, W: Write>(
     }
 }
 
-/// How it is told that the file to be written could not be made.
-fn unmade(error: &io::Error) -> Fault<'static>
-    ensures { IsUnmade (error_kind error.now) result }
-{
-    if error.kind() == ErrorKind::OutOfMemory {
-        return Fault::Memory;
-    }
-    Fault::Output
-}
-
-/// Makes the file of a recording, writes it whole, and then its line.
-fn make_world<O: Outside, W: Write>(
-    alloc: Global,
-    recording: &Recording,
-    name: &str,
-    outside: &mut O,
-    out: &mut W,
-) -> Result<u8, Fault<'static>>
-    ensures { let out : Stream = record { old = W.contents out.old; new = W.contents out.new } in
-        (deeds : List Deed) × Adds (O.deeds outside.old) (O.deeds outside.new) deeds × ((holds : List ℕ → Option Found) → All (WasHeld holds) deeds) × MakesFile name.now recording.now deeds result out }
-{
-    match outside.make(name) {
-        Ok(file) => {
-            let mut file = file;
-            let answered = put_world(alloc, recording, &mut file, out);
-            outside.close(file);
-            answered
-        }
-        Err(error) => Err(unmade(&error)),
-    }
-}
-
-/// Opens a script and runs its world; then makes the file of its recording, and writes it whole, and
-/// then its line.
+/// Opens a script and runs its world; then makes the file of its recording.
 fn world_named<'a, O: Outside, W: Write>(
     alloc: Global,
     names: (&'a str, &'a str),
@@ -120,40 +79,18 @@ fn world_named<'a, O: Outside, W: Write>(
     ensures { let out : Stream = record { old = W.contents out.old; new = W.contents out.new } in
         (deeds : List Deed) × Adds (O.deeds outside.old) (O.deeds outside.new) deeds × All (WasHeld (O.holds outside.old)) deeds × RunsFile names.entry.0.now names.entry.1.now deeds result out }
 {
-    let (script, recording) = names;
-    match outside.open(script) {
+    match open_apart(names, outside) {
         Ok(file) => match run_script(alloc, file) {
-            Ok(made) => make_world(alloc, &made, recording, outside, out),
+            Ok(made) => make_file(alloc, &made, names.1, outside, out),
             Err(fault) => Err(fault),
         },
-        Err(error) => Err(unopened(script, &error)),
-    }
-}
-
-/// Makes the file of a certificate, writes its text whole, and then its line.
-fn make_certificate<O: Outside, W: Write>(
-    certificate: &[u8],
-    line: &str,
-    name: &str,
-    outside: &mut O,
-    out: &mut W,
-) -> Result<u8, Fault<'static>>
-    ensures { let out : Stream = record { old = W.contents out.old; new = W.contents out.new } in
-        (deeds : List Deed) × Adds (O.deeds outside.old) (O.deeds outside.new) deeds × ((holds : List ℕ → Option Found) → All (WasHeld holds) deeds) × MakesBoth name.now certificate.now line.now deeds result out }
-{
-    match outside.make(name) {
-        Ok(file) => {
-            let mut file = file;
-            let answered = put_order(certificate, line, &mut file, out);
-            outside.close(file);
-            answered
-        }
-        Err(error) => Err(unmade(&error)),
+        Err(fault) => Err(fault),
     }
 }
 
 /// Makes the file of the certificate that was found; where none was, no file is made.
 fn make_found<O: Outside, W: Write>(
+    alloc: Global,
     finding: &Finding,
     name: &str,
     outside: &mut O,
@@ -163,9 +100,7 @@ fn make_found<O: Outside, W: Write>(
         (deeds : List Deed) × Adds (O.deeds outside.old) (O.deeds outside.new) deeds × ((holds : List ℕ → Option Found) → All (WasHeld holds) deeds) × MakesFinding name.now finding.now deeds result out }
 {
     match finding {
-        Finding::Order { certificate, line } => {
-            make_certificate(certificate, line, name, outside, out)
-        }
+        Finding::Order(order) => make_file(alloc, order, name, outside, out),
         Finding::Stuck(list) => put_stuck(list, out),
     }
 }
@@ -180,34 +115,12 @@ fn audit_named<'a, O: Outside, W: Write>(
     ensures { let out : Stream = record { old = W.contents out.old; new = W.contents out.new } in
         (deeds : List Deed) × Adds (O.deeds outside.old) (O.deeds outside.new) deeds × All (WasHeld (O.holds outside.old)) deeds × AuditsFile names.entry.0.now names.entry.1.now deeds result out }
 {
-    let (searched, certificate) = names;
-    match outside.open(searched) {
+    match open_apart(names, outside) {
         Ok(file) => match search(alloc, file) {
-            Ok(finding) => make_found(&finding, certificate, outside, out),
+            Ok(finding) => make_found(alloc, &finding, names.1, outside, out),
             Err(fault) => Err(fault),
         },
-        Err(error) => Err(unopened(searched, &error)),
-    }
-}
-
-/// Makes the file of a recording in the second format, writes it whole, and then its line.
-fn make_converted<O: Outside, W: Write>(
-    carried: &Carried,
-    name: &str,
-    outside: &mut O,
-    out: &mut W,
-) -> Result<u8, Fault<'static>>
-    ensures { let out : Stream = record { old = W.contents out.old; new = W.contents out.new } in
-        (deeds : List Deed) × Adds (O.deeds outside.old) (O.deeds outside.new) deeds × ((holds : List ℕ → Option Found) → All (WasHeld holds) deeds) × MakesBoth name.now carried.now.conversion.text (string_bytes carried.now.line) deeds result out }
-{
-    match outside.make(name) {
-        Ok(file) => {
-            let mut file = file;
-            let answered = put_carried(carried, &mut file, out);
-            outside.close(file);
-            answered
-        }
-        Err(error) => Err(unmade(&error)),
+        Err(fault) => Err(fault),
     }
 }
 
@@ -221,13 +134,12 @@ fn convert_named<'a, O: Outside, W: Write>(
     ensures { let out : Stream = record { old = W.contents out.old; new = W.contents out.new } in
         (deeds : List Deed) × Adds (O.deeds outside.old) (O.deeds outside.new) deeds × All (WasHeld (O.holds outside.old)) deeds × ConvertsFile names.entry.0.now names.entry.1.now deeds result out }
 {
-    let (old, new) = names;
-    match outside.open(old) {
+    match open_apart(names, outside) {
         Ok(file) => match carry(alloc, file) {
-            Ok(carried) => make_converted(&carried, new, outside, out),
+            Ok(carried) => make_file(alloc, &carried, names.1, outside, out),
             Err(fault) => Err(fault),
         },
-        Err(error) => Err(unopened(old, &error)),
+        Err(fault) => Err(fault),
     }
 }
 
@@ -241,9 +153,20 @@ fn unlined(error: &io::Error) -> Fault<'static>
     Fault::LineFailed
 }
 
-/// Makes the file of a recording, in which the stations write what comes of their moves, and then
-/// the line.
-fn make_live<O: Outside, W: Write>(
+/// How it is told that a file could not be created.
+fn uncreated(error: &io::Error) -> Fault<'static>
+    ensures { IsUncreated (error_kind error.now) result }
+{
+    match error.kind() {
+        ErrorKind::OutOfMemory => Fault::Memory,
+        ErrorKind::AlreadyExists => Fault::Exists,
+        _ => Fault::Output,
+    }
+}
+
+/// Creates the file of a recording, in which the stations write what comes of their moves, and then
+/// tells the line.
+fn create_live<O: Outside, W: Write>(
     alloc: Global,
     head: &Recording,
     stations: Vec<StationAtLine<O::Line>>,
@@ -253,21 +176,21 @@ fn make_live<O: Outside, W: Write>(
     out: &mut W,
 ) -> Result<u8, Fault<'static>>
     ensures { let out : Stream = record { old = W.contents out.old; new = W.contents out.new } in
-        (deeds : List Deed) × Adds (O.deeds outside.old) (O.deeds outside.new) deeds × ((holds : List ℕ → Option Found) → All (WasHeld holds) deeds) × MakesMoves name.now (length moves.items) deeds result out }
+        (deeds : List Deed) × Adds (O.deeds outside.old) (O.deeds outside.new) deeds × ((holds : List ℕ → Option Found) → All (WasHeld holds) deeds) × CreatesMoves name.now (length moves.items) deeds result out }
 {
-    match outside.make(name) {
+    match outside.create(name) {
         Ok(file) => {
             let mut file = file;
             let answered = put_moves(alloc, head, stations, moves, &mut file, out);
             outside.close(file);
             answered
         }
-        Err(error) => Err(unmade(&error)),
+        Err(error) => Err(uncreated(&error)),
     }
 }
 
-/// Has the lines of stations, and then makes the file of what comes of their moves.
-fn live_begun<O: Outside, W: Write>(
+/// Has the lines of stations, and then creates the file of what comes of their moves.
+fn live_at_lines<O: Outside, W: Write>(
     alloc: Global,
     begun: Begun,
     name: &str,
@@ -275,7 +198,7 @@ fn live_begun<O: Outside, W: Write>(
     out: &mut W,
 ) -> Result<u8, Fault<'static>>
     ensures { let out : Stream = record { old = W.contents out.old; new = W.contents out.new } in
-        (deeds : List Deed) × Adds (O.deeds outside.old) (O.deeds outside.new) deeds × ((holds : List ℕ → Option Found) → All (WasHeld holds) deeds) × LivesBegun name.now (length begun.moves.items) deeds result out }
+        (deeds : List Deed) × Adds (O.deeds outside.old) (O.deeds outside.new) deeds × ((holds : List ℕ → Option Found) → All (WasHeld holds) deeds) × LivesAtLines name.now (length begun.moves.items) deeds result out }
 {
     let Begun {
         recording,
@@ -287,13 +210,30 @@ fn live_begun<O: Outside, W: Write>(
         Err(error) => return Err(unlined(&error)),
     };
     match stand_at_lines(alloc, nodes, lines) {
-        Ok(stations) => make_live(alloc, &recording, stations, moves, name, outside, out),
+        Ok(stations) => create_live(alloc, &recording, stations, moves, name, outside, out),
         Err(fault) => Err(fault),
     }
 }
 
-/// Opens a script and begins its stations; then has their lines, and makes the file in which they
-/// write what comes of their moves, and then the line.
+/// Goes on with stations that were begun, where no file stands under the name of their recording.
+fn live_begun<O: Outside, W: Write>(
+    alloc: Global,
+    begun: Begun,
+    name: &str,
+    outside: &mut O,
+    out: &mut W,
+) -> Result<u8, Fault<'static>>
+    ensures { let out : Stream = record { old = W.contents out.old; new = W.contents out.new } in
+        (deeds : List Deed) × Adds (O.deeds outside.old) (O.deeds outside.new) deeds × ((holds : List ℕ → Option Found) → All (WasHeld holds) deeds) × LivesBegun name.now (length begun.moves.items) deeds result out }
+{
+    if outside.is_taken(name) {
+        return Err(Fault::Exists);
+    }
+    live_at_lines(alloc, begun, name, outside, out)
+}
+
+/// Opens a script and begins its stations; then, where no file stands under the name of their
+/// recording, has their lines, and creates the file in which they write what comes of their moves.
 fn live_named<'a, O: Outside, W: Write>(
     alloc: Global,
     names: (&'a str, &'a str),
@@ -303,13 +243,12 @@ fn live_named<'a, O: Outside, W: Write>(
     ensures { let out : Stream = record { old = W.contents out.old; new = W.contents out.new } in
         (deeds : List Deed) × Adds (O.deeds outside.old) (O.deeds outside.new) deeds × All (WasHeld (O.holds outside.old)) deeds × LivesFile names.entry.0.now names.entry.1.now deeds result out }
 {
-    let (script, recording) = names;
-    match outside.open(script) {
+    match open_apart(names, outside) {
         Ok(file) => match begin_script(alloc, file) {
-            Ok(begun) => live_begun(alloc, begun, recording, outside, out),
+            Ok(begun) => live_begun(alloc, begun, names.1, outside, out),
             Err(fault) => Err(fault),
         },
-        Err(error) => Err(unopened(script, &error)),
+        Err(fault) => Err(fault),
     }
 }
 

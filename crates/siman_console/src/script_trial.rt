@@ -1,14 +1,14 @@
 //! What no words ask for: a script, whose world is run, searched for an order, and judged.
 
-ghost use Rattle.std.specs.Prelude.{◌≡◌, List, Ok, IfOk, OnOk, IfSome, string_bytes};
+ghost use Rattle.std.specs.Prelude.{◌≡◌, ℕ, List, Ok, IfOk, OnOk, string_bytes};
 ghost use Rattle.exercise_model.specs.History.{past};
 ghost use Rattle.exercise_model.specs.Run.{IsRun};
 ghost use Rattle.exercise_findings.specs.Account.{TellsAccount};
 ghost use Rattle.exercise_check.specs.declared.certificate.Step.{Step};
 ghost use Rattle.exercise_check.specs.Goodness.{IsGood};
 ghost use Rattle.siman_scripts.specs.Script.{script_at};
+ghost use Rattle.siman_console.specs.Input.{Has};
 ghost use Rattle.siman_console.specs.Trial.{trial_text, Performs, Tries, tried_status, TellsTrial};
-ghost use Rattle.siman_console.specs.World.{Scripted};
 
 use crate::audit::explained_line;
 use crate::fault::Fault;
@@ -56,9 +56,7 @@ pub fn trial<R: Read + Drop, W: Write>(
     input: R,
     out: &mut W,
 ) -> Result<bool, TrialFault>
-    ensures known { IfSome (R.remaining input) (λ text. Tries (script_at text) result (W.contents out.old) (W.contents out.new)) }
-    // Whatever it read, it tried that.
-    ensures some { (scripted : Scripted) × Tries scripted result (W.contents out.old) (W.contents out.new) }
+    ensures { (text : List ℕ) × Has (R.remaining input) text × Tries (script_at text) result (W.contents out.old) (W.contents out.new) }
 {
     let mut input = input;
     match read_text(alloc, &mut input, LARGEST_SCRIPT, Fault::ScriptRead) {
@@ -74,8 +72,7 @@ pub(crate) fn tell_trial<R: Read + Drop, W: Write>(
     input: R,
     out: &mut W,
 ) -> Result<u8, Fault<'static>>
-    ensures known { IfSome (R.remaining input) (λ text. TellsTrial (script_at text) result (W.contents out.old) (W.contents out.new)) }
-    ensures some { (scripted : Scripted) × TellsTrial scripted result (W.contents out.old) (W.contents out.new) }
+    ensures { (text : List ℕ) × Has (R.remaining input) text × TellsTrial (script_at text) result (W.contents out.old) (W.contents out.new) }
 {
     status_of(trial(alloc, input, out))
 }

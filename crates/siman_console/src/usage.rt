@@ -1,9 +1,7 @@
 //! What is told of words that gave no task.
 
-ghost use Rattle.std.specs.Prelude.{◌≡◌};
 ghost use Rattle.std.specs.IoError.{error_kind};
 ghost use Rattle.clap.specs.Values.{kind_of};
-ghost use Rattle.siman_console.specs.Ending.{Wrote};
 ghost use Rattle.siman_console.specs.Outcome.{Outcome, EndsUsage, IsUnread};
 
 use crate::fault::{Ended, Fault, end};
@@ -16,14 +14,6 @@ use std::io::{ErrorKind as IoKind, Write};
 /// Tells why words gave no task. Status 0 is the help that they asked for, on `out`; 2 a fault of
 /// usage, told on `errors`, or a failed write of the help (`output: write`); 3 want of memory
 /// (`memory`).
-pub fn usage_command<W: Write, E: Write>(error: &Error, out: &mut W, errors: &mut E) -> u8
-    ensures { (wrote : Wrote) × (let o : Outcome = record { ended = record { status = result; written = wrote }; out = record { old = W.contents out.old; new = W.contents out.new }; errors = record { old = E.contents errors.old; new = E.contents errors.new } } in
-        EndsUsage (kind_of error.now) o) }
-{
-    end_usage(error, out, errors).status
-}
-
-/// As [`usage_command`].
 pub(crate) fn end_usage<W: Write, E: Write>(error: &Error, out: &mut W, errors: &mut E) -> Ended
     ensures { let o : Outcome = record { ended = result; out = record { old = W.contents out.old; new = W.contents out.new }; errors = record { old = E.contents errors.old; new = E.contents errors.new } } in
         EndsUsage (kind_of error.now) o }

@@ -1,17 +1,18 @@
 //! The command `world`: the recording of the world that a script describes.
 
-ghost use Rattle.std.specs.Prelude.{◌≡◌, ◌⊎◌, length, map, Ok, IfOk, IfSome, string_bytes};
+ghost use Rattle.std.specs.Prelude.{◌≡◌, ◌⊎◌, ℕ, List, length, map, Ok, IfOk, string_bytes};
 ghost use Rattle.std.specs.Io.KnownBytes.{Keeps};
 ghost use Rattle.exercise_model.specs.Held.{kept};
 ghost use Rattle.siman_scripts.specs.Script.{script_at};
 ghost use Rattle.siman_worlds.specs.World.{sent_in};
+ghost use Rattle.siman_console.specs.Input.{Has};
 ghost use Rattle.siman_console.specs.Outcome.{Stream};
-ghost use Rattle.siman_console.specs.World.{Scripted, Runs, is_sent, world_text, PutsWorld, TellsWorld, EndsWorld};
+ghost use Rattle.siman_console.specs.World.{Runs, is_sent, world_text, TellsWorld, EndsWorld};
 
 use crate::fault::{Fault, end};
 use crate::input::read_text;
+use crate::making::{Making, settle_and_say};
 use crate::recording_file::put_recording;
-use byte_files::put;
 use exercise_model::{EntryView, LogEntry, Recording};
 use siman_scripts::{LARGEST_SCRIPT, Script, read_script};
 use siman_texts::{Field, Line, Spelling, Value, put_line};
@@ -36,15 +37,10 @@ pub fn world_command<R: Read + Drop, F: Write, W: Write, E: Write>(
     out: &mut W,
     errors: &mut E,
 ) -> u8
-    ensures known { let file : Stream = record { old = F.contents recording.old; new = F.contents recording.new } in
-        let out : Stream = record { old = W.contents out.old; new = W.contents out.new } in
-        let errors : Stream = record { old = E.contents errors.old; new = E.contents errors.new } in
-        IfSome (R.remaining script) (λ text. EndsWorld (script_at text) result file out errors) }
-    // Whatever it read, it ended as that asks for.
     ensures ends { let file : Stream = record { old = F.contents recording.old; new = F.contents recording.new } in
         let out : Stream = record { old = W.contents out.old; new = W.contents out.new } in
         let errors : Stream = record { old = E.contents errors.old; new = E.contents errors.new } in
-        (scripted : Scripted) × EndsWorld scripted result file out errors }
+        (text : List ℕ) × Has (R.remaining script) text × EndsWorld (script_at text) result file out errors }
     ensures status { (result ≡ 0) ⊎ (result ≡ 2) ⊎ (result ≡ 3) }
     ensures silent { result ≡ 0 → Keeps (E.contents errors.old) (E.contents errors.new) }
 {
@@ -59,15 +55,14 @@ fn world<R: Read + Drop, F: Write, W: Write>(
     recording: &mut F,
     out: &mut W,
 ) -> Result<u8, Fault<'static>>
-    ensures known { let file : Stream = record { old = F.contents recording.old; new = F.contents recording.new } in
+    ensures { let file : Stream = record { old = F.contents recording.old; new = F.contents recording.new } in
         let out : Stream = record { old = W.contents out.old; new = W.contents out.new } in
-        IfSome (R.remaining script) (λ text. TellsWorld (script_at text) result file out) }
-    ensures some { let file : Stream = record { old = F.contents recording.old; new = F.contents recording.new } in
-        let out : Stream = record { old = W.contents out.old; new = W.contents out.new } in
-        (scripted : Scripted) × TellsWorld scripted result file out }
+        (text : List ℕ) × Has (R.remaining script) text × TellsWorld (script_at text) result file out }
 {
-    let made = run_script(alloc, script)?;
-    put_world(alloc, &made, recording, out)
+    match run_script(alloc, script) {
+        Ok(made) => made.put(alloc, recording, out),
+        Err(fault) => Err(fault),
+    }
 }
 
 /// The recording of the world that the script of a reader describes.
@@ -75,8 +70,7 @@ pub(crate) fn run_script<R: Read + Drop>(
     alloc: Global,
     script: R,
 ) -> Result<Recording, Fault<'static>>
-    ensures known { IfSome (R.remaining script) (λ text. Runs (script_at text) result) }
-    ensures some { (scripted : Scripted) × Runs scripted result }
+    ensures { (text : List ℕ) × Has (R.remaining script) text × Runs (script_at text) result }
 {
     let mut script = script;
     let text = read_text(alloc, &mut script, LARGEST_SCRIPT, Fault::ScriptRead)?;
@@ -102,22 +96,24 @@ fn run_read(alloc: Global, script: Script) -> Result<Recording, Fault<'static>>
     Ok(run_world(alloc, exercise, stations, moves)?)
 }
 
-/// Writes a recording whole, and then its line, and gives the status.
-pub(crate) fn put_world<F: Write, W: Write>(
-    alloc: Global,
-    recording: &Recording,
-    file: &mut F,
-    out: &mut W,
-) -> Result<u8, Fault<'static>>
-    ensures { let file : Stream = record { old = F.contents file.old; new = F.contents file.new } in
-        let out : Stream = record { old = W.contents out.old; new = W.contents out.new } in
-        PutsWorld recording.now result file out }
-{
-    let line = world_line(alloc, recording)?;
-    put_recording(alloc, recording, file)?;
-    match put(out, line.as_bytes()) {
-        Ok(()) => Ok(0),
-        Err(_) => Err(Fault::Output),
+/// The file of the recording of a world.
+impl Making for Recording {
+    ghost use Rattle.siman_console.specs.World.{PutsWorld};
+
+    ghost puts = { PutsWorld };
+
+    fn put<F: Write, W: Write>(
+        &self,
+        alloc: Global,
+        file: &mut F,
+        out: &mut W,
+    ) -> Result<u8, Fault<'static>> {
+        let line = world_line(alloc, self)?;
+        put_recording(alloc, self, file)?;
+        match settle_and_say(file, &line, out) {
+            Ok(()) => Ok(0),
+            Err(fault) => Err(fault),
+        }
     }
 }
 

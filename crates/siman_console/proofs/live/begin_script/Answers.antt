@@ -1,16 +1,17 @@
 -- What was fetched is begun as all that there was would be.
-use Rattle.std.proofs.Common.{Err, subst}
-use Rattle.siman_scripts.specs.declared.script_fault.ScriptFault.TheVariants.{BadLine}
+use Rattle.std.proofs.Common.{subst}
 use Rattle.siman_scripts.specs.Script.{script_at}
 use Rattle.siman_console.specs.Live.{Begins}
-use Rattle.siman_console.proofs.Lives.{unbegun, begins_fetched}
+use Rattle.siman_console.proofs.Inputs.{of_script, of_any}
+use Rattle.siman_console.proofs.Lives.{unbegun}
 use Rattle.siman_console.proofs.live.begin_script.Goals as goal
 
-pub returns-in_err-text-clause-some : goal.returns-in_err-text-clause-some
-returns-in_err-text-clause-some g c =
-    (Err (BadLine 0), unbegun (Err (BadLine 0)) c.in_err-text.field-0.0 _ c.from_residual.ensures.1 c.in_err-text.ensures.failed)
+pub returns-in_err-text : goal.returns-in_err-text
+returns-in_err-text g c =
+    of_any (λ text. Begins (script_at text) c.from_residual.result) (g.R.Read.remaining c.args.script)
+    (λ text. unbegun (script_at text) c.in_err-text.field-0.0 _ c.from_residual.ensures.1 c.in_err-text.ensures.failed)
 
-pub returns-clause-known : goal.returns-clause-known
-returns-clause-known g c =
-    begins_fetched (g.R.Read.remaining c.args.script) c.in_ok-text.text.items _ c.in_ok-text.ensures.text
+pub returns : goal.returns
+returns g c =
+    of_script (λ scripted. Begins scripted c.begin_text.result) (g.R.Read.remaining c.args.script) c.in_ok-text.text.items c.in_ok-text.ensures.text
     (subst (λ text. Begins (script_at text) c.begin_text.result) c.deref.ensures.value c.begin_text.ensures)

@@ -1,9 +1,8 @@
 -- Two files were opened, one after the other.
 use Rattle.std.proofs.Common.{ℕ, List, [], ◌∷◌, Option, Ok, Err, refl, subst}
 use Rattle.std.specs.IoError.{error_kind}
-use Rattle.siman_console.specs.Outcome.{Stream}
 use Rattle.siman_console.specs.Outside.{Found, Opens, IsHeld, WasHeld}
-use Rattle.siman_console.proofs.Programs.{adds_two, all_two, judging, keeps_all}
+use Rattle.siman_console.proofs.Openings.{adds_then, all_two, keeps_all}
 use Rattle.siman_console.proofs.program.check_named.Goals as goal
 
 pub returns-in-Ok-open : goal.returns-in-Ok-open
@@ -12,12 +11,11 @@ returns-in-Ok-open g c =
     let k = g.O.File.Read.remaining c.in-Ok-open.file in
     let first = Opens c.args.names.0.now (Ok r) in
     let second = Opens c.args.names.1.now (Ok k) in
-    let out : Stream = record { old = g.W.Write.contents c.args.out.now; new = g.W.Write.contents c.check_recording.new.out } in
     let held = subst (λ (holds : List ℕ → Option Found). IsHeld (holds c.args.names.1.now) (Ok k)) c.in-Ok.ensures.stays c.in-Ok-open.ensures.held in (
       first ∷ second ∷ [],
-      adds_two _ _ _ first second c.in-Ok.ensures.done c.in-Ok-open.ensures.done,
+      adds_then _ _ _ (first ∷ []) (second ∷ []) c.in-Ok.ensures.done c.in-Ok-open.ensures.done,
       all_two (WasHeld (g.O.Outside.holds c.args.outside.now)) first second c.in-Ok.ensures.held held,
-      (refl, refl, judging r k c.check_recording.result out c.check_recording.ensures.known c.check_recording.ensures.some),
+      (refl, refl, c.check_recording.ensures),
     )
 
 pub returns-in-Err-open : goal.returns-in-Err-open
@@ -28,7 +26,7 @@ returns-in-Err-open g c =
     let second = Opens c.args.names.1.now (Err why) in
     let held = subst (λ (holds : List ℕ → Option Found). IsHeld (holds c.args.names.1.now) (Err why)) c.in-Ok.ensures.stays c.in-Err-open.ensures.held in (
       first ∷ second ∷ [],
-      adds_two _ _ _ first second c.in-Ok.ensures.done c.in-Err-open.ensures.done,
+      adds_then _ _ _ (first ∷ []) (second ∷ []) c.in-Ok.ensures.done c.in-Err-open.ensures.done,
       all_two (WasHeld (g.O.Outside.holds c.args.outside.now)) first second c.in-Ok.ensures.held held,
       (refl, refl, (keeps_all (g.W.Write.contents c.args.out.now), (c.unopened-in-Err-open.result, c.unopened-in-Err-open.ensures, refl))),
     )

@@ -1,40 +1,39 @@
 -- A recording was opened and read, and then the file of its conversion was made, if it has one.
-use Rattle.std.proofs.Common.{[], ◌∷◌, Ok, refl}
+use Rattle.std.proofs.Common.{Err, inl, refl}
+use Rattle.exercise_recording.specs.Reading.{recording_at}
+use Rattle.siman_console.specs.declared.convert.TheConstants.{LARGEST_OLD_RECORDING}
+use Rattle.siman_console.specs.Program.{ConvertsRecorded}
+use Rattle.siman_console.proofs.Programs.{carried_over}
 use Rattle.siman_console.specs.Outcome.{Stream}
-use Rattle.siman_console.specs.Outside.{Opens, WasHeld}
-use Rattle.siman_console.proofs.Programs.{adds_more, all_none, all_more, keeps_all}
-use Rattle.siman_console.proofs.Carryings.{converting, not_converting}
+use Rattle.siman_console.proofs.Openings.{keeps_all, went_on, went_off, not_opened}
 use Rattle.siman_console.proofs.program.convert_named.Goals as goal
 
 pub returns-in-Ok-carry : goal.returns-in-Ok-carry
 returns-in-Ok-carry g c =
-    let bytes = g.O.File.Read.remaining c.in-Ok.file in
-    let opened = Opens c.args.names.0.now (Ok bytes) in
-    let holds = g.O.Outside.holds c.args.outside.now in
-    let rest = c.make_converted.ensures in
-    let out : Stream = record { old = g.W.Write.contents c.args.out.now; new = g.W.Write.contents c.make_converted.new.out } in (
-      opened ∷ rest.0,
-      adds_more _ _ _ opened rest.0 c.in-Ok.ensures.done rest.1,
-      all_more (WasHeld holds) opened rest.0 c.in-Ok.ensures.held (rest.2 holds),
-      (
-        refl,
-        converting bytes c.args.names.1.now c.in-Ok-carry.carried rest.0 c.make_converted.result out
-            c.in-Ok-carry.ensures.known c.in-Ok-carry.ensures.some rest.3,
-      ),
-    )
+    let name = c.args.names.0.now in
+    let made = c.args.names.1.now in
+    let known = g.O.File.Read.remaining c.in-Ok.file in
+    let opened = c.in-Ok.ensures in
+    let said = c.in-Ok-carry.ensures in
+    let rest = c.make_file.ensures in
+    let out : Stream = record { old = g.W.Write.contents c.args.out.now; new = g.W.Write.contents c.make_file.new.out } in
+    went_on _ _ _ (g.O.Outside.holds c.args.outside.now) name made (recording_at LARGEST_OLD_RECORDING) (λ recorded. ConvertsRecorded recorded c.args.names.1.now) opened.0 rest.0 known c.make_file.result out
+    opened.1 opened.2 opened.3 rest.1 (rest.2 (g.O.Outside.holds c.args.outside.now)) (said.0, said.1, carried_over said.0 made c.in-Ok-carry.carried rest.0 c.make_file.result out said.2 rest.3)
 
 pub returns-in-Err-carry : goal.returns-in-Err-carry
 returns-in-Err-carry g c =
-    let bytes = g.O.File.Read.remaining c.in-Ok.file in
-    let opened = Opens c.args.names.0.now (Ok bytes) in
-    let holds = g.O.Outside.holds c.args.outside.now in
+    let name = c.args.names.0.now in
+    let made = c.args.names.1.now in
+    let known = g.O.File.Read.remaining c.in-Ok.file in
+    let opened = c.in-Ok.ensures in
+    let said = c.in-Err-carry.ensures in
     let kept = g.W.Write.contents c.args.out.now in
-    let out : Stream = record { old = kept; new = kept } in (
-      opened ∷ [],
-      c.in-Ok.ensures.done,
-      all_more (WasHeld holds) opened [] c.in-Ok.ensures.held (all_none (WasHeld holds)),
-      (
-        refl,
-        not_converting bytes c.args.names.1.now c.in-Err-carry.fault out c.in-Err-carry.ensures.known c.in-Err-carry.ensures.some (keeps_all kept),
-      ),
-    )
+    let out : Stream = record { old = kept; new = kept } in
+    went_off _ _ (g.O.Outside.holds c.args.outside.now) name made (recording_at LARGEST_OLD_RECORDING) (λ recorded. ConvertsRecorded recorded c.args.names.1.now) opened.0 known (Err c.in-Err-carry.fault) out
+    opened.1 opened.2 opened.3 (said.0, said.1, inl (c.in-Err-carry.fault, said.2, refl, refl, keeps_all kept))
+
+pub returns-in-Err : goal.returns-in-Err
+returns-in-Err g c =
+    let opened = c.in-Err.ensures in
+    not_opened _ _ (g.O.Outside.holds c.args.outside.now) c.args.names.0.now c.args.names.1.now (recording_at LARGEST_OLD_RECORDING) (λ recorded. ConvertsRecorded recorded c.args.names.1.now) opened.0 c.in-Err.fault
+    (g.W.Write.contents c.args.out.now) opened.1 opened.2 opened.3

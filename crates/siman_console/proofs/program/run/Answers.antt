@@ -5,7 +5,7 @@ use Rattle.siman_console.specs.Outside.{WasHeld}
 use Rattle.siman_console.specs.Outcome.{Outcome}
 use Rattle.siman_console.specs.Program.{EndsAsked, EndsProgram, words_by}
 use Rattle.siman_words.specs.Words.{asked_by, asked}
-use Rattle.siman_console.proofs.Programs.{adds_none, all_none, keeps_all}
+use Rattle.siman_console.proofs.Openings.{adds_none, all_none, keeps_all}
 use Rattle.siman_console.proofs.program.run.Goals as goal
 
 pub returns-in-Err : goal.returns-in-Err

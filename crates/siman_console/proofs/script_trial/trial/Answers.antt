@@ -1,21 +1,25 @@
 -- What was fetched is tried as all that there was would be.
-use Rattle.std.proofs.Common.{subst}
+use Rattle.std.proofs.Common.{Err, subst}
 use Rattle.siman_scripts.specs.Script.{script_at}
+use Rattle.siman_console.specs.declared.trial_fault.TrialFault.TheVariants.{Read, Memory}
 use Rattle.siman_console.specs.Trial.{Tries}
-use Rattle.siman_console.proofs.Trials.{tries_fetched, not_read, some_read, some_short}
+use Rattle.siman_console.proofs.Inputs.{of_script, of_any}
+use Rattle.siman_console.proofs.Openings.{keeps_all}
 use Rattle.siman_console.proofs.script_trial.trial.Goals as goal
 
-pub returns-in-Ok-clause-known : goal.returns-in-Ok-clause-known
-returns-in-Ok-clause-known g c =
-    tries_fetched (g.R.Read.remaining c.args.input) c.in-Ok.text.items c.try_text.result _ _ c.in-Ok.ensures.text
-    (subst (λ text. Tries (script_at text) c.try_text.result (g.W.Write.contents c.args.out.now) (g.W.Write.contents c.try_text.new.out)) c.deref.ensures.value
-    c.try_text.ensures)
+pub returns-in-Ok : goal.returns-in-Ok
+returns-in-Ok g c =
+    let w = g.W.Write.contents in
+    of_script (λ scripted. Tries scripted c.try_text.result (w c.args.out.now) (w c.try_text.new.out)) (g.R.Read.remaining c.args.input)
+    c.in-Ok.text.items c.in-Ok.ensures.text
+    (subst (λ text. Tries (script_at text) c.try_text.result (w c.args.out.now) (w c.try_text.new.out)) c.deref.ensures.value c.try_text.ensures)
 
-pub returns-in-Err-Memory-clause-some : goal.returns-in-Err-Memory-clause-some
-returns-in-Err-Memory-clause-some g c = some_short (g.W.Write.contents c.args.out.now)
+pub returns-in-Err-Memory : goal.returns-in-Err-Memory
+returns-in-Err-Memory g c =
+    let kept = g.W.Write.contents c.args.out.now in
+    of_any (λ text. Tries (script_at text) (Err Memory) kept kept) (g.R.Read.remaining c.args.input) (λ text. keeps_all kept)
 
 pub returns : goal.returns
-returns g c = record {
-  known = not_read (g.R.Read.remaining c.args.input) (g.W.Write.contents c.args.out.now);
-  some = some_read (g.W.Write.contents c.args.out.now);
-}
+returns g c =
+    let kept = g.W.Write.contents c.args.out.now in
+    of_any (λ text. Tries (script_at text) (Err Read) kept kept) (g.R.Read.remaining c.args.input) (λ text. keeps_all kept)

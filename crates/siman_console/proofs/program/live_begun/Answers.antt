@@ -1,0 +1,16 @@
+-- No file stands under the name, and it went on.
+use Rattle.std.proofs.Common.{[], ◌∷◌, ◌++◌, false, refl}
+use Rattle.std.proofs.lemmas.List.Elements.{All-append}
+use Rattle.siman_console.specs.Outside.{LooksFor, WasHeld}
+use Rattle.siman_console.proofs.Openings.{adds_then, all_one}
+use Rattle.siman_console.proofs.program.live_begun.Goals as goal
+
+pub returns : goal.returns
+returns g c =
+    let looked = LooksFor c.args.name.now false in
+    let rest = c.live_at_lines.ensures in (
+      looked ∷ rest.0,
+      adds_then _ _ _ (looked ∷ []) rest.0 c.if-is_taken.ensures.done rest.1,
+      (λ holds. All-append (WasHeld holds) (looked ∷ []) rest.0 (all_one (WasHeld holds) looked tt) (rest.2 holds)),
+      (refl, rest.3),
+    )

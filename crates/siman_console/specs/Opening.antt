@@ -1,0 +1,42 @@
+-- How files are opened to be read, while another is to be made (profile).
+use Rattle.std.specs.Prelude.{◌≡◌, ◌≢◌, ◌⊎◌, ℕ, true, false, List, [], ◌∷◌, ◌++◌, codes, Option, Result, Ok, Err}
+use Rattle.std.specs.Io.KnownBytes.{Keeps}
+use Rattle.std.specs.declared.io.ErrorKind.{ErrorKind}
+use Rattle.std.specs.declared.io.ErrorKind.TheVariants.{OutOfMemory}
+use Rattle.siman_console.specs.declared.fault.Fault.{Fault}
+use Rattle.siman_console.specs.declared.fault.Fault.TheVariants.{Memory}
+use Rattle.siman_console.specs.Ending.{fault_text}
+use Rattle.siman_console.specs.Input.{Gives}
+use Rattle.siman_console.specs.Making.{Answered}
+use Rattle.siman_console.specs.Outside.{Deed, Opens, Compares}
+use Rattle.siman_console.specs.Outcome.{Stream}
+
+-- how a file that was not opened is told: want of memory, or else `file: NAME` with the name as it was given
+abbrev pub IsUnopened : List ℕ → ErrorKind → Fault → Type 0
+IsUnopened name kind fault = ((kind ≡ OutOfMemory) × (fault ≡ Memory)) ⊎ ((kind ≢ OutOfMemory) × (fault_text fault ≡ codes "file: " ++ name))
+
+abbrev pub TellsUnopened : List ℕ → ErrorKind → Answered → Stream → Type 0
+TellsUnopened name kind answered out = Keeps out.old out.new × ((fault : Fault) × IsUnopened name kind fault × (answered ≡ Err fault))
+
+-- how it is told that the file to be made is the one that was opened: `output: same as NAME` with the name of that one as it was given
+abbrev pub IsSame : List ℕ → Fault → Type 0
+IsSame name fault = fault_text fault ≡ codes "output: same as " ++ name
+
+-- the bytes of a file that was opened, where they are known, or why it was not
+abbrev pub bytes_by : {F : Type 0} → (F → Option (List ℕ)) → Result F Fault → Result (Option (List ℕ)) Fault
+bytes_by remaining (Ok file) = Ok (remaining file)
+bytes_by remaining (Err fault) = Err fault
+
+-- A FILE IS OPENED that is not the one to be made; else nothing is read of it
+abbrev pub OpensApart : (name made : List ℕ) → List Deed → Result (Option (List ℕ)) Fault → Type 0
+OpensApart name made deeds (Ok bytes) = deeds ≡ Opens name (Ok bytes) ∷ Compares made false ∷ []
+OpensApart name made deeds (Err fault) =
+    ((kind : ErrorKind) × (deeds ≡ Opens name (Err kind) ∷ []) × IsUnopened name kind fault)
+    ⊎ ((bytes : Option (List ℕ)) × (deeds ≡ Opens name (Ok bytes) ∷ Compares made true ∷ []) × IsSame name fault)
+
+-- A FILE IS OPENED, and it goes on with what is read of it; or it is told why not
+abbrev pub GoesOn : {A : Type 0} → (name made : List ℕ) → (read : List ℕ → A) → (Goes : A → List Deed → Answered → Stream → Type 0) → List Deed → Answered → Stream → Type 0
+GoesOn {A} name made read Goes deeds answered out =
+    ((fault : Fault) × OpensApart name made deeds (Err fault) × (answered ≡ Err fault) × Keeps out.old out.new)
+    ⊎ ((known : Option (List ℕ)) × (rest : List Deed) × (deeds ≡ Opens name (Ok known) ∷ Compares made false ∷ rest)
+    × ((a : A) × Gives read known a × Goes a rest answered out))

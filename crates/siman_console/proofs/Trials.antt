@@ -1,5 +1,5 @@
 -- Why the search of a world's recording is never blocked, and what a trial answers.
-use Rattle.std.proofs.Common.{◌≡◌, ℕ, List, Option, None, refl, subst, ap, ◌∙◌}
+use Rattle.std.proofs.Common.{◌≡◌, ℕ, List, ◌++◌, Option, None, refl, subst, ap, ◌∙◌}
 use Rattle.std.specs.Io.KnownBytes.{Appends}
 use Rattle.byte_files.specs.Writing.{WritesPart}
 use Rattle.exercise_check.specs.declared.certificate.Step.{Step}
@@ -38,3 +38,9 @@ pub is_tried_in_part : (s : ScriptData) (r : PlainRecording) (text : List ℕ) (
     → IsRun r.setting (past r.entries) → (steps : List Step) × IsGood r steps → text ≡ trial_text r → WritesPart old new text → IsTriedInPart s old new
 is_tried_in_part s r text old new same runs run found texts part =
     (closed s r same runs run found, subst (WritesPart old new) (texts ∙ ap trial_text same) part)
+
+-- three texts, one behind the other
+pub joined : (whole most first second third one two three : List ℕ) → whole ≡ most ++ third → most ≡ first ++ second → first ≡ one → second ≡ two
+    → third ≡ three → whole ≡ (one ++ two) ++ three
+joined whole most first second third one two three a b c d e =
+    a ∙ ap (λ t. t ++ third) (b ∙ ap (λ t. t ++ second) c ∙ ap (λ t. one ++ t) d) ∙ ap (λ t. (one ++ two) ++ t) e

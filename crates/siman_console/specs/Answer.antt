@@ -1,5 +1,5 @@
 -- What the command `pdu` answers, and how it ends.
-use Rattle.std.specs.Prelude.{◌≡◌, ℕ, ◌++◌, codes, decimal, ◌≤◌, List, [], take, Option, Some, None, Result, Ok, Err}
+use Rattle.std.specs.Prelude.{◌≡◌, ℕ, codes, ◌≤◌, List, [], ◌∷◌, take, Option, Some, None, Result, Ok, Err}
 use Rattle.std.specs.Io.KnownBytes.{Appends, Keeps}
 use Rattle.dis_records.specs.Header.{header_at}
 use Rattle.siman_pdus.specs.declared.fault.PduFault.{PduFault}
@@ -11,8 +11,9 @@ use Rattle.siman_console.specs.declared.fault.Fault.TheVariants.{NotBytePairs, H
 use Rattle.siman_console.specs.Ending.{EndsWith}
 use Rattle.siman_console.specs.HexText.{bytes_of}
 use Rattle.siman_texts.specs.declared.spelling.Spelling.TheVariants.{Text}
-use Rattle.siman_texts.specs.Spelled.{lines_spelled}
-use Rattle.siman_console.specs.Records.{pdu_lines, line_end}
+use Rattle.siman_texts.specs.Line.{Number, Phrase, Bare, Line, named_line}
+use Rattle.siman_texts.specs.Spelled.{line_text, lines_spelled}
+use Rattle.siman_console.specs.Records.{pdu_lines}
 
 -- a status, and the text that goes out before
 pub record Said : Type 0 where
@@ -23,11 +24,11 @@ abbrev pub said_of_pdu : Pdu → Said
 said_of_pdu pdu = record { status = 0; text = lines_spelled Text (pdu_lines pdu) }
 
 -- refused NUMBER NAME
-abbrev pub refusal_line : PduFault → List ℕ
-refusal_line fault = codes "refused " ++ decimal (refusal_number fault) ++ codes " " ++ pdu_fault_text fault ++ line_end
+abbrev pub refusal_line : PduFault → Line
+refusal_line fault = named_line (codes "refused") (Bare (codes "number") (Number (refusal_number fault)) ∷ Bare (codes "fault") (Phrase (pdu_fault_text fault)) ∷ [])
 
 abbrev pub refused : PduFault → Said
-refused fault = record { status = 1; text = refusal_line fault }
+refused fault = record { status = 1; text = line_text (refusal_line fault) }
 
 abbrev pub said_of_reading : Option PduFault → Pdu → Said
 said_of_reading None pdu = said_of_pdu pdu

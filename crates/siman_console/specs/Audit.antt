@@ -21,6 +21,7 @@ use Rattle.siman_console.specs.declared.fault.Fault.TheVariants.{Recording, Outp
 use Rattle.siman_console.specs.declared.audit.Finding.{Finding}
 use Rattle.siman_console.specs.declared.audit.Finding.TheVariants.{Order, Stuck}
 use Rattle.siman_console.specs.Check.{Recorded}
+use Rattle.siman_console.specs.CountLine.{counted}
 use Rattle.siman_console.specs.Ending.{EndsWith}
 use Rattle.siman_console.specs.Outcome.{Stream}
 use Rattle.siman_texts.specs.Line.{Number, Word, Bare, Keyed, Line, named_line}
@@ -30,14 +31,14 @@ use Rattle.siman_texts.specs.Spelled.{address_text, line_text, lines_text}
 
 -- explained steps=N
 abbrev pub explained_line : ℕ → Line
-explained_line steps = named_line (codes "explained") (Keyed (codes "steps") (Number steps) ∷ [])
+explained_line steps = counted (codes "explained") (codes "steps") steps
 
 abbrev pub explained_text : ℕ → List ℕ
 explained_text steps = line_text (explained_line steps)
 
 -- blocked stations=N
 abbrev pub blocked_line : ℕ → Line
-blocked_line stations = named_line (codes "blocked") (Keyed (codes "stations") (Number stations) ∷ [])
+blocked_line stations = counted (codes "blocked") (codes "stations") stations
 
 -- blocked SITE:APPLICATION record=N cause=N NAME
 abbrev pub block_at : Pair → Block → Line

@@ -8,14 +8,15 @@ use Rattle.siman_console.specs.declared.convert.Carried.{Carried}
 use Rattle.siman_console.specs.declared.fault.Fault.{Fault}
 use Rattle.siman_console.specs.declared.fault.Fault.TheVariants.{Already}
 use Rattle.siman_console.specs.Check.{Recorded}
+use Rattle.siman_console.specs.CountLine.{counted}
 use Rattle.siman_console.specs.Outcome.{Stream}
-use Rattle.siman_texts.specs.Line.{Number, Keyed, Line, named_line}
+use Rattle.siman_texts.specs.Line.{Line}
 use Rattle.siman_texts.specs.Spelled.{line_text}
 use Rattle.siman_console.specs.Audit.{IsUnsearched, PutsBoth}
 
 -- converted records=N
 abbrev pub converted_line : (entries : ℕ) → Line
-converted_line entries = named_line (codes "converted") (Keyed (codes "records") (Number entries) ∷ [])
+converted_line entries = counted (codes "converted") (codes "records") entries
 
 abbrev pub converted_text : (entries : ℕ) → List ℕ
 converted_text entries = line_text (converted_line entries)

@@ -16,6 +16,7 @@ pub mod Live
 pub mod Trial
 pub mod Pdus
 pub mod Program
+pub mod CountLine
 pub mod Input
 pub mod Making
 pub mod Opening

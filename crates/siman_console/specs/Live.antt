@@ -11,12 +11,17 @@ use Rattle.siman_console.specs.declared.fault.Fault.{Fault}
 use Rattle.siman_console.specs.declared.fault.Fault.TheVariants.{NotBytePairs, HexLine, Input, File, Words, Recording, Already, Certificate, Script, ScriptRead, World, LineFailed, Output, SameAs, Exists, Memory}
 use Rattle.siman_console.specs.declared.live.Begun.{Begun}
 use Rattle.siman_console.specs.Outcome.{Stream}
-use Rattle.siman_console.specs.Records.{line_end}
+use Rattle.siman_console.specs.CountLine.{counted}
+use Rattle.siman_texts.specs.Line.{Line}
+use Rattle.siman_texts.specs.Spelled.{line_text}
 use Rattle.siman_console.specs.World.{Scripted}
 
 -- live records=N
-abbrev pub live_line : ℕ → List ℕ
-live_line entries = codes "live records=" ++ decimal entries ++ line_end
+abbrev pub live_line : ℕ → Line
+live_line entries = counted (codes "live") (codes "records") entries
+
+abbrev pub live_text : ℕ → List ℕ
+live_text entries = line_text (live_line entries)
 
 -- WHAT COMES OF A SCRIPT BEFORE ITS MOVES: its stations begin and their lines stand, or it is told why not. The first line of the script that is refused, stations that a world cannot have, lines that cannot be had; a failed read may come in place of the script, want of memory at any time.
 abbrev pub BeginsNone : Scripted → Fault → Type 0
@@ -43,14 +48,14 @@ BeginsNone scripted Memory = ⊤
 
 -- WHAT IS TOLD OF SO MANY MOVES: with status 0 the line with the number of entries is out, whole. A move that is refused is one of these. After a failed write a prefix of the line is out, or nothing; after any other fault nothing.
 abbrev pub TellsMoves : (count : ℕ) → Result ℕ Fault → (out : Stream) → Type 0
-TellsMoves count (Ok status) out = (status ≡ 0) × ((n : ℕ) × (n ≤ MOST_ENTRIES) × Appends out.old out.new (live_line n))
+TellsMoves count (Ok status) out = (status ≡ 0) × ((n : ℕ) × (n ≤ MOST_ENTRIES) × Appends out.old out.new (live_text n))
 TellsMoves count (Err (World worlds.Stations)) out = ⊥
 TellsMoves count (Err (World (worlds.Move number fault))) out = (number < count) × Keeps out.old out.new
 TellsMoves count (Err (World worlds.Memory)) out = ⊥
 TellsMoves count (Err LineFailed) out = Keeps out.old out.new
 TellsMoves count (Err (SameAs name)) out = ⊥
 TellsMoves count (Err Exists) out = ⊥
-TellsMoves count (Err Output) out = Keeps out.old out.new ⊎ ((n : ℕ) × (n ≤ MOST_ENTRIES) × WritesPart out.old out.new (live_line n))
+TellsMoves count (Err Output) out = Keeps out.old out.new ⊎ ((n : ℕ) × (n ≤ MOST_ENTRIES) × WritesPart out.old out.new (live_text n))
 TellsMoves count (Err Memory) out = Keeps out.old out.new
 TellsMoves count (Err NotBytePairs) out = ⊥
 TellsMoves count (Err (HexLine number)) out = ⊥

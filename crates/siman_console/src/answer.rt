@@ -4,12 +4,13 @@ ghost use Rattle.std.specs.Prelude.{◌≡◌, ℕ, ◌<◌, ◌≤◌, List, le
 ghost use Rattle.hex.specs.Hex.{IsBytes, encode_lower};
 ghost use Rattle.siman_pdus.specs.declared.pdu.Pdu.{Pdu};
 ghost use Rattle.siman_pdus.specs.Spelling.{Spells};
+ghost use Rattle.siman_texts.specs.Spelled.{line_text};
 ghost use Rattle.siman_console.specs.Answer.{refusal_line, answer_to, said_of_hex, said_of_pdu};
 ghost use Rattle.siman_console.specs.Pdus.{told_of_said, told_of_line};
 
 use crate::records::pdu_lines;
 use siman_pdus::{PduFault, spellings_are_apart, view};
-use siman_texts::Spelling;
+use siman_texts::{Field, Line, Spelling, Value, put_line};
 use std::alloc::{AllocError, Global};
 use std::marker::Model;
 
@@ -37,11 +38,15 @@ impl Model for Answer {
 
 /// The line of a refusal, with its number and what was found or where.
 fn refusal_line(alloc: Global, fault: PduFault) -> Result<String, AllocError>
-    ensures { IfOk result (λ line. string_bytes line ≡ refusal_line fault) }
+    ensures { IfOk result (λ line. string_bytes line ≡ line_text (refusal_line fault)) }
 {
-    let number = fault.number();
+    let words = format!(in alloc; "{fault}")?;
+    let fields = [
+        Field::Bare("number", Value::Number(fault.number() as u64)),
+        Field::Bare("fault", Value::Phrase(&words)),
+    ];
     let mut line = String::new(alloc);
-    writeln!(line, "refused {number} {fault}")?;
+    put_line(&mut line, Spelling::Text, &Line::named("refused", &fields))?;
     Ok(line)
 }
 

@@ -11,8 +11,9 @@ ghost use Rattle.siman_console.specs.declared.show.TheConstants.{LARGEST_RECORDI
 ghost use Rattle.siman_console.specs.Input.{Has};
 ghost use Rattle.siman_console.specs.Outcome.{Stream};
 ghost use Rattle.siman_texts.specs.Spelled.{line_text, lines_text};
-ghost use Rattle.siman_console.specs.Audit.{explained_text, block_at, block_line, Finds, Searches, PutsBlocked, PutsFinding, TellsAudit, EndsAudit};
+ghost use Rattle.siman_console.specs.Audit.{block_at, block_line, Finds, Searches, PutsBlocked, PutsFinding, TellsAudit, EndsAudit};
 
+use crate::count_line::counted;
 use crate::fault::{Fault, end};
 use crate::making::{Making, settle_and_say};
 use crate::show::LARGEST_RECORDING;
@@ -125,7 +126,7 @@ fn order<L: ExerciseLog>(
     let steps = log.entry_count();
     Ok(Finding::Order(OrderTexts {
         certificate: certificate_bytes(alloc, certificate)?,
-        line: explained_line(alloc, steps)?,
+        line: counted(alloc, "explained", "steps", steps)?,
     }))
 }
 
@@ -140,29 +141,13 @@ fn certificate_bytes(alloc: Global, certificate: &Certificate) -> Result<Vec<u8>
     }
 }
 
-/// The line of an order of so many steps.
-pub(crate) fn explained_line(alloc: Global, steps: usize) -> Result<String, AllocError>
-    ensures { IfOk result (λ line. string_bytes line ≡ explained_text steps) }
-{
-    let mut line = String::new(alloc);
-    let fields = [Field::Keyed("steps", Value::Number(steps as u64))];
-    put_line(
-        &mut line,
-        Spelling::Text,
-        &Line::named("explained", &fields),
-    )?;
-    Ok(line)
-}
-
 /// The blocked list of a recording that no order explains.
 #[tactic(auto, using(crate::proofs::Searches::blocks_within))]
 fn stuck<L: ExerciseLog>(alloc: Global, log: &L, blocks: &[Block]) -> Result<Finding, AllocError>
     requires { IsBlocked (L.recording log.now) blocks.now }
     ensures { IfOk result (Finds (Ok (L.recording log.now))) }
 {
-    let mut text = String::new(alloc);
-    let fields = [Field::Keyed("stations", Value::Number(blocks.len() as u64))];
-    put_line(&mut text, Spelling::Text, &Line::named("blocked", &fields))?;
+    let mut text = counted(alloc, "blocked", "stations", blocks.len())?;
     put_blocks(alloc, &mut text, log, blocks)?;
     Ok(Finding::Stuck(text))
 }

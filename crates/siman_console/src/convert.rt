@@ -1,17 +1,16 @@
 //! The command `convert`: a recording of the first format as one of the second.
 
-ghost use Rattle.std.specs.Prelude.{◌≡◌, IfOk, string_bytes};
 ghost use Rattle.exercise_recording.specs.Reading.{recording_at};
 ghost use Rattle.siman_console.specs.declared.convert.TheConstants.{LARGEST_OLD_RECORDING};
 ghost use Rattle.siman_console.specs.Check.{Recorded};
 ghost use Rattle.siman_console.specs.Input.{Gives};
-ghost use Rattle.siman_console.specs.Convert.{converted_text, Carries};
+ghost use Rattle.siman_console.specs.Convert.{Carries};
 
+use crate::count_line::counted;
 use crate::fault::Fault;
 use crate::making::{Making, settle_and_say};
 use exercise_recording::Conversion;
-use siman_texts::{Field, Line, Spelling, Value, put_line};
-use std::alloc::{AllocError, Global};
+use std::alloc::Global;
 use std::io::{Read, Write};
 
 /// The size in bytes of the largest recording that is carried over to the second format: the new one
@@ -30,22 +29,9 @@ pub(crate) fn carry<R: Read + Drop>(alloc: Global, old: R) -> Result<Carried, Fa
     ensures { (recorded : Recorded) × Gives (recording_at LARGEST_OLD_RECORDING) (R.remaining old) recorded × Carries recorded result }
 {
     let conversion = Conversion::read(alloc, old, LARGEST_OLD_RECORDING)?;
-    let line = converted_line(alloc, conversion.entry_count())?;
+    let entries = conversion.entry_count() as usize;
+    let line = counted(alloc, "converted", "records", entries)?;
     Ok(Carried { conversion, line })
-}
-
-/// The line of a recording with so many entries.
-fn converted_line(alloc: Global, entries: u32) -> Result<String, AllocError>
-    ensures { IfOk result (λ line. string_bytes line ≡ converted_text entries) }
-{
-    let mut line = String::new(alloc);
-    let fields = [Field::Keyed("records", Value::Number(entries as u64))];
-    put_line(
-        &mut line,
-        Spelling::Text,
-        &Line::named("converted", &fields),
-    )?;
-    Ok(line)
 }
 
 /// The file of a recording in the second format.

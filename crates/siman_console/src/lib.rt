@@ -14,6 +14,7 @@ mod answer;
 mod audit;
 mod check;
 mod convert;
+mod count_line;
 mod entry_lines;
 mod fault;
 mod files_fault;

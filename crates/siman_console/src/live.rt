@@ -1,12 +1,13 @@
 //! The command `live`: the moves of a script, made by stations that each have a line of their own.
 
-ghost use Rattle.std.specs.Prelude.{◌≡◌, ◌≤◌, ℕ, List, Ok, IfOk, IfErr, length, string_bytes};
+ghost use Rattle.std.specs.Prelude.{◌≤◌, ℕ, List, Ok, IfOk, IfErr, length};
 ghost use Rattle.exercise_model.specs.declared.recording.TheConstants.{MOST_ENTRIES};
 ghost use Rattle.siman_scripts.specs.Script.{script_at};
-ghost use Rattle.siman_console.specs.Live.{Begins, TellsMoves, HaltsIn, live_line};
+ghost use Rattle.siman_console.specs.Live.{Begins, TellsMoves, HaltsIn};
 ghost use Rattle.siman_console.specs.Outcome.{Stream};
 ghost use Rattle.siman_console.specs.Input.{Has};
 
+use crate::count_line::counted;
 use crate::fault::Fault;
 use crate::input::read_text;
 use crate::live_moves::make_move;
@@ -17,7 +18,7 @@ use siman_lines::{Line, StationAtLine};
 use siman_scripts::{LARGEST_SCRIPT, Move, Script, read_script};
 use siman_stations::Node;
 use siman_worlds::{Beginning, begin_world};
-use std::alloc::{AllocError, Global};
+use std::alloc::Global;
 use std::io::{Read, Write};
 
 /// The stations of a script as they are begun, and the moves that it asks for.
@@ -83,20 +84,11 @@ pub(crate) fn put_moves<L: Line + Drop, F: Write, W: Write>(
         TellsMoves (length moves.items) result out }
 {
     let entries = record_moves(alloc, head, stations, moves, file)?;
-    let line = live_line(alloc, entries)?;
+    let line = counted(alloc, "live", "records", entries as usize)?;
     match put(out, line.as_bytes()) {
         Ok(()) => Ok(0),
         Err(_) => Err(Fault::Output),
     }
-}
-
-/// The line of `live`: how many entries its recording has.
-fn live_line(alloc: Global, entries: u32) -> Result<String, AllocError>
-    ensures { IfOk result (λ line. string_bytes line ≡ live_line entries) }
-{
-    let mut line = String::new(alloc);
-    writeln!(line, "live records={entries}")?;
-    Ok(line)
 }
 
 /// Makes moves in their order, and writes the recording of what comes of them. How many entries it

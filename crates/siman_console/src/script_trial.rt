@@ -10,7 +10,7 @@ ghost use Rattle.siman_scripts.specs.Script.{script_at};
 ghost use Rattle.siman_console.specs.Input.{Has};
 ghost use Rattle.siman_console.specs.Trial.{trial_text, Performs, Tries, tried_status, TellsTrial};
 
-use crate::audit::explained_line;
+use crate::count_line::counted;
 use crate::fault::Fault;
 use crate::input::read_text;
 use crate::report::report_text;
@@ -100,7 +100,7 @@ fn trial_text(alloc: Global, log: &Recording) -> Result<String, AllocError>
     let certificate = explain(alloc, log)?;
     let checked = accept(alloc, log, &certificate)?;
     let mut text = world_line(alloc, log)?;
-    text.push_str(&explained_line(alloc, log.entry_count())?)?;
+    text.push_str(&counted(alloc, "explained", "steps", log.entry_count())?)?;
     text.push_str(&report_text(alloc, log, &checked)?)?;
     Ok(text)
 }

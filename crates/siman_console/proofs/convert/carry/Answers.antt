@@ -21,4 +21,4 @@ pub returns : goal.returns
 returns g c =
     let carried : Carried = record { conversion = c.in_ok-conversion.conversion; line = c.in_ok-line.line } in
     of_some (λ recorded. Readies recorded (Ok c.in_ok-conversion.conversion)) (λ recorded. Carries recorded (Ok carried)) (g.R.Read.remaining c.args.old)
-    (λ recorded ready. readied c.in_ok-conversion.conversion _ (c.in_ok-line.ensures ∙ ap converted_text c.entry_count.ensures) recorded ready) c.in_ok-conversion.ensures.known c.in_ok-conversion.ensures.some
+    (λ recorded ready. readied c.in_ok-conversion.conversion _ (c.in_ok-line.ensures ∙ ap converted_text c.entry_count-entries.ensures) recorded ready) c.in_ok-conversion.ensures.known c.in_ok-conversion.ensures.some

@@ -16,7 +16,7 @@ use Rattle.siman_console.specs.declared.hex_text.TheConstants.{LONGEST_HEX}
 use Rattle.siman_console.specs.declared.fault.Ended.{Ended}
 use Rattle.siman_console.specs.declared.fault.Fault.{Fault}
 use Rattle.siman_console.specs.Ending.{Wrote}
-use Rattle.siman_console.specs.declared.fault.Fault.TheVariants.{NotBytePairs, HexLine, Input, File, Words, Recording, Already, Certificate, Script, ScriptRead, World, LineFailed, Output, SameAs, Exists, Memory}
+use Rattle.siman_console.specs.declared.fault.Fault.TheVariants.{NotBytePairs, Input, Output, Memory}
 use Rattle.siman_console.specs.declared.pdus.Stop.{Stop}
 use Rattle.siman_console.specs.declared.pdus.Stop.TheVariants as stops
 use Rattle.siman_console.specs.Answer.{not_byte_pairs, said_of_reading, said_of_bytes, said_of_hex, IsSaid}
@@ -170,22 +170,10 @@ line-bad number line (Err (stops.Fault fault)) o p e f some bad kept told = absu
 pub line-stopped : (number : ℕ) (line : List ℕ) (fault : Fault) (o p e : Option (List ℕ)) → 0 < length line → IsSaid (said_of_hex line) (Err fault) o p
     → fault ≢ NotBytePairs → TellsLine (told_of_line number line) (Err (stops.Fault fault)) (stream o p) (stream e e)
 line-stopped number line NotBytePairs o p e some said other = absurd (other refl)
-line-stopped number line (HexLine n) o p e some said other = absurd said
-line-stopped number line Input o p e some said other = absurd said
-line-stopped number line (File name) o p e some said other = absurd said
-line-stopped number line Words o p e some said other = absurd said
-line-stopped number line (Recording f) o p e some said other = absurd said
-line-stopped number line (Certificate f) o p e some said other = absurd said
-line-stopped number line Already o p e some said other = absurd said
-line-stopped number line (Script f) o p e some said other = absurd said
-line-stopped number line ScriptRead o p e some said other = absurd said
-line-stopped number line (World f) o p e some said other = absurd said
-line-stopped number line LineFailed o p e some said other = absurd said
-line-stopped number line (SameAs name) o p e some said other = absurd said
-line-stopped number line Exists o p e some said other = absurd said
 line-stopped number line Output o p e some said other =
     (Keeps-refl e, inr (refl, subst (WritesPart o p) (sym (out_of_line number line some)) said))
 line-stopped number line Memory o p e some said other = (Keeps-refl e, inl (refl, said))
+line-stopped number line rest o p e some said other = absurd said
 
 -- what was told of what is held of a line is told of the line
 pub line-held : (number : ℕ) (b c : Option (List ℕ)) (buffer text : List ℕ) (held : ℕ) (result : Result ℕ Stop) (out errors : Stream)

@@ -7,7 +7,7 @@ use Rattle.siman_pdus.specs.declared.pdu.Pdu.{Pdu}
 use Rattle.siman_pdus.specs.Reading.{pdu_from, refusal_of}
 use Rattle.siman_pdus.specs.Texts.{refusal_number, pdu_fault_text}
 use Rattle.siman_console.specs.declared.fault.Fault.{Fault}
-use Rattle.siman_console.specs.declared.fault.Fault.TheVariants.{NotBytePairs, HexLine, Input, File, Words, Recording, Already, Certificate, Script, ScriptRead, World, LineFailed, Output, SameAs, Exists, Memory}
+use Rattle.siman_console.specs.declared.fault.Fault.TheVariants.{NotBytePairs, Output, Memory}
 use Rattle.siman_console.specs.Ending.{EndsWith}
 use Rattle.siman_console.specs.HexText.{bytes_of}
 use Rattle.siman_texts.specs.declared.spelling.Spelling.TheVariants.{Text}
@@ -53,21 +53,9 @@ said_of_hex text = said_of_bytes (bytes_of text)
 abbrev pub IsSaid : Said → Result ℕ Fault → Option (List ℕ) → Option (List ℕ) → Type 0
 IsSaid said (Ok status) old new = (status ≡ said.status) × (status ≤ 1) × Appends old new said.text
 IsSaid said (Err NotBytePairs) old new = (said ≡ not_byte_pairs) × Keeps old new
-IsSaid said (Err (HexLine number)) old new = ⊥
-IsSaid said (Err Input) old new = ⊥
-IsSaid said (Err (File name)) old new = ⊥
-IsSaid said (Err Words) old new = ⊥
-IsSaid said (Err (Recording fault)) old new = ⊥
-IsSaid said (Err (Certificate fault)) old new = ⊥
-IsSaid said (Err Already) old new = ⊥
-IsSaid said (Err (Script fault)) old new = ⊥
-IsSaid said (Err ScriptRead) old new = ⊥
-IsSaid said (Err (World fault)) old new = ⊥
-IsSaid said (Err LineFailed) old new = ⊥
-IsSaid said (Err (SameAs name)) old new = ⊥
-IsSaid said (Err Exists) old new = ⊥
 IsSaid said (Err Output) old new = (n : ℕ) × Appends old new (take n said.text)
 IsSaid said (Err Memory) old new = Keeps old new
+IsSaid said (Err other) old new = ⊥
 
 -- HOW `pdu` ENDS that had to say this: what it told is out, and it ends as that asks for
 abbrev pub EndsPdu : Said → (status : ℕ) → (old new : Option (List ℕ)) → (errors_old errors_new : Option (List ℕ)) → Type 0

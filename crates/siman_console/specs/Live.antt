@@ -8,7 +8,7 @@ use Rattle.siman_worlds.specs.declared.world_fault.WorldFault.TheVariants as wor
 use Rattle.siman_scripts.specs.Script.{ScriptData}
 use Rattle.siman_worlds.specs.World.{are_world_stations}
 use Rattle.siman_console.specs.declared.fault.Fault.{Fault}
-use Rattle.siman_console.specs.declared.fault.Fault.TheVariants.{NotBytePairs, HexLine, Input, File, Words, Recording, Already, Certificate, Script, ScriptRead, World, LineFailed, Output, SameAs, Exists, Memory}
+use Rattle.siman_console.specs.declared.fault.Fault.TheVariants.{Script, ScriptRead, World, LineFailed, Output, Memory}
 use Rattle.siman_console.specs.declared.live.Begun.{Begun}
 use Rattle.siman_console.specs.Outcome.{Stream}
 use Rattle.siman_console.specs.CountLine.{counted}
@@ -27,67 +27,28 @@ live_text entries = line_text (live_line entries)
 abbrev pub BeginsNone : Scripted → Fault → Type 0
 BeginsNone scripted (Script (scripts.BadLine line)) = scripted ≡ Err (scripts.BadLine line)
 BeginsNone scripted (Script (scripts.UnknownStation line)) = scripted ≡ Err (scripts.UnknownStation line)
-BeginsNone scripted (Script scripts.Memory) = ⊥
 BeginsNone scripted ScriptRead = ⊤
 BeginsNone scripted (World worlds.Stations) = (s : ScriptData) × (scripted ≡ Ok s) × (are_world_stations s.stations ≡ false)
-BeginsNone scripted (World (worlds.Move number fault)) = ⊥
-BeginsNone scripted (World worlds.Memory) = ⊥
 BeginsNone scripted LineFailed = (s : ScriptData) × (scripted ≡ Ok s) × (are_world_stations s.stations ≡ true)
-BeginsNone scripted (SameAs name) = ⊥
-BeginsNone scripted Exists = ⊥
-BeginsNone scripted NotBytePairs = ⊥
-BeginsNone scripted (HexLine number) = ⊥
-BeginsNone scripted Input = ⊥
-BeginsNone scripted (File name) = ⊥
-BeginsNone scripted Words = ⊥
-BeginsNone scripted (Recording fault) = ⊥
-BeginsNone scripted (Certificate fault) = ⊥
-BeginsNone scripted Already = ⊥
-BeginsNone scripted Output = ⊥
 BeginsNone scripted Memory = ⊤
+BeginsNone scripted other = ⊥
 
 -- WHAT IS TOLD OF SO MANY MOVES: with status 0 the line with the number of entries is out, whole. A move that is refused is one of these. After a failed write a prefix of the line is out, or nothing; after any other fault nothing.
 abbrev pub TellsMoves : (count : ℕ) → Result ℕ Fault → (out : Stream) → Type 0
 TellsMoves count (Ok status) out = (status ≡ 0) × ((n : ℕ) × (n ≤ MOST_ENTRIES) × Appends out.old out.new (live_text n))
-TellsMoves count (Err (World worlds.Stations)) out = ⊥
 TellsMoves count (Err (World (worlds.Move number fault))) out = (number < count) × Keeps out.old out.new
-TellsMoves count (Err (World worlds.Memory)) out = ⊥
 TellsMoves count (Err LineFailed) out = Keeps out.old out.new
-TellsMoves count (Err (SameAs name)) out = ⊥
-TellsMoves count (Err Exists) out = ⊥
 TellsMoves count (Err Output) out = Keeps out.old out.new ⊎ ((n : ℕ) × (n ≤ MOST_ENTRIES) × WritesPart out.old out.new (live_text n))
 TellsMoves count (Err Memory) out = Keeps out.old out.new
-TellsMoves count (Err NotBytePairs) out = ⊥
-TellsMoves count (Err (HexLine number)) out = ⊥
-TellsMoves count (Err Input) out = ⊥
-TellsMoves count (Err (File name)) out = ⊥
-TellsMoves count (Err Words) out = ⊥
-TellsMoves count (Err (Recording fault)) out = ⊥
-TellsMoves count (Err (Certificate fault)) out = ⊥
-TellsMoves count (Err Already) out = ⊥
-TellsMoves count (Err (Script fault)) out = ⊥
-TellsMoves count (Err ScriptRead) out = ⊥
+TellsMoves count (Err other) out = ⊥
 
 -- why moves halt, of which there are so many: a move that is refused is one of them
 abbrev pub HaltsIn : (count : ℕ) → Fault → Type 0
 HaltsIn count (World (worlds.Move number fault)) = number < count
 HaltsIn count LineFailed = ⊤
-HaltsIn count (SameAs name) = ⊥
-HaltsIn count Exists = ⊥
 HaltsIn count Output = ⊤
 HaltsIn count Memory = ⊤
-HaltsIn count (World worlds.Stations) = ⊥
-HaltsIn count (World worlds.Memory) = ⊥
-HaltsIn count NotBytePairs = ⊥
-HaltsIn count (HexLine number) = ⊥
-HaltsIn count Input = ⊥
-HaltsIn count (File name) = ⊥
-HaltsIn count Words = ⊥
-HaltsIn count (Recording fault) = ⊥
-HaltsIn count (Certificate fault) = ⊥
-HaltsIn count Already = ⊥
-HaltsIn count (Script fault) = ⊥
-HaltsIn count ScriptRead = ⊥
+HaltsIn count other = ⊥
 
 -- the stations of a script were begun, and its moves are these
 pub record IsBegun (scripted : Scripted) (begun : Begun) : Type 0 where

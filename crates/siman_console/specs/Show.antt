@@ -16,7 +16,7 @@ use Rattle.exercise_model.specs.History.{station_at}
 use Rattle.exercise_model.specs.Meaning.{meaning}
 use Rattle.byte_files.specs.Writing.{WritesPart}
 use Rattle.siman_console.specs.declared.fault.Fault.{Fault}
-use Rattle.siman_console.specs.declared.fault.Fault.TheVariants.{NotBytePairs, HexLine, Input, File, Words, Recording, Already, Certificate, Script, ScriptRead, World, LineFailed, Output, SameAs, Exists, Memory}
+use Rattle.siman_console.specs.declared.fault.Fault.TheVariants.{Recording, Output, Memory}
 use Rattle.siman_console.specs.Ending.{EndsWith}
 use Rattle.siman_texts.specs.declared.spelling.Spelling.TheVariants.{Text}
 use Rattle.siman_texts.specs.Line.{Number, Clock, Word, Field, Bare, Keyed, Called, Line, named_line, opened_line}
@@ -109,22 +109,9 @@ abbrev pub Shows : Result PlainRecording FormatFault → Result (Unit {0}) Fault
 Shows recorded (Ok x) old new = ShowsWhole recorded old new
 Shows recorded (Err (Recording (recordings.Format fault))) old new = (recorded ≡ Err fault) × Keeps old new
 Shows recorded (Err (Recording recordings.Read)) old new = Keeps old new
-Shows recorded (Err (Recording recordings.Memory)) old new = ⊥
-Shows recorded (Err NotBytePairs) old new = ⊥
-Shows recorded (Err (HexLine number)) old new = ⊥
-Shows recorded (Err Input) old new = ⊥
-Shows recorded (Err (File name)) old new = ⊥
-Shows recorded (Err Words) old new = ⊥
-Shows recorded (Err (Certificate fault)) old new = ⊥
-Shows recorded (Err Already) old new = ⊥
-Shows recorded (Err (Script fault)) old new = ⊥
-Shows recorded (Err ScriptRead) old new = ⊥
-Shows recorded (Err (World fault)) old new = ⊥
-Shows recorded (Err LineFailed) old new = ⊥
-Shows recorded (Err (SameAs name)) old new = ⊥
-Shows recorded (Err Exists) old new = ⊥
 Shows recorded (Err Output) old new = ShowsPart recorded old new
 Shows recorded (Err Memory) old new = Keeps old new ⊎ ShowsPart recorded old new
+Shows recorded (Err other) old new = ⊥
 
 -- the status of a recording that was shown is 0
 abbrev pub shown_status : Result (Unit {0}) Fault → Result ℕ Fault

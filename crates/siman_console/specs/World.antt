@@ -15,7 +15,7 @@ use Rattle.siman_worlds.specs.declared.world_fault.WorldFault.TheVariants as wor
 use Rattle.siman_scripts.specs.Script.{ScriptData}
 use Rattle.siman_worlds.specs.World.{WorldData, sent_in, world_recording, world_refusal}
 use Rattle.siman_console.specs.declared.fault.Fault.{Fault}
-use Rattle.siman_console.specs.declared.fault.Fault.TheVariants.{NotBytePairs, HexLine, Input, File, Words, Recording, Already, Certificate, Script, ScriptRead, World, LineFailed, Output, SameAs, Exists, Memory}
+use Rattle.siman_console.specs.declared.fault.Fault.TheVariants.{Script, ScriptRead, World, Output, Memory}
 use Rattle.siman_console.specs.Ending.{EndsWith}
 use Rattle.siman_console.specs.Outcome.{Stream}
 use Rattle.siman_texts.specs.Line.{Number, Keyed, Line, named_line}
@@ -51,24 +51,11 @@ Stops scripted fault = (s : ScriptData) × (scripted ≡ Ok s) × (refusal_of s 
 abbrev pub YieldsNone : Scripted → Fault → Type 0
 YieldsNone scripted (Script (scripts.BadLine line)) = scripted ≡ Err (scripts.BadLine line)
 YieldsNone scripted (Script (scripts.UnknownStation line)) = scripted ≡ Err (scripts.UnknownStation line)
-YieldsNone scripted (Script scripts.Memory) = ⊥
 YieldsNone scripted ScriptRead = ⊤
 YieldsNone scripted (World worlds.Stations) = Stops scripted worlds.Stations
 YieldsNone scripted (World (worlds.Move number fault)) = Stops scripted (worlds.Move number fault)
-YieldsNone scripted (World worlds.Memory) = ⊥
-YieldsNone scripted NotBytePairs = ⊥
-YieldsNone scripted (HexLine number) = ⊥
-YieldsNone scripted Input = ⊥
-YieldsNone scripted (File name) = ⊥
-YieldsNone scripted Words = ⊥
-YieldsNone scripted (Recording fault) = ⊥
-YieldsNone scripted (Certificate fault) = ⊥
-YieldsNone scripted Already = ⊥
-YieldsNone scripted LineFailed = ⊥
-YieldsNone scripted (SameAs name) = ⊥
-YieldsNone scripted Exists = ⊥
-YieldsNone scripted Output = ⊥
 YieldsNone scripted Memory = ⊤
+YieldsNone scripted other = ⊥
 
 abbrev pub Runs : Scripted → Result PlainRecording Fault → Type 0
 Runs scripted (Ok r) = Yields scripted r
@@ -103,20 +90,7 @@ PutsWorld r (Ok status) file out =
     (status ≡ 0) × Appends file.old file.new (recording_text r) × Appends out.old out.new (world_text r)
 PutsWorld r (Err Output) file out = WritesShort r file out
 PutsWorld r (Err Memory) file out = WritesPart file.old file.new (recording_text r) × Keeps out.old out.new
-PutsWorld r (Err NotBytePairs) file out = ⊥
-PutsWorld r (Err (HexLine number)) file out = ⊥
-PutsWorld r (Err Input) file out = ⊥
-PutsWorld r (Err (File name)) file out = ⊥
-PutsWorld r (Err Words) file out = ⊥
-PutsWorld r (Err (Recording fault)) file out = ⊥
-PutsWorld r (Err (Certificate fault)) file out = ⊥
-PutsWorld r (Err Already) file out = ⊥
-PutsWorld r (Err (Script fault)) file out = ⊥
-PutsWorld r (Err ScriptRead) file out = ⊥
-PutsWorld r (Err (World fault)) file out = ⊥
-PutsWorld r (Err LineFailed) file out = ⊥
-PutsWorld r (Err (SameAs name)) file out = ⊥
-PutsWorld r (Err Exists) file out = ⊥
+PutsWorld r (Err other) file out = ⊥
 
 -- What `world` tells: the script yields no recording, and nothing is written; or it yields one, and that is written.
 abbrev pub TellsWorld : Scripted → (answered : Result ℕ Fault) → (file out : Stream) → Type 0

@@ -17,6 +17,8 @@ pub(crate) struct Shelf<'a> {
     makes: Calls,
     /// The number of the call that fails, from 1, of those that lines make; 0: no lines can be had.
     line_fails: Option<u64>,
+    /// The file that was opened last.
+    opened: Option<&'a File>,
     pub(crate) asked: String,
     pub(crate) left: Option<Vec<u8>>,
 }
@@ -33,8 +35,27 @@ pub(crate) fn filled(
         files,
         makes,
         line_fails,
+        opened: None,
         asked: String::new(alloc),
         left: None,
+    }
+}
+
+impl Shelf<'_> {
+    /// A file that is made or created under a name.
+    fn begin(&mut self, name: &str) -> io::Result<Written> {
+        self.asked.push_str("make ")?;
+        self.asked.push_str(name)?;
+        self.asked.push('\n')?;
+        match found(self.files, name) {
+            Some(
+                File {
+                    shut: Some(kind),
+                    ..
+                },
+            ) => Err(io::Error::from(*kind)),
+            _ => Ok(write_to(self.alloc, self.makes)),
+        }
     }
 }
 
@@ -52,24 +73,41 @@ impl<'a> Outside for Shelf<'a> {
             return Err(io::Error::from(ErrorKind::NotFound));
         };
         match file.shut {
-            None => Ok(read_from(&file.bytes, file.calls)),
+            None => {
+                self.opened = Some(file);
+                Ok(read_from(&file.bytes, file.calls))
+            }
             Some(kind) => Err(io::Error::from(kind)),
         }
     }
 
-    fn make(&mut self, name: &str) -> io::Result<Written> {
-        self.asked.push_str("make ")?;
-        self.asked.push_str(name)?;
-        self.asked.push('\n')?;
-        match found(self.files, name) {
-            Some(
-                File {
-                    shut: Some(kind),
-                    ..
-                },
-            ) => Err(io::Error::from(*kind)),
-            _ => Ok(write_to(self.alloc, self.makes)),
+    fn is_opened(&mut self, _file: &Given<'a>, name: &str) -> bool {
+        match self.opened {
+            Some(opened) => opened.name.as_str() == name,
+            None => false,
         }
+    }
+
+    fn make(&mut self, name: &str) -> io::Result<Written> {
+        self.begin(name)
+    }
+
+    fn save(&mut self, file: Written) -> io::Result<()> {
+        self.left = Some(file.bytes);
+        Ok(())
+    }
+
+    fn discard(&mut self, _file: Written) {}
+
+    fn is_taken(&mut self, name: &str) -> bool {
+        match found(self.files, name) {
+            Some(file) => file.shut.is_none(),
+            None => false,
+        }
+    }
+
+    fn create(&mut self, name: &str) -> io::Result<Written> {
+        self.begin(name)
     }
 
     fn close(&mut self, file: Written) {

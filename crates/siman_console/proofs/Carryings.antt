@@ -1,16 +1,13 @@
 -- A recording that was read, and how `convert` ends with what it carried over.
-use Rattle.std.proofs.Common.{◌≡◌, ℕ, List, [], Option, Some, None, Result, Ok, Err, refl, sym, ap, ◌∙◌, inl, inr, subst}
-use Rattle.std.specs.Prelude.{IfSome, string_bytes}
+use Rattle.std.proofs.Common.{◌≡◌, ℕ, List, Option, Some, None, Result, Ok, Err, refl, ap, ◌∙◌, inl, inr}
+use Rattle.std.specs.Prelude.{IfSome}
 use Rattle.std.specs.Result.{IsErrAnd}
-use Rattle.std.specs.Io.KnownBytes.{Keeps}
 use Rattle.exercise_model.specs.Recording.{PlainRecording}
-use Rattle.exercise_model.specs.Conversion.{converted}
 use Rattle.exercise_recording.specs.declared.format_fault.RecordingFault.TheVariants as recordings
 use Rattle.exercise_recording.specs.declared.conversion.ConvertFault.{ConvertFault}
 use Rattle.exercise_recording.specs.declared.conversion.ConvertFault.TheVariants as converts
 use Rattle.exercise_recording.specs.Conversion.{ConversionData, IsOld, IsUnconverted, Readies}
 use Rattle.exercise_recording.specs.Reading.{recording_at}
-use Rattle.exercise_recording.specs.Text.{recording_text}
 use Rattle.siman_console.specs.declared.convert.Carried.{Carried}
 use Rattle.siman_console.specs.declared.convert.TheConstants.{LARGEST_OLD_RECORDING}
 use Rattle.siman_console.specs.declared.fault.Fault.{Fault}

@@ -4,7 +4,7 @@ use Rattle.siman_pdus.specs.declared.pdu.Body.{Body}
 use Rattle.siman_pdus.specs.declared.pdu.Body.TheVariants.{CreateEntity, RemoveEntity, StartResume, StopFreeze, Acknowledge, ActionRequest, ActionResponse, DataQuery, SetData, DataPdu, EventReport, Comment}
 use Rattle.siman_pdus.specs.declared.pdu.Pdu.{Pdu}
 use Rattle.siman_texts.specs.Keys.{has_no_key_twice}
-use Rattle.siman_texts.specs.Line.{Number, Word, Field, Bare, Line, opened_line}
+use Rattle.siman_texts.specs.Line.{Number, Field, Bare, Line, opened_line}
 use Rattle.exercise_model.specs.Entry.{Entry, Sent, Received, Told}
 use Rattle.exercise_model.specs.Meaning.{meaning}
 use Rattle.siman_console.specs.Head.{head_line, header_fields, identifier_field, kind_field, body_fields}

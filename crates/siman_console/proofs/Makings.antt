@@ -1,5 +1,5 @@
 -- What becomes of a file that was made.
-use Rattle.std.proofs.Common.{◌≡◌, ℕ, List, Option, Ok, Err, sym, subst}
+use Rattle.std.proofs.Common.{ℕ, List, Option, Ok, Err, sym, subst}
 use Rattle.siman_console.specs.Making.{Answered, IsSaved}
 use Rattle.siman_console.specs.Outside.{Deed, Found, WasHeld}
 

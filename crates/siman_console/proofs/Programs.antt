@@ -1,9 +1,6 @@
 -- What a command makes of what it read, by the names of its files.
-use Rattle.std.proofs.Common.{◌≡◌, ℕ, List, [], length, Option, Some, None, Result, Ok, Err, inl, inr, subst, refl}
+use Rattle.std.proofs.Common.{◌≡◌, ℕ, List, length, Option, Some, None, Ok, inl, inr, subst, refl}
 use Rattle.std.specs.Prelude.{IfSome, string_bytes}
-use Rattle.exercise_check.specs.Certificate.{certificate_text}
-use Rattle.exercise_model.specs.Conversion.{converted}
-use Rattle.exercise_recording.specs.Text.{recording_text}
 use Rattle.siman_scripts.specs.Text.{lines_of}
 use Rattle.siman_scripts.specs.declared.act.Move.{Move}
 use Rattle.siman_console.specs.declared.audit.Finding.{Finding}

@@ -1,6 +1,6 @@
 -- The search of a recording, and how `audit` ends with what it found.
-use Rattle.std.proofs.Common.{◌≡◌, ◌<◌, ℕ, zero, suc, List, [], ◌∷◌, ◌++◌, length, Option, Some, None, Result, Ok, Err, refl, inl, inr, subst, arith}
-use Rattle.std.specs.Prelude.{IfSome, string_bytes}
+use Rattle.std.proofs.Common.{◌≡◌, ◌<◌, ℕ, zero, suc, List, [], ◌∷◌, ◌++◌, length, Result, Ok, Err, refl, inl, inr, subst, arith}
+use Rattle.std.specs.Prelude.{string_bytes}
 use Rattle.std.specs.Result.{IsErrAnd}
 use Rattle.std.specs.List.{All}
 use Rattle.std.proofs.lemmas.List.Elements.{All-nil, All-push, All-same, All-weaker}
@@ -8,12 +8,11 @@ use Rattle.exercise_model.specs.Recording.{PlainRecording}
 use Rattle.exercise_model.specs.History.{History}
 use Rattle.exercise_recording.specs.declared.format_fault.RecordingFault.{RecordingFault}
 use Rattle.exercise_recording.specs.declared.format_fault.RecordingFault.TheVariants as recordings
-use Rattle.exercise_recording.specs.Reading.{recording_at, format_of}
+use Rattle.exercise_recording.specs.Reading.{format_of}
 use Rattle.byte_files.specs.Fields.{Fails}
 use Rattle.exercise_check.specs.declared.certificate.Step.{Step}
 use Rattle.exercise_audit.specs.declared.blocks.Block.{Block}
 use Rattle.exercise_audit.specs.Audit.{AreBlocks, IsBlocked}
-use Rattle.siman_console.specs.declared.show.TheConstants.{LARGEST_RECORDING}
 use Rattle.siman_console.specs.declared.fault.Fault.{Fault}
 use Rattle.siman_console.specs.declared.fault.Fault.TheVariants.{Memory}
 use Rattle.siman_console.specs.declared.audit.Finding.{Finding}

@@ -1,12 +1,12 @@
 -- How `world` ends that ran a script and wrote its recording, or could not.
-use Rattle.std.proofs.Common.{◌≡◌, ◌⊎◌, ℕ, List, [], Option, Some, None, Result, Ok, Err, refl, inl, inr, subst}
+use Rattle.std.proofs.Common.{◌≡◌, ◌⊎◌, ℕ, List, [], Option, Result, Ok, Err, refl, inl, inr, subst}
 use Rattle.std.specs.Result.{IsErrAnd}
 use Rattle.std.specs.Io.KnownBytes.{Appends}
 use Rattle.byte_files.specs.Writing.{WritesPart}
 use Rattle.exercise_model.specs.Recording.{PlainRecording}
 use Rattle.exercise_recording.specs.Text.{recording_text}
 use Rattle.siman_console.specs.declared.fault.Fault.{Fault}
-use Rattle.siman_console.specs.declared.fault.Fault.TheVariants.{ScriptRead, Output, Memory}
+use Rattle.siman_console.specs.declared.fault.Fault.TheVariants.{ScriptRead, Memory}
 use Rattle.std.proofs.KnownBytes.{Appends-kept}
 use Rattle.siman_console.specs.Making.{SaysSettled}
 use Rattle.siman_console.specs.Outcome.{Stream}

@@ -3,7 +3,6 @@ use Rattle.std.specs.Prelude.{◌≡◌, ◌⊎◌, ℕ, List, [], ◌∷◌, ma
 use Rattle.std.specs.Io.KnownBytes.{Appends, Keeps}
 use Rattle.byte_files.specs.Writing.{WritesPart}
 use Rattle.dis_records.specs.Address.{Pair}
-use Rattle.exercise_model.specs.declared.cause.Cause.{Cause}
 use Rattle.exercise_model.specs.Numbers.{cause_number, cause_text}
 use Rattle.exercise_model.specs.Recording.{PlainRecording}
 use Rattle.exercise_model.specs.History.{station_at}

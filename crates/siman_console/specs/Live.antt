@@ -1,5 +1,5 @@
 -- What `live` does with the stations and moves of a script, and how it ends (profile).
-use Rattle.std.specs.Prelude.{◌≡◌, ◌⊎◌, ◌≤◌, ◌<◌, ⊤, ℕ, true, false, List, ◌++◌, length, codes, decimal, Option, Some, None, Result, Ok, Err}
+use Rattle.std.specs.Prelude.{◌≡◌, ◌⊎◌, ◌≤◌, ◌<◌, ⊤, ℕ, true, false, List, codes, Result, Ok, Err}
 use Rattle.std.specs.Io.KnownBytes.{Appends, Keeps}
 use Rattle.byte_files.specs.Writing.{WritesPart}
 use Rattle.exercise_model.specs.declared.recording.TheConstants.{MOST_ENTRIES}

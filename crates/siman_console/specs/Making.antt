@@ -6,7 +6,7 @@ use Rattle.std.specs.declared.io.ErrorKind.{ErrorKind}
 use Rattle.std.specs.declared.io.ErrorKind.TheVariants.{OutOfMemory}
 use Rattle.siman_console.specs.declared.fault.Fault.{Fault}
 use Rattle.siman_console.specs.declared.fault.Fault.TheVariants.{Output, Memory}
-use Rattle.siman_console.specs.Outside.{Deed, Saved, Opens, Compares, Makes, Saves, Discards, LooksFor, Creates, Leaves}
+use Rattle.siman_console.specs.Outside.{Deed, Saved, Makes, Saves, Discards}
 use Rattle.siman_console.specs.Outcome.{Stream}
 
 -- what a command answered, its status, or the fault that it met

@@ -34,7 +34,26 @@ impl<'a> Outside for Table<'a> {
         Err(io::Error::from(ErrorKind::NotFound))
     }
 
+    fn is_opened(&mut self, _file: &Given<'a>, _name: &str) -> bool {
+        false
+    }
+
     fn make(&mut self, _name: &str) -> io::Result<Written> {
+        Ok(write_to(self.alloc, WELL))
+    }
+
+    fn save(&mut self, file: Written) -> io::Result<()> {
+        self.left = Some(file.bytes);
+        Ok(())
+    }
+
+    fn discard(&mut self, _file: Written) {}
+
+    fn is_taken(&mut self, _name: &str) -> bool {
+        false
+    }
+
+    fn create(&mut self, _name: &str) -> io::Result<Written> {
         Ok(write_to(self.alloc, WELL))
     }
 

@@ -1,6 +1,4 @@
 -- A recording that is none, a certificate that could not be read, or both judged.
-use Rattle.std.proofs.Common.{Ok}
-use Rattle.exercise_check.specs.Certificate as certificate
 use Rattle.exercise_recording.specs.Reading.{recording_at}
 use Rattle.siman_console.specs.declared.show.TheConstants.{LARGEST_RECORDING}
 use Rattle.siman_console.specs.Check.{Judges}

@@ -4,7 +4,7 @@ use Rattle.exercise_check.specs.Certificate.{certificate_at}
 use Rattle.exercise_recording.specs.Reading.{recording_at}
 use Rattle.siman_console.specs.declared.show.TheConstants.{LARGEST_RECORDING}
 use Rattle.siman_console.specs.declared.check.TheConstants.{LARGEST_CERTIFICATE}
-use Rattle.siman_console.specs.Check.{Certified, Recorded, Judges}
+use Rattle.siman_console.specs.Check.{Certified, Judges}
 use Rattle.siman_console.specs.Input.{Gives}
 use Rattle.siman_console.proofs.Inputs.{of_recording, of_any, unfetched_recording}
 use Rattle.siman_console.proofs.Openings.{keeps_all}

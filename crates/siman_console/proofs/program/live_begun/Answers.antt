@@ -1,5 +1,5 @@
 -- No file stands under the name, and it went on.
-use Rattle.std.proofs.Common.{[], ◌∷◌, ◌++◌, false, refl}
+use Rattle.std.proofs.Common.{[], ◌∷◌, false, refl}
 use Rattle.std.proofs.lemmas.List.Elements.{All-append}
 use Rattle.siman_console.specs.Outside.{LooksFor, WasHeld}
 use Rattle.siman_console.proofs.Openings.{adds_then, all_one}

@@ -1,5 +1,5 @@
 -- The text is that of the world, of the order and of the report, one behind the other.
-use Rattle.std.proofs.Common.{◌≡◌, ap, ◌∙◌}
+use Rattle.std.proofs.Common.{ap, ◌∙◌}
 use Rattle.siman_console.specs.Audit.{explained_text}
 use Rattle.siman_console.proofs.Trials.{joined}
 use Rattle.siman_console.proofs.script_trial.trial_text.Goals as goal

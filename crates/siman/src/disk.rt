@@ -1,0 +1,156 @@
+//! What the operating system has: its files, and sockets of its loopback.
+
+use crate::part::{Part, begin_part};
+use crate::sockets::lines_of;
+use siman_console::Outside;
+use siman_lines::UdpLine;
+use std::alloc::Global;
+use std::fs::{File, Metadata, OpenOptions};
+use std::io::{ErrorKind, Write};
+use std::os::unix::fs::MetadataExt;
+use std::{fs, io};
+
+/// The device and the number of a file: the same for each of its names.
+pub(crate) type Identity = (u64, u64);
+
+pub(crate) fn identity(known: &Metadata) -> Identity {
+    (known.dev(), known.ino())
+}
+
+/// A file that was made.
+#[derive(Drop)]
+pub(crate) struct MadeFile {
+    file: File,
+    /// Where it stands until it takes its name; nothing where it is written as it stands there.
+    part: Option<Part>,
+}
+
+/// A device, a pipe, a socket or a file that was created, which is written as it stands.
+fn in_place(file: File) -> MadeFile {
+    MadeFile { file, part: None }
+}
+
+impl Write for MadeFile {
+    fn write(&mut self, buf: &[u8]) -> io::Result<usize> {
+        self.file.write(buf)
+    }
+
+    fn flush(&mut self) -> io::Result<()> {
+        match self.part {
+            Some(_) => self.file.sync_all(),
+            None => Ok(()),
+        }
+    }
+}
+
+/// The disk, and which file was opened last.
+#[derive(Drop)]
+pub(crate) struct Disk<'a> {
+    rt: &'a HostRuntime,
+    opened: Option<Identity>,
+}
+
+/// The disk, of which no file was opened.
+pub(crate) fn disk_of(rt: &HostRuntime) -> Disk<'_> {
+    Disk { rt, opened: None }
+}
+
+impl Disk<'_> {
+    /// Opens what stands under a name to write it, and leaves it as it is.
+    fn standing(&self, name: &str) -> io::Result<File> {
+        OpenOptions::new().write(true).open(self.rt, name)
+    }
+
+    /// Begins a file beside a name, which is to take that name from the file that stands there, if
+    /// one does. An input is not to be replaced.
+    fn beside(&self, name: &str, stands: Option<&Metadata>) -> io::Result<MadeFile> {
+        if let (Some(known), Some(opened)) = (stands, self.opened)
+            && identity(known) == opened
+        {
+            return Err(io::Error::from(ErrorKind::AlreadyExists));
+        }
+        let (file, part) = begin_part(self.rt, name, stands, self.opened)?;
+        Ok(MadeFile {
+            file,
+            part: Some(part),
+        })
+    }
+}
+
+impl Outside for Disk<'_> {
+    type File = File;
+
+    type Made = MadeFile;
+
+    type Line = UdpLine;
+
+    fn open(&mut self, name: &str) -> io::Result<File> {
+        let file = File::open(self.rt, name)?;
+        self.opened = Some(identity(&file.metadata()?));
+        Ok(file)
+    }
+
+    fn is_opened(&mut self, file: &File, name: &str) -> bool {
+        match (file.metadata(), fs::metadata(self.rt, name)) {
+            (Ok(opened), Ok(known)) => known.is_file() && identity(&known) == identity(&opened),
+            _ => false,
+        }
+    }
+
+    fn make(&mut self, name: &str) -> io::Result<MadeFile> {
+        match self.standing(name) {
+            Ok(file) => {
+                let known = file.metadata()?;
+                if known.is_file() {
+                    self.beside(name, Some(&known))
+                } else {
+                    Ok(in_place(file))
+                }
+            }
+            Err(error) if error.kind() == ErrorKind::NotFound => self.beside(name, None),
+            Err(error) => Err(error),
+        }
+    }
+
+    fn save(&mut self, file: MadeFile) -> io::Result<()> {
+        let MadeFile { file, part } = file;
+        match part {
+            Some(part) => part.take_name(self.rt, &file),
+            None => Ok(()),
+        }
+    }
+
+    fn discard(&mut self, file: MadeFile) {
+        if let Some(part) = &file.part {
+            part.remove(self.rt);
+        }
+    }
+
+    fn is_taken(&mut self, name: &str) -> bool {
+        match fs::metadata(self.rt, name) {
+            Ok(known) => known.is_file(),
+            Err(_) => fs::symlink_metadata(self.rt, name).is_ok(),
+        }
+    }
+
+    fn create(&mut self, name: &str) -> io::Result<MadeFile> {
+        match self.standing(name) {
+            Ok(file) => {
+                if file.metadata()?.is_file() {
+                    return Err(io::Error::from(ErrorKind::AlreadyExists));
+                }
+                Ok(in_place(file))
+            }
+            Err(error) if error.kind() == ErrorKind::NotFound => {
+                Ok(in_place(File::create_new(self.rt, name)?))
+            }
+            Err(error) => Err(error),
+        }
+    }
+
+    fn close(&mut self, _file: MadeFile) {}
+
+    fn lines(&mut self, alloc: Global, stations: usize) -> io::Result<Vec<UdpLine>> {
+        lines_of(self.rt, alloc, stations)
+    }
+}

@@ -1,4 +1,4 @@
-//! The texts of faults that no command prints.
+//! The texts of faults, most of which no command prints.
 
 use dis_records::DatumFault;
 use exercise_check::CertificateWriterFault;
@@ -18,61 +18,57 @@ fn is_told<D: Display + Drop>(alloc: Global, fault: D, text: &str) -> bool {
     }
 }
 
-/// The number of the first row, from 0, that is told by another text.
-fn first_otherwise<D: Display + Copy + Drop>(alloc: Global, rows: &[(D, &str)]) -> Option<usize> {
-    for (i, (fault, text)) in rows.iter().enumerate() {
+/// Whether each is told by its text.
+fn are_told<D: Display + Copy + Drop>(alloc: Global, rows: &[(D, &str)]) -> bool {
+    for (fault, text) in rows {
         if !is_told(alloc, *fault, *text) {
-            return Some(i);
+            return false;
         }
     }
-    None
+    true
 }
 
 #[test]
 fn faults_of_writers_are_told_by_name(rt: HostRuntime) {
-    let rows = [
+    let alloc = rt.alloc();
+    let recordings = [
         (WriterFault::Write, "write"),
         (WriterFault::Spent, "spent"),
         (WriterFault::Count, "count"),
         (WriterFault::Argument, "argument"),
     ];
-    assert_eq!(rt; first_otherwise(rt.alloc(), &rows), None);
-    let rows = [
+    let logs = [
         (LogFault::Argument, "argument"),
         (LogFault::Count, "count"),
         (LogFault::Memory, "memory"),
     ];
-    assert_eq!(rt; first_otherwise(rt.alloc(), &rows), None);
-    let rows = [(CertificateWriterFault::Write, "write")];
-    assert_eq!(rt; first_otherwise(rt.alloc(), &rows), None);
-}
-
-#[test]
-fn faults_of_datums_are_told_by_name(rt: HostRuntime) {
-    let rows = [
+    let pdus = [
         (EncodeFault::TooLong, "too long"),
         (EncodeFault::Memory, "memory"),
     ];
-    assert_eq!(rt; first_otherwise(rt.alloc(), &rows), None);
-    let (size, bits) = (
-        DatumFault::WrongSize(Vec::new(rt.alloc())),
-        DatumFault::UnusedBits(Vec::new(rt.alloc())),
-    );
-    assert!(rt; is_told(rt.alloc(), size, "wrong size"));
-    assert!(rt; is_told(rt.alloc(), bits, "unused bits"));
+    assert!(rt; are_told(alloc, &recordings) && are_told(alloc, &logs) && are_told(alloc, &pdus));
+    assert!(rt; is_told(alloc, CertificateWriterFault::Write, "write"));
 }
 
 #[test]
-fn faults_of_stations_and_managers_are_told_by_name(rt: HostRuntime) {
-    let rows = [
+fn faults_of_datums_stations_and_managers_are_told_by_name(rt: HostRuntime) {
+    let alloc = rt.alloc();
+    let stations = [
         (AppFault::Memory, "memory"),
         (AppFault::TooMany, "too-many"),
     ];
-    assert_eq!(rt; first_otherwise(rt.alloc(), &rows), None);
-    let rows = [
+    let managers = [
         (OrderFault::IdsSpent, "ids-spent"),
         (OrderFault::TooLong, "too-long"),
         (OrderFault::Memory, "memory"),
     ];
-    assert_eq!(rt; first_otherwise(rt.alloc(), &rows), None);
+    assert!(rt; are_told(alloc, &stations) && are_told(alloc, &managers));
+    assert!(rt; is_told(alloc, DatumFault::WrongSize(Vec::new(alloc)), "wrong size"));
+    assert!(rt;
+        is_told(
+            alloc,
+            DatumFault::UnusedBits(Vec::new(alloc)),
+            "unused bits"
+        )
+    );
 }

@@ -1,14 +1,10 @@
-//! The tests of all crates: worked rows, with literal datagrams, files and PDUs and with readers
-//! and writers that fail. They use what each crate offers, and stand in a crate of their own since
-//! a crate with tests is proved twice.
+//! The tests of all crates: worked rows, with literal datagrams, files and PDUs, of calls that no
+//! command reaches. They use what each crate offers, and stand in a crate of their own since a crate
+//! with tests is proved twice.
 #![tactic(auto)]
 
 #[cfg(test)]
 mod applications;
-#[cfg(test)]
-mod certificates;
-#[cfg(test)]
-mod datagrams;
 #[cfg(test)]
 mod faults;
 #[cfg(test)]
@@ -18,16 +14,10 @@ mod managers;
 #[cfg(test)]
 mod pdus;
 #[cfg(test)]
-mod promises;
-#[cfg(test)]
 mod recordings;
 #[cfg(test)]
 mod records;
 #[cfg(test)]
-mod scenes;
-#[cfg(test)]
 mod scripts;
-#[cfg(test)]
-mod streams;
 #[cfg(test)]
 mod worlds;

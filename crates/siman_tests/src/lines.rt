@@ -3,24 +3,79 @@
 mod examples;
 mod values;
 
-use siman_texts::{Line, Spelling, put_line};
-use std::alloc::{AllocError, Global};
+use self::examples::*;
+use self::values::*;
+use dis_records::Address;
+use siman_texts::{Field, Line, Spelling, Value, put_line};
+use std::alloc::Global;
 
 /// Whether a line has this text and this JSON, each without its line end.
-fn is_told(alloc: Global, line: &Line<'_>, text: &str, json: &str) -> Result<bool, AllocError> {
-    Ok(
-        is_spelled(alloc, Spelling::Text, line, text)?
-            && is_spelled(alloc, Spelling::Json, line, json)?,
+fn is_told(alloc: Global, line: &Line<'_>, text: &str, json: &str) -> bool {
+    is_spelled(alloc, Spelling::Text, line, text) && is_spelled(alloc, Spelling::Json, line, json)
+}
+
+fn is_spelled(alloc: Global, spelling: Spelling, line: &Line<'_>, wanted: &str) -> bool {
+    let mut spelled = String::new(alloc);
+    put_line(&mut spelled, spelling, line).is_ok() && spelled.strip_suffix("\n") == Some(wanted)
+}
+
+/// Whether a line that begins with its name is told so.
+fn is_named(alloc: Global, name: &str, fields: &[Field<'_>], text: &str, json: &str) -> bool {
+    is_told(alloc, &Line::named(name, fields), text, json)
+}
+
+/// Whether the line of an entry is told, which begins with its number.
+fn is_entry_told(alloc: Global) -> bool {
+    let line = Line {
+        name: "entry",
+        opening: Some(Field::Bare("entry", Value::Number(0))),
+        fields: &ENTRY,
+    };
+    is_told(alloc, &line, ENTRY_TEXT, ENTRY_JSON)
+}
+
+#[test]
+fn lines_have_two_spellings(rt: HostRuntime) {
+    let alloc = rt.alloc();
+    assert!(rt; is_named(alloc, "line", &VALUES, VALUES_TEXT, VALUES_JSON));
+    assert!(rt; is_named(alloc, "line", &SHAPES, SHAPES_TEXT, SHAPES_JSON));
+    assert!(rt; is_named(alloc, "state", &LIFE, LIFE_TEXT, LIFE_JSON));
+    assert!(rt; is_named(alloc, "variable", &DATUM, DATUM_TEXT, DATUM_JSON));
+    assert!(rt; is_entry_told(alloc));
+}
+
+/// Whether the line of an order is told, from one station to another.
+fn is_order_told(alloc: Global, maker: Address, party: Address) -> bool {
+    let mut fields = ORDER;
+    fields[1] = Field::Keyed("from", Value::Address(maker));
+    fields[5] = Field::Keyed("at", Value::Address(party));
+    is_told(
+        alloc,
+        &Line::named("order", &fields),
+        ORDER_TEXT,
+        ORDER_JSON,
     )
 }
 
-fn is_spelled(
-    alloc: Global,
-    spelling: Spelling,
-    line: &Line<'_>,
-    wanted: &str,
-) -> Result<bool, AllocError> {
-    let mut spelled = String::new(alloc);
-    put_line(&mut spelled, spelling, line)?;
-    Ok(spelled.strip_suffix("\n") == Some(wanted))
+/// Whether a ring of stations is told.
+fn is_ring_told(alloc: Global, ring: &[Address], text: &str, json: &str) -> bool {
+    let fields = [Field::Bare("ring", Value::Ring(ring))];
+    is_named(alloc, "cycle", &fields, text, json)
+}
+
+/// Whether lines with addresses are told.
+fn are_addresses_told(alloc: Global) -> Option<bool> {
+    let (first, second) = (Address::new(1, 1)?, Address::new(2, 4)?);
+    let one = r#"{"line":"cycle","ring":["2:4"]}"#;
+    let two = r#"{"line":"cycle","ring":["1:1","2:4"]}"#;
+    Some(
+        is_order_told(alloc, first, second)
+            && is_ring_told(alloc, &[second], "cycle 2:4", one)
+            && is_ring_told(alloc, &[first, second], "cycle 1:1 2:4", two),
+    )
+}
+
+#[test]
+fn addresses_have_two_spellings(rt: HostRuntime) {
+    assert!(rt; are_addresses_told(rt.alloc()) == Some(true));
 }

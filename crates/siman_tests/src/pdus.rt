@@ -1,31 +1,95 @@
-//! PDUs and their datagrams, byte by byte.
+//! Roles, request identifiers and answers, of literal datagrams. What else they say stands in the
+//! cases of `siman_cases`.
 
-mod datagrams;
-mod exchanges;
-mod sizes;
-mod views;
+use siman_pdus::{Role, answers, request_id, role, view};
 
-use dis_records::EntityId;
+/// Site, application and entity number.
+type Id = [u8; 6];
 
 /// The manager.
-const MANAGER: EntityId = EntityId {
-    site: 1,
-    application: 1,
-    entity: 0,
-};
+const MANAGER: Id = [0, 1, 0, 1, 0, 0];
 
 /// Entity 7 of 2:3.
-const ENTITY: EntityId = EntityId {
-    site: 2,
-    application: 3,
-    entity: 7,
-};
+const ENTITY: Id = [0, 2, 0, 3, 0, 7];
 
-/// The entity of a station, by site and application.
-fn id(site: u16, application: u16, entity: u16) -> EntityId {
-    EntityId {
-        site,
-        application,
-        entity,
+/// Event Report 1 from 2:3:7 to the manager.
+const REPORT: [u8; 40] = [
+    7, 1, 21, 5, 0, 0, 0, 0, 0, 40, 0, 0, 0, 2, 0, 3, 0, 7, 0, 1, 0, 1, 0, 0, 0, 0, 0, 1, 0, 0, 0,
+    0, 0, 0, 0, 0, 0, 0, 0, 0,
+];
+
+/// A Remove Entity from the manager, under 1.
+fn removal(to: Id) -> [u8; 28] {
+    let [s, t, a, b, e, f] = to;
+    [
+        7, 1, 12, 5, 0, 0, 0, 0, 0, 28, 0, 0, 0, 1, 0, 1, 0, 0, s, t, a, b, e, f, 0, 0, 0, 1,
+    ]
+}
+
+/// An Acknowledge with a flag, with response 1 and under a request identifier.
+fn acknowledge(from: Id, to: Id, flag: u8, request: u8) -> [u8; 32] {
+    let [s, t, a, b, e, f] = from;
+    let [u, v, c, d, g, h] = to;
+    [
+        7, 1, 15, 5, 0, 0, 0, 0, 0, 32, 0, 0, s, t, a, b, e, f, u, v, c, d, g, h, 0, flag, 0, 1, 0,
+        0, 0, request,
+    ]
+}
+
+/// The role and the request identifier of a datagram's PDU, if it is one.
+fn exchange(datagram: &[u8]) -> Option<(Role, Option<u32>)> {
+    match view(datagram) {
+        Ok(pdu) => Some((role(&pdu), request_id(&pdu))),
+        Err(_) => None,
     }
+}
+
+#[test]
+fn roles_and_request_identifiers(rt: HostRuntime) {
+    assert!(rt; exchange(&removal(ENTITY)) == Some((Role::Request, Some(1))));
+    assert!(rt; exchange(&REPORT) == Some((Role::Notice, None)));
+    let flags = [
+        (0, Role::Outside),
+        (1, Role::Answer),
+        (4, Role::Answer),
+        (5, Role::Outside),
+    ];
+    for (flag, expected) in flags {
+        let answer = acknowledge(ENTITY, MANAGER, flag, 9);
+        assert!(rt; exchange(&answer) == Some((expected, Some(9))));
+    }
+}
+
+/// Whether the first datagram's PDU answers that of the second, if both are PDUs.
+fn is_answered(answer: &[u8], order: &[u8]) -> Option<bool> {
+    match (view(answer), view(order)) {
+        (Ok(answer), Ok(order)) => Some(answers(&answer, &order)),
+        _ => None,
+    }
+}
+
+/// To whom a Remove Entity 1 goes; who answers it and to whom, with which flag and request
+/// identifier; and whether that fits.
+type Answer = (Id, Id, Id, u8, u8, bool);
+
+#[test]
+fn an_answer_fits_its_request(rt: HostRuntime) {
+    let other_station = [0, 2, 0, 4, 0, 7];
+    let other_entity = [0, 2, 0, 3, 0, 8];
+    let other_manager = [0, 2, 0, 1, 0, 0];
+    let everybody = [0xFF; 6];
+    let rows: [Answer; 7] = [
+        (ENTITY, ENTITY, MANAGER, 2, 1, true),
+        (ENTITY, ENTITY, MANAGER, 3, 1, false),
+        (ENTITY, ENTITY, MANAGER, 2, 2, false),
+        (ENTITY, other_station, MANAGER, 2, 1, false),
+        (ENTITY, other_entity, MANAGER, 2, 1, false),
+        (ENTITY, ENTITY, other_manager, 2, 1, false),
+        (everybody, other_station, MANAGER, 2, 1, true),
+    ];
+    for (target, from, to, flag, request, fits) in rows {
+        let answer = acknowledge(from, to, flag, request);
+        assert!(rt; is_answered(&answer, &removal(target)) == Some(fits));
+    }
+    assert!(rt; is_answered(&removal(ENTITY), &removal(ENTITY)) == Some(false));
 }

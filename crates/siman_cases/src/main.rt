@@ -12,6 +12,7 @@
 //! | `file NAME` | a file of that name, which the lines behind it fill |
 //! | `shut NAME`, `full NAME` | a file that can't be opened or made: no permission, no memory |
 //! | `input`, `out`, `errors`, `left` | the lines behind it fill standard input, what must be out, what must be told of faults, what the file must hold that is made |
+//! | `discarded` | as `left`, of a file that is made and must be discarded in the end |
 //! | `text TEXT`, `piece TEXT` | a line with its line end, a text without |
 //! | `times N TEXT` | a text so many times |
 //! | `each FIRST LAST TEXT` | a line for each number from one to another: the text with the number in the place of each `%` |

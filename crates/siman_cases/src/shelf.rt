@@ -21,6 +21,8 @@ pub(crate) struct Shelf<'a> {
     opened: Option<&'a File>,
     pub(crate) asked: String,
     pub(crate) left: Option<Vec<u8>>,
+    /// What the file held that was discarded.
+    pub(crate) discarded: Option<Vec<u8>>,
 }
 
 /// A shelf with these files, of which nothing was asked so far.
@@ -38,6 +40,7 @@ pub(crate) fn filled(
         opened: None,
         asked: String::new(alloc),
         left: None,
+        discarded: None,
     }
 }
 
@@ -97,7 +100,9 @@ impl<'a> Outside for Shelf<'a> {
         Ok(())
     }
 
-    fn discard(&mut self, _file: Written) {}
+    fn discard(&mut self, file: Written) {
+        self.discarded = Some(file.bytes);
+    }
 
     fn is_taken(&mut self, name: &str) -> bool {
         match found(self.files, name) {

@@ -3,7 +3,7 @@
 use crate::shelf::{Shelf, filled};
 use siman_agreement::compare_case;
 use siman_console::{Ended, run};
-use siman_fixtures::{Case, Line, Written, first, read_from, read_line, write_to};
+use siman_fixtures::{Case, Line, Stream, Written, first, read_from, read_line, write_to};
 use siman_trials::{compare, try_post};
 use std::alloc::Global;
 use std::io;
@@ -67,7 +67,23 @@ fn compare_ended<W: Write>(case: &Case, ended: Ended, out: &mut W) -> io::Result
     Ok(false)
 }
 
-/// Prints which files were asked for, or left, where it is otherwise.
+/// Prints what a file that was made holds, where it is otherwise.
+fn compare_made<W: Write>(
+    name: &str,
+    what: &str,
+    made: &Option<Vec<u8>>,
+    wanted: Option<&Stream>,
+    out: &mut W,
+) -> io::Result<bool> {
+    match (made, wanted) {
+        (Some(made), Some(wanted)) => compare(name, what, made, &wanted.bytes, out),
+        (None, None) => Ok(true),
+        (Some(made), None) => compare(name, what, made, b"no file", out),
+        (None, Some(wanted)) => compare(name, what, b"no file\n", &wanted.bytes, out),
+    }
+}
+
+/// Prints which files were asked for, left or discarded, where it is otherwise.
 fn compare_files<W: Write>(case: &Case, shelf: &Shelf<'_>, out: &mut W) -> io::Result<bool> {
     let name = &case.name;
     let asked = match &case.asked {
@@ -80,13 +96,10 @@ fn compare_files<W: Write>(case: &Case, shelf: &Shelf<'_>, out: &mut W) -> io::R
             None => compare(name, "left", b"no file\n", b"a file", out),
         };
     }
-    let left = match (&shelf.left, case.is_left) {
-        (Some(left), true) => compare(name, "left", left, &case.left.bytes, out)?,
-        (None, false) => true,
-        (Some(left), false) => compare(name, "left", left, b"no file", out)?,
-        (None, true) => compare(name, "left", b"no file\n", &case.left.bytes, out)?,
-    };
-    Ok(asked && left)
+    let left = compare_made(name, "left", &shelf.left, case.is_left.then_some(&case.left), out)?;
+    let discarded = case.is_discarded.then_some(&case.left);
+    let dropped = compare_made(name, "discarded", &shelf.discarded, discarded, out)?;
+    Ok(asked && left && dropped)
 }
 
 /// Prints what a run left otherwise than its case wants; whether nothing is otherwise.

@@ -37,6 +37,8 @@ pub struct Case {
     pub left: Stream,
     /// Whether a file must be left.
     pub is_left: bool,
+    /// Whether one must be discarded, with the bytes that would else be left.
+    pub is_discarded: bool,
     /// The name under which the file that is left stands for the cases behind, whatever it holds.
     pub keep: Option<String>,
     pub asked: Option<String>,
@@ -79,6 +81,7 @@ pub fn first(alloc: Global) -> Case {
         errors: empty(alloc),
         left: empty(alloc),
         is_left: false,
+        is_discarded: false,
         keep: None,
         asked: None,
         status: 0,
@@ -99,6 +102,7 @@ impl Case {
         self.errors = empty(self.alloc);
         self.left = empty(self.alloc);
         self.is_left = false;
+        self.is_discarded = false;
         self.keep = None;
         self.asked = None;
         self.status = 0;
@@ -119,7 +123,7 @@ impl Case {
             Part::Input => Some(&mut self.input.bytes),
             Part::Out => Some(&mut self.out.bytes),
             Part::Errors => Some(&mut self.errors.bytes),
-            Part::Left => Some(&mut self.left.bytes),
+            Part::Left | Part::Discarded => Some(&mut self.left.bytes),
             Part::Coming => self.post.coming.last_mut(),
             Part::Sent => Some(&mut self.post.sent),
         }
@@ -205,6 +209,7 @@ impl Case {
             _ => {}
         }
         self.is_left = self.is_left || part == Part::Left;
+        self.is_discarded = self.is_discarded || part == Part::Discarded;
         self.part = part;
         Ok(())
     }
@@ -219,7 +224,7 @@ impl Case {
             Part::Input => self.input.calls = calls,
             Part::Out => self.out.calls = calls,
             Part::Errors => self.errors.calls = calls,
-            Part::Left => self.left.calls = calls,
+            Part::Left | Part::Discarded => self.left.calls = calls,
         }
         true
     }

@@ -13,6 +13,7 @@ pub enum Part {
     Out,
     Errors,
     Left,
+    Discarded,
     Coming,
     Sent,
 }
@@ -121,6 +122,7 @@ fn read_bare(word: &str) -> Option<Line<'_>> {
         "out" => Line::Begin(Part::Out),
         "errors" => Line::Begin(Part::Errors),
         "left" => Line::Begin(Part::Left),
+        "discarded" => Line::Begin(Part::Discarded),
         "comes" => Line::Begin(Part::Coming),
         "sent" => Line::Begin(Part::Sent),
         "text" => Line::Text(""),

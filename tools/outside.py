@@ -19,7 +19,7 @@ from pathlib import Path
 
 sys.dont_write_bytecode = True
 
-from cases import audits, converts, datagrams, files, histories, lives, memory, scripts, streams, words, worlds
+from cases import audits, converts, datagrams, files, histories, lives, memory, saving, scripts, streams, words, worlds
 from cases.examples import TOP, made_examples
 from cases.trials import Trials, described
 
@@ -41,7 +41,7 @@ def try_program(program, folder):
     tried = wrong = 0
     trials = Trials(str(program), folder)
     examples = made_examples(folder)
-    for part in (words, datagrams, files, histories, audits, converts, scripts, worlds, lives, streams, memory):
+    for part in (words, datagrams, files, histories, audits, converts, scripts, worlds, lives, saving, streams, memory):
         part.try_all(trials, examples)
     for verdict in trials.verdicts():
         tried += 1

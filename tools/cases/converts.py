@@ -60,13 +60,13 @@ def try_files(trials, examples):
     trials.expect(["convert", WORKED_SCRIPT, "never"], pages.fault("recording: magic at 0"))
     for name in ["examples", "none/there.dsrc", "", "/dev/full"]:
         trials.expect(["convert", good, name], UNWRITTEN)
-    answer, new = answer_to_convert((trials.folder / good).read_bytes())
-    trials.expect(["convert", good, "/dev/null"], answer)
-    own = trials.file((trials.folder / good).read_bytes())
-    after(trials, ["convert", own, own], (answer,), own, lambda left: left == new)
+    kept = (trials.folder / good).read_bytes()
+    trials.expect(["convert", good, "/dev/null"], answer_to_convert(kept)[0])
+    own = trials.file(kept)
+    after(trials, ["convert", own, own], (pages.fault(f"output: same as {own}"),), own, lambda left: left == kept)
     for behind in [">/dev/full", ">&-"]:
         name = f"unheard.{len(behind)}.new.dsrc"
-        after(trials, ["convert", good, name], (UNWRITTEN,), name, lambda left: left == new, behind=behind)
+        after(trials, ["convert", good, name], (UNWRITTEN,), name, lambda left: left is None, behind=behind)
 
 
 def try_all(trials, examples):

@@ -48,7 +48,7 @@ def try_worked(trials):
     after(trials, ["world", WORKED_SCRIPT, longer], usual, longer, is_worked)
     for behind in [">/dev/full", ">&-"]:
         name = f"unheard.{len(behind)}.dsrc"
-        after(trials, ["world", WORKED_SCRIPT, name], (UNWRITTEN,), name, is_worked, behind=behind)
+        after(trials, ["world", WORKED_SCRIPT, name], (UNWRITTEN,), name, lambda left: left is None, behind=behind)
     trials.expect(["world", WORKED_SCRIPT, "/dev/null"], *usual)
     trials.expect(["world", "/dev/stdin", "/dev/null"], *usual, given=(TOP / WORKED_SCRIPT).read_bytes())
 

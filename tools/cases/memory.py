@@ -14,6 +14,10 @@ MOST_ALLOCATIONS = 5000
 LATER = 1 << 40  # later than the last allocation of any run
 
 
+# Commands that make a file; `live` makes none where one stands.
+MAKING = (["world"], ["live"], ["audit"], ["convert"])
+
+
 def refusing_library(trials):
     """The library that refuses memory to a program into which it is preloaded; None where it can't be made."""
     library = trials.folder / "refuse.so"
@@ -40,8 +44,9 @@ def try_answers(trials, rows):
         return
     for words, given, usual in rows:
         out = Prefix(usual.out) if words[:1] == ["show"] else b""
-        case = Case(words, (Outcome(3, out, b"memory\n"), usual), given)
         for alone in (True, False):
+            own = [*words[:2], f"{words[2]}.{alone}"] if words[:1] in MAKING else words
+            case = Case(own, (Outcome(3, out, b"memory\n"), usual), given)
             trials.tasks.append(lambda case=case, alone=alone: refusals(trials, library, case, alone))
 
 
@@ -62,6 +67,8 @@ def refusals(trials, library, case, alone):
 
 def run_refused(trials, library, case, first, last):
     """The outcome of a run with these allocations refused, and whether there was one of them."""
+    if case.words[:1] == ["live"]:
+        (trials.folder / case.words[2]).unlink(missing_ok=True)
     reader, writer = os.pipe()
     refuse = {"REFUSE_FIRST": str(first), "REFUSE_LAST": str(last), "REFUSE_MARK": str(writer)}
     environment = {**os.environ, "LD_PRELOAD": str(library), **refuse}

@@ -96,7 +96,13 @@ fn compare_files<W: Write>(case: &Case, shelf: &Shelf<'_>, out: &mut W) -> io::R
             None => compare(name, "left", b"no file\n", b"a file", out),
         };
     }
-    let left = compare_made(name, "left", &shelf.left, case.is_left.then_some(&case.left), out)?;
+    let left = compare_made(
+        name,
+        "left",
+        &shelf.left,
+        case.is_left.then_some(&case.left),
+        out,
+    )?;
     let discarded = case.is_discarded.then_some(&case.left);
     let dropped = compare_made(name, "discarded", &shelf.discarded, discarded, out)?;
     Ok(asked && left && dropped)

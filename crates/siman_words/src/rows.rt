@@ -24,6 +24,11 @@ const MADE_RECORDING: Word = Word {
     help: "The file of the recording, which is made anew",
 };
 
+const NEW_RECORDING: Word = Word {
+    name: "REC",
+    help: "The file of the recording, which must not be there yet",
+};
+
 const SCRIPT: Word = Word {
     name: "SCRIPT",
     help: "The file of the script",
@@ -86,7 +91,7 @@ pub(crate) const ROWS: [Row; 8] = [
         name: "live",
         about: "Makes the moves of a script over UDP sockets of the loopback, one a station, and writes their recording",
         example: "Example:\n  siman live exercise.script exercise.dsrc",
-        words: &[SCRIPT, MADE_RECORDING],
+        words: &[SCRIPT, NEW_RECORDING],
     },
     Row {
         name: "convert",

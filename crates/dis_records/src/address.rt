@@ -76,3 +76,9 @@ pub fn addresses_are_ordered(a: Address, b: Address)
     ensures below { (compared a b ≡ Less) ↔ IsBefore a b }
     ensures equal { (compared a b ≡ Equal) ↔ (a ≡ b) }
 {}
+
+/// A law of addresses: each names one simulation application, so that both numbers are in
+/// 1..=0xFFFE. The call does nothing when it runs.
+pub fn addresses_name_one(address: Address)
+    ensures { is_address address ≡ true }
+{}

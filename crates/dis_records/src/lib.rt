@@ -23,7 +23,9 @@ mod kind;
 pub mod records;
 mod views;
 
-pub use address::{Address, LARGEST_ADDRESS_PART, addresses_are_ordered, is_address_part};
+pub use address::{
+    Address, LARGEST_ADDRESS_PART, addresses_are_ordered, addresses_name_one, is_address_part,
+};
 pub use clock_time::ClockTime;
 pub use datum::{DatumFault, FixedDatum, VariableDatum, VariableView, padded_size};
 pub use entity::{EntityId, Scope, addressed, addresses};

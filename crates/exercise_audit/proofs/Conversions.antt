@@ -1,5 +1,5 @@
 -- A recording that was carried over to the second format is blocked as it was.
-use Rattle.std.proofs.Common.{◌≡◌, ◌⊎◌, ℕ, zero, suc, List, length, sym, ◌∙◌, inl, inr}
+use Rattle.std.proofs.Common.{◌≡◌, ℕ, zero, suc, List, length, sym, ◌∙◌, inl, inr}
 use Rattle.std.specs.Prelude.{◌↔◌}
 use Rattle.exercise_model.specs.declared.form.Form.{Form}
 use Rattle.exercise_model.specs.declared.form.Form.TheVariants.{First, Closed}
@@ -8,7 +8,7 @@ use Rattle.exercise_model.specs.History.{Event, History, log_of}
 use Rattle.exercise_model.specs.Cause.{cause_of}
 use Rattle.exercise_model.specs.Place.{log_before, own_event}
 use Rattle.exercise_model.specs.Run.{Explains, IsStuck}
-use Rattle.exercise_model.specs.Conversion.{closed, converted}
+use Rattle.exercise_model.specs.Conversion.{converted}
 use Rattle.exercise_model.proofs.Offered.{same_when_closed, stuck_alike, explained_alike}
 use Rattle.exercise_check.specs.declared.certificate.Step.{Step}
 use Rattle.exercise_check.specs.Goodness.{IsGood}
@@ -17,7 +17,7 @@ use Rattle.exercise_check.proofs.Offered.{good_alike, good_explains}
 use Rattle.exercise_audit.specs.declared.blocks.Block.{Block}
 use Rattle.exercise_audit.specs.declared.blocks.Audit.{Audit}
 use Rattle.exercise_audit.specs.declared.blocks.Audit.TheVariants.{Explained, Blocked}
-use Rattle.exercise_audit.specs.Audit.{IsNextEntry, IsDone, IsBlock, AreBlocks, IsBlocked, IsAuditOf}
+use Rattle.exercise_audit.specs.Audit.{IsBlock, AreBlocks, IsBlocked, IsAuditOf}
 
 -- the recording in another form
 abbrev in_form : PlainRecording → Form → PlainRecording

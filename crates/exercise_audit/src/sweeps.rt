@@ -2,7 +2,7 @@
 //! adds no step.
 
 ghost use Rattle.std.specs.Prelude.{◌≡◌, ◌<◌, length, IfSome, IfNone, IfOk, OnOk, true, false, ℕ};
-ghost use Rattle.exercise_check.specs.Course.{so_far};
+ghost use Rattle.exercise_check.specs.Course.{IsCourse, so_far};
 ghost use Rattle.exercise_audit.specs.Audit.{IsAuditOf, IsHeld, IsBlock, IsBlocked, IsDone, AreBlocks};
 ghost use Rattle.exercise_check.specs.Goodness.{IsGood};
 
@@ -20,6 +20,7 @@ fn let_go_on<L: ExerciseLog>(
 ) -> Result<bool, AllocError>
     ensures recording { course.new.recording ≡ course.old.recording }
     ensures longer { IfOk result (λ more. more ≡ true → length course.old.steps < length course.new.steps) }
+    ensures course { IfOk result (λ more. more ≡ true → IsCourse course.new) }
     ensures held { IfOk result (λ more. more ≡ false → IsHeld course.old.recording (so_far course.old) station) }
     ensures same { IfOk result (λ more. more ≡ false → course.new ≡ course.old) }
 {
@@ -40,6 +41,7 @@ fn sweep<L: ExerciseLog>(
 ) -> Result<bool, AllocError>
     ensures recording { course.new.recording ≡ course.old.recording }
     ensures longer { IfOk result (λ more. more ≡ true → length course.old.steps < length course.new.steps) }
+    ensures course { IfOk result (λ more. more ≡ true → IsCourse course.new) }
     ensures stuck { IfOk result (λ more. more ≡ false → (s : ℕ) → s < stations → IsHeld course.new.recording (so_far course.new) s) }
 {
     let mut more = false;
@@ -68,8 +70,6 @@ fn go_on_to_the_end<L: ExerciseLog>(
         if !sweep(alloc, course, stations)? {
             break;
         }
-        // To count the steps shows that each of them is good.
-        let _steps = course.len();
     }
     Ok(())
 }

@@ -1,6 +1,6 @@
 -- The first step that sends a datagram names its source: the datagram was sent exactly where its source was taken.
 use Rattle.std.proofs.Common.{◌≡◌, ℕ, zero, suc, ◌+◌, ◌<◌, ◌≤◌, List, [], ◌∷◌, ◌++◌, length, take, cond, Option, Some, None, Bool, true, false, refl, sym, ap, ◌∙◌, subst, ⊎_elim, arith}
-use Rattle.std.specs.Prelude.{is_some, slice_get, slice_index_or, nat_eq, nat_lt, bytes_eq, ◌==◌, option_and_then, if◌then◌else◌}
+use Rattle.std.specs.Prelude.{is_some, slice_get, slice_index_or, nat_eq, nat_lt, bytes_eq, option_and_then, if◌then◌else◌}
 use Rattle.std.specs.Option.{option_map_or, option_or}
 use Rattle.std.specs.Cmp.Lexicographic.{bytes_decides}
 use Rattle.std.proofs.Math.Numerals.{add-one}
@@ -10,14 +10,13 @@ use Rattle.std.proofs.lemmas.Option.{same_Some, slice_get_within}
 use Rattle.siman_pdus.specs.declared.pdu.Pdu.{Pdu}
 use Rattle.exercise_model.specs.Entry.{Entry, Sent, Received, Told}
 use Rattle.exercise_model.specs.Recording.{PlainRecording, IsRecording}
-use Rattle.exercise_model.specs.History.{Event, Send, event_of, station_of, station_at, log_at}
+use Rattle.exercise_model.specs.History.{Send, event_of, station_of, log_at}
 use Rattle.exercise_model.specs.Meaning.{meaning}
-use Rattle.exercise_model.specs.Setting.{is_from}
 use Rattle.exercise_model.specs.Cause.{sends, cause_of}
 use Rattle.exercise_model.specs.Place.{event_at, own_event, log_before, first_below}
 use Rattle.exercise_model.specs.Account.{sender_of}
-use Rattle.exercise_model.proofs.Offered.{IsFirst, first_found, first_is, sender_found, own_address, entry_station}
-use Rattle.exercise_findings.specs.Source.{sends_here, first_send, source_of_pdu, source_of_bytes, source_of_entry, source_of}
+use Rattle.exercise_model.proofs.Offered.{IsFirst, first_found, sender_found, own_address, entry_station}
+use Rattle.exercise_findings.specs.Source.{sends_here, first_send, source_of_pdu, source_of}
 use Rattle.exercise_findings.proofs.Offered.{bytes_same, sends_there, source_here}
 use Rattle.exercise_check.specs.declared.certificate.Step.{Step}
 use Rattle.exercise_check.specs.Order.{order_of, first_sender}

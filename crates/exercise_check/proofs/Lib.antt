@@ -12,4 +12,5 @@ mod Causes
 mod Conversions
 mod Agreement
 mod Refusals
+mod Limits
 pub mod Offered

@@ -106,6 +106,7 @@ impl<'a, L: ExerciseLog> Course<'a, L> {
         requires within { place < length self.old.recording.entries }
         requires next { IsNext self.old place }
         ensures judged { IfOk result (λ progress. IfSome (slice_get self.old.recording.entries place) (GoesOn self.old self.new place progress)) }
+        ensures course { IfOk result (λ progress. IsCourse self.new) }
         ensures memory { OnErr result (self.new ≡ self.old) }
         // It lacks memory only where the event is allowed.
         ensures allowed { OnErr result (IfSome (slice_get self.old.recording.entries place) (λ e. IsAllowed self.old.recording.setting (so_far self.old) (event_of e))) }

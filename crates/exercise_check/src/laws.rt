@@ -1,7 +1,7 @@
 //! Laws of steps, and of the format of certificates. Each function is a theorem: it has no body, and
 //! its contract is the law.
 
-ghost use Rattle.std.specs.Prelude.{◌≡◌, ◌↔◌, ◌≤◌, ◌<◌, ℕ, List, length, slice_index, Ok, Err, true, Some, None};
+ghost use Rattle.std.specs.Prelude.{◌≡◌, ◌↔◌, ◌≤◌, ◌<◌, ◌+◌, ◌*◌, ℕ, List, length, take, slice_index, Ok, Err, true, Some, None};
 ghost use Rattle.std.specs.List.{list_all};
 ghost use Rattle.exercise_check.specs.declared.certificate.Step.{Step};
 ghost use Rattle.exercise_check.specs.declared.certificate_fault.CertificateFormatFault.{CertificateFormatFault};
@@ -74,4 +74,10 @@ pub fn text_and_reading_agree()
 pub fn refusals_hold()
     ensures { (limit : ℕ) (bytes : List ℕ) (fault : CertificateFormatFault) → ((i : ℕ) → slice_index bytes i < 256)
         → certificate_at limit bytes ≡ Err fault → IsRefused limit bytes fault }
+{}
+
+/// The law of the limit: bytes that were cut behind the first one past the text of the largest
+/// certificate within the limit are read as all of them are.
+pub fn past_the_limit_nothing_counts()
+    ensures { (limit : ℕ) (bytes : List ℕ) → certificate_at limit (take (12 + 8 * limit + 1) bytes) ≡ certificate_at limit bytes }
 {}

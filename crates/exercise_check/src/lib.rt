@@ -24,11 +24,12 @@ mod number;
 
 pub use certificate::{Certificate, NO_LINK, Step};
 pub use certificate_fault::{CertificateFault, CertificateFormatFault, CertificateWriterFault};
-pub use certificate_reading::read_certificate;
+pub use certificate_reading::{fetch_certificate, read_certificate};
 pub use certificate_text::write_certificate;
 pub use checker::{CheckFault, check};
 pub use course::{Course, Progress};
 pub use exercise_findings::Account as Checked;
 pub use laws::{
-    conversion_keeps_checks, good_steps_have_no_cause, refusals_hold, text_and_reading_agree,
+    conversion_keeps_checks, good_steps_have_no_cause, past_the_limit_nothing_counts,
+    refusals_hold, text_and_reading_agree,
 };

@@ -28,7 +28,6 @@ mod station;
 
 pub use acknowledge::{AcknowledgeKey, key_of, responds, responds_under};
 pub use cause::Cause;
-pub use dis_records::LARGEST_DATAGRAM;
 pub use entry::{EntryView, LogEntry};
 pub use exchange::{is_answer, is_asked, is_from};
 pub use fault::LogFault;
@@ -42,6 +41,5 @@ pub use log::ExerciseLog;
 pub use meaning::{meaning_of, meaning_view};
 pub use recording::{MOST_ENTRIES, Recording};
 pub use setting::Setting;
-pub use siman_pdus::is_under_identifier;
 pub use state::{Change, is_entity, scope_has, state_made};
 pub use station::{LARGEST_ENTITY, MOST_STATIONS, Station, are_stations, is_above, listed_state};

@@ -7,10 +7,10 @@ use crate::state::state_before;
 use dis_records::{EntityState, Kind, Scope};
 use exercise_check::Step;
 use exercise_model::{
-    Cause, Change, EntryView, ExerciseLog, Form, is_answer, is_entity, is_from,
-    is_under_identifier, key_of, meaning_view, responds,
+    Cause, Change, EntryView, ExerciseLog, Form, is_answer, is_entity, is_from, key_of,
+    meaning_view, responds,
 };
-use siman_pdus::{ABLE, PduView, UNABLE, answers, is_request, same_order};
+use siman_pdus::{ABLE, PduView, UNABLE, answers, is_request, is_under_identifier, same_order};
 
 /// The entry that a step links with, if it links with one, or the first cause against it.
 pub(crate) type Judgement = Result<Option<usize>, Cause>;

@@ -8,7 +8,7 @@ ghost use Rattle.siman_application.specs.Application.{Leaves, Takes};
 ghost use Rattle.siman_stations.specs.StationTurn.{stamp_of, sent_as, reply_due, RecordsAll, TakesBoth, turn_entries, FailsAnswer, FailsTurn};
 
 use crate::recorder::Recorder;
-use exercise_model::LARGEST_DATAGRAM;
+use dis_records::LARGEST_DATAGRAM;
 use siman_application::{AppFault, Application};
 use siman_manager::Manager;
 use siman_pdus::{Pdu, PduFault, decode, encode};

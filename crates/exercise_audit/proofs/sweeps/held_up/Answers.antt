@@ -1,6 +1,6 @@
 use Rattle.std.proofs.Common.{◌≡◌, ◌≢◌, ◌<◌, ℕ, arith, length, sym, ap, ◌∙◌, subst}
 use Rattle.exercise_model.specs.Recording.{PlainRecording}
-use Rattle.exercise_check.specs.Course.{CourseData, so_far}
+use Rattle.exercise_check.specs.Course.{so_far}
 use Rattle.exercise_check.specs.Goodness.{IsGood}
 use Rattle.exercise_audit.specs.Audit.{AreBlocks, IsBlocked}
 use Rattle.exercise_audit.proofs.Held.{blocked_from_held}

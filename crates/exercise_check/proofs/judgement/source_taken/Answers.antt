@@ -1,4 +1,3 @@
-use Rattle.std.proofs.Common.{◌<◌, length, sym}
 use Rattle.exercise_check.proofs.judgement.source_taken.Goals as goal
 
 pub was_taken-requires-clause-within : goal.was_taken-requires-clause-within

@@ -1,4 +1,4 @@
-use Rattle.std.proofs.Common.{List, [], sym, subst, arith}
+use Rattle.std.proofs.Common.{List, sym, subst, arith}
 use Rattle.exercise_model.specs.Recording.{PlainRecording}
 use Rattle.exercise_check.specs.declared.certificate.Step.{Step}
 use Rattle.exercise_check.specs.Judging.{Keeps}

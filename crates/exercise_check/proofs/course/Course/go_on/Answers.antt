@@ -53,3 +53,18 @@ returns-in_ok-push-in-Allowed-clause-judged g c =
     rw (← c.self.view_is) (taken_goes (record { recording = r; steps = steps }) (record { recording = r; steps = c.push.new.self.items }) c.args.place
     c.link_number-link.result c.in-Allowed.link c.link_number-link.ensures
     (ap (λ (xs : List Step). let d : CourseData = record { recording = r; steps = xs } in d) items) (rw c.in-Allowed.is at judged))
+
+pub returns-in_ok-push-in-Allowed-clause-course : goal.returns-in_ok-push-in-Allowed-clause-course
+returns-in_ok-push-in-Allowed-clause-course g c =
+    let r = c.self.inside.found in
+    let steps = c.self.inside.steps.items in
+    let next = subst (λ v. IsNext v c.args.place) (sym c.self.view_is) c.requires.next in
+    let judged = c.judge.ensures steps c.self.invariant.course c.self.invariant.next (next_ready r steps c.args.place c.self.invariant.course.good next) in
+    let within = rw (← c.self.view_is) at c.requires.within in
+    let good = (allows r steps c.args.place c.in-Allowed.link within next (rw c.in-Allowed.is at judged)).good in
+    let items = c.in_ok-push-in-Allowed.ensures.items
+    ∙ ap (λ xs. xs ++ record { place = c.args.place; link = c.link_number-link.result } ∷ []) c.in_ok-reserve-in-Allowed.ensures.items in
+    record {
+      limits = c.self.invariant.course.limits;
+      good = rw (items, c.link_number-link.ensures) (good_push r steps _ c.self.invariant.course.good good);
+    }

@@ -78,6 +78,8 @@ impl Disk<'_> {
 }
 
 impl Outside for Disk<'_> {
+    type Opened = File;
+
     type File = File;
 
     type Made = MadeFile;
@@ -95,6 +97,10 @@ impl Outside for Disk<'_> {
             (Ok(opened), Ok(known)) => known.is_file() && identity(&known) == identity(&opened),
             _ => false,
         }
+    }
+
+    fn read(&mut self, file: File) -> File {
+        file
     }
 
     fn make(&mut self, name: &str) -> io::Result<MadeFile> {

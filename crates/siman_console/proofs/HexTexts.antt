@@ -23,7 +23,7 @@ pub said_of_hex-encode_lower : (b : List ℕ) → IsBytes b → length b ≤ 327
 said_of_hex-encode_lower b bytes short = ap said_of_bytes (bytes_of-encode_lower b bytes short)
 
 -- a line that is not empty is answered for as the word
-told_of_line-some : (number : ℕ) (text : List ℕ) → 0 < length text → told_of_line number text ≡ told_of_said number (said_of_hex text)
+pub told_of_line-some : (number : ℕ) (text : List ℕ) → 0 < length text → told_of_line number text ≡ told_of_said number (said_of_hex text)
 told_of_line-some number [] some = absurd (omega arith)
 told_of_line-some number (b ∷ bs) some = refl
 

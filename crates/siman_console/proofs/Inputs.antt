@@ -14,7 +14,7 @@ use Rattle.byte_files.specs.Fields.{Fails}
 use Rattle.exercise_recording.specs.declared.format_fault.RecordingFault.{RecordingFault}
 use Rattle.exercise_recording.specs.Reading.{recording_at, format_of}
 
-over : {X : Type 0} (m n : ℕ) (x y : X) → m < n → (if nat_lt m n then x else y) ≡ x
+pub over : {X : Type 0} (m n : ℕ) (x y : X) → m < n → (if nat_lt m n then x else y) ≡ x
 over m n x y h = grind (arith, nat_tests)
 
 -- what is read of too long a script

@@ -10,12 +10,11 @@ pub mod Readings
 pub mod Shown
 pub mod Searches
 mod Carryings
+mod Passed
 pub mod Texts
 pub mod Verdicts
 pub mod Worlds
 pub mod Trials
 pub mod Tellings
 pub mod LineReadings
-pub mod Programs
-pub mod Lives
 pub mod Judged

@@ -1,32 +1,26 @@
 -- How a line is read, byte by byte.
 use Rattle.std.proofs.Common.{◌≡◌, ◌≢◌, ℕ, ◌+◌, ◌<◌, ◌≤◌, ◌==◌, min, List, [], ◌∷◌, ◌++◌, length, take, set, get_or, if◌then◌else◌, Option, Some, None, refl, sym, ap, ◌∙◌, subst, arith, append-nil, length-append, length-set, length-take-le, take_all}
-use Rattle.std.specs.Prelude.{⊤}
 use Rattle.std.specs.List.{onto_first}
 use Rattle.std.specs.Io.KnownBytes.{Consumes, IsAtEnd}
 use Rattle.std.proofs.KnownBytes.{Consumes-trans, Consumes-nil}
 use Rattle.std.proofs.lemmas.Bool.Decides.{nat_tests}
 use Rattle.std.proofs.lemmas.List.{length-take, take_more_set, take-append-le}
 use Rattle.siman_scripts.specs.Text.{lines_of}
-use Rattle.siman_console.specs.Pdus.{ReadsLine, HoldsLine}
+use Rattle.siman_console.specs.Pdus.{IsOneLine, ReadsLine, HoldsLine}
 
--- no byte is a line feed
-abbrev pub NoEnd : List ℕ → Type 0
-NoEnd [] = ⊤
-NoEnd (b ∷ bs) = (b ≢ 10) × NoEnd bs
-
-no_end-more : (bs : List ℕ) (b : ℕ) → NoEnd bs → b ≢ 10 → NoEnd (bs ++ b ∷ [])
+no_end-more : (bs : List ℕ) (b : ℕ) → IsOneLine bs → b ≢ 10 → IsOneLine (bs ++ b ∷ [])
 no_end-more [] b none other = (other, tt)
 no_end-more (x ∷ bs) b none other = (none.0, no_end-more bs b none.1 other)
 
 other_byte : {X : Type 0} (b : ℕ) (x y : X) → b ≢ 10 → (if b == 10 then x else y) ≡ y
 other_byte b x y other = grind (arith, nat_tests)
 
-line_cut : (bs rest : List ℕ) → NoEnd bs → lines_of (bs ++ 10 ∷ rest) ≡ bs ∷ lines_of rest
+pub line_cut : (bs rest : List ℕ) → IsOneLine bs → lines_of (bs ++ 10 ∷ rest) ≡ bs ∷ lines_of rest
 line_cut [] rest none = refl
 line_cut (b ∷ bs) rest none =
     other_byte b ([] ∷ lines_of (bs ++ 10 ∷ rest)) (onto_first b (lines_of (bs ++ 10 ∷ rest))) none.0 ∙ ap (onto_first b) (line_cut bs rest none.1)
 
-line_whole : (b : ℕ) (bs : List ℕ) → NoEnd (b ∷ bs) → lines_of (b ∷ bs) ≡ (b ∷ bs) ∷ []
+line_whole : (b : ℕ) (bs : List ℕ) → IsOneLine (b ∷ bs) → lines_of (b ∷ bs) ≡ (b ∷ bs) ∷ []
 line_whole b [] none = other_byte b ([] ∷ []) (onto_first b []) none.0
 line_whole b (c ∷ bs) none =
     other_byte b ([] ∷ lines_of (c ∷ bs)) (onto_first b (lines_of (c ∷ bs))) none.0 ∙ ap (onto_first b) (line_whole c bs none.1)
@@ -34,7 +28,7 @@ line_whole b (c ∷ bs) none =
 -- THE LINE SO FAR: it has no line feed, and the buffer has it, or as much of it as it holds
 pub record SoFar (old now : Option (List ℕ)) (buffer : List ℕ) (held : ℕ) : Type 0 where
   pub line : List ℕ
-  pub none : NoEnd line
+  pub none : IsOneLine line
   pub taken : Consumes old now line
   pub within : held ≤ length buffer
   pub front : take held buffer ≡ take (length buffer) line
@@ -78,13 +72,13 @@ so_far-past a b c buffer held byte before next other full =
       front = before.front ∙ sym (take-append-le (length buffer) line (byte ∷ []) (omega arith));
     }
 
-reads-cut : (a b c : Option (List ℕ)) (line : List ℕ) → NoEnd line → Consumes a b line → Consumes b c (10 ∷ []) → ReadsLine a c line
+reads-cut : (a b c : Option (List ℕ)) (line : List ℕ) → IsOneLine line → Consumes a b line → Consumes b c (10 ∷ []) → ReadsLine a c line
 reads-cut None b c line none taken next = tt
 reads-cut (Some x) None c line none taken next = absurd taken
 reads-cut (Some x) (Some y) None line none taken next = absurd next
 reads-cut (Some x) (Some y) (Some z) line none taken next = ap lines_of (taken ∙ ap (λ l. line ++ l) next) ∙ line_cut line z none
 
-reads-last : (a b : Option (List ℕ)) (line : List ℕ) → NoEnd line → 0 < length line → Consumes a b line → IsAtEnd b → ReadsLine a b line
+reads-last : (a b : Option (List ℕ)) (line : List ℕ) → IsOneLine line → 0 < length line → Consumes a b line → IsAtEnd b → ReadsLine a b line
 reads-last None b line none some taken end = tt
 reads-last (Some x) None line none some taken end = absurd taken
 reads-last (Some x) (Some y) [] none some taken end = absurd (omega arith)
@@ -95,6 +89,7 @@ reads-last (Some x) (Some y) (b ∷ bs) none some taken end =
 pub line-ended : (a b c : Option (List ℕ)) (buffer : List ℕ) (held : ℕ) → SoFar a b buffer held → Consumes b c (10 ∷ []) → HoldsLine a c buffer held
 line-ended a b c buffer held before next = record {
   line = before.line;
+  one = before.none;
   read = reads-cut a b c before.line before.none before.taken next;
   within = before.within;
   front = before.front;
@@ -106,6 +101,7 @@ line-last a b buffer held before end some =
     let size = held_is held buffer before.line before.within before.front in
     record {
       line = before.line;
+      one = before.none;
       read = reads-last a b before.line before.none (omega arith) before.taken end;
       within = before.within;
       front = before.front;

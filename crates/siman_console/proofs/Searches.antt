@@ -1,6 +1,5 @@
--- The search of a recording, and how `audit` ends with what it found.
-use Rattle.std.proofs.Common.{◌≡◌, ◌<◌, ℕ, zero, suc, List, [], ◌∷◌, ◌++◌, length, Result, Ok, Err, refl, inl, inr, subst, arith}
-use Rattle.std.specs.Prelude.{string_bytes}
+-- The search of a recording.
+use Rattle.std.proofs.Common.{◌≡◌, ◌<◌, ℕ, zero, suc, List, [], ◌∷◌, ◌++◌, length, Result, Ok, Err, refl, inl, inr, arith}
 use Rattle.std.specs.Result.{IsErrAnd}
 use Rattle.std.specs.List.{All}
 use Rattle.std.proofs.lemmas.List.Elements.{All-nil, All-push, All-same, All-weaker}
@@ -10,17 +9,14 @@ use Rattle.exercise_recording.specs.declared.format_fault.RecordingFault.{Record
 use Rattle.exercise_recording.specs.declared.format_fault.RecordingFault.TheVariants as recordings
 use Rattle.exercise_recording.specs.Reading.{format_of}
 use Rattle.byte_files.specs.Fields.{Fails}
-use Rattle.exercise_check.specs.declared.certificate.Step.{Step}
 use Rattle.exercise_audit.specs.declared.blocks.Block.{Block}
 use Rattle.exercise_audit.specs.Audit.{AreBlocks, IsBlocked}
 use Rattle.siman_console.specs.declared.fault.Fault.{Fault}
 use Rattle.siman_console.specs.declared.fault.Fault.TheVariants.{Memory}
 use Rattle.siman_console.specs.declared.audit.Finding.{Finding}
-use Rattle.siman_console.specs.declared.audit.Finding.TheVariants.{Order, Stuck}
 use Rattle.siman_console.specs.Check.{Recorded}
 use Rattle.siman_console.specs.Ending.{of_recording}
-use Rattle.siman_console.specs.Outcome.{Stream}
-use Rattle.siman_console.specs.Audit.{explained_text, FindsOrder, IsUnsearched, AreTextsOf, Finds, Searches, PutsBoth, PutsFinding, TellsAudit}
+use Rattle.siman_console.specs.Audit.{IsUnsearched, Searches}
 
 -- each block is of one of the stations
 are_within : (r : PlainRecording) (h : History) (n : ℕ) (blocks : List Block) → AreBlocks r h n blocks → All (λ (b : Block). b.station < n) blocks
@@ -55,15 +51,3 @@ unread recorded fault (Err e) passed why = rw passed (unsearched recorded fault 
 pub unmade : (recorded : Recorded) (result : Result Finding Fault) → IsErrAnd result (λ e. e ≡ Memory) → Searches recorded result
 unmade recorded (Ok finding) passed = absurd passed
 unmade recorded (Err e) passed = rw passed (inr (inr refl))
-
--- what was found is told of what was read
-told_order : (recorded : Recorded) (certificate line : List ℕ) (steps : List Step) (answered : Result ℕ Fault) (file out : Stream) → FindsOrder recorded steps
-    → AreTextsOf steps certificate line → PutsBoth certificate line answered file out → TellsAudit recorded answered file out
-told_order recorded certificate line steps answered file out finds texts puts =
-    inr (inl (steps, finds, subst (λ t. PutsBoth t (explained_text (length steps)) answered file out) texts.certificate_is (subst (λ t. PutsBoth certificate t answered file out) texts.line_is puts)))
-
-pub tells_found : (recorded : Recorded) (finding : Finding) (answered : Result ℕ Fault) (file out : Stream) → Finds recorded finding
-    → PutsFinding finding answered file out → TellsAudit recorded answered file out
-tells_found recorded (Order texts) answered file out finds puts =
-    told_order recorded texts.certificate.items (string_bytes texts.line) finds.0 answered file out finds.1 finds.2 puts
-tells_found recorded (Stuck text) answered file out finds puts = inr (inr (string_bytes text, finds, puts.0, puts.1))

@@ -1,11 +1,11 @@
 -- What is told of lines, one after the other.
-use Rattle.std.proofs.Common.{◌≡◌, ◌≢◌, ℕ, suc, ◌+◌, ◌<◌, max, List, [], ◌∷◌, ◌++◌, length, take, nat_lt, if◌then◌else◌, Option, Some, None, Result, Ok, Err, refl, sym, ap, ◌∙◌, subst, inl, inr, arith, append_assoc, append-nil, length-append, length-take-le, take_all}
+use Rattle.std.proofs.Common.{◌≡◌, ◌≢◌, ℕ, suc, ◌+◌, ◌<◌, max, List, [], ◌∷◌, ◌++◌, length, take, Option, Some, None, Result, Ok, Err, refl, sym, ap, ◌∙◌, subst, inl, inr, arith, append_assoc, append-nil, length-append, length-take-le, take_all}
 use Rattle.std.specs.Prelude.{IfSome}
 use Rattle.std.specs.Result.{IsErrAnd}
+use Rattle.std.specs.List.{AllByRecursion}
 use Rattle.std.specs.Io.KnownBytes.{Appends, Keeps, IsAtEnd}
 use Rattle.std.proofs.KnownBytes.{Appends-trans, Appends-kept, Appends-nil, Keeps-refl}
 use Rattle.std.proofs.lemmas.Bool.{cases_lt}
-use Rattle.std.proofs.lemmas.Bool.Decides.{nat_tests}
 use Rattle.byte_files.specs.Writing.{WritesPart}
 use Rattle.dis_records.specs.Header.{header_at}
 use Rattle.siman_pdus.specs.declared.fault.PduFault.{PduFault}
@@ -21,7 +21,11 @@ use Rattle.siman_console.specs.declared.pdus.Stop.{Stop}
 use Rattle.siman_console.specs.declared.pdus.Stop.TheVariants as stops
 use Rattle.siman_console.specs.Answer.{not_byte_pairs, said_of_reading, said_of_bytes, said_of_hex, IsSaid}
 use Rattle.siman_console.specs.HexText.{bytes_of}
-use Rattle.siman_console.specs.Pdus.{LinesTold, untold, and_then, told_of_said, told_of_line, told_of, IsWritten, WritesTorn, StopsAfter, TellsLines, TellsBad, TellsLine, ReadsLine, ReadsLines, HoldsLine, EndsLines}
+use Rattle.siman_console.specs.Input.{Has}
+use Rattle.siman_console.proofs.LineReadings.{line_cut}
+use Rattle.siman_console.proofs.HexTexts.{told_of_line-some}
+use Rattle.siman_console.proofs.Inputs.{over}
+use Rattle.siman_console.specs.Pdus.{LinesTold, untold, and_then, told_of_said, told_of_line, told_of, IsWritten, WritesTorn, StopsAfter, TellsLines, TellsBad, TellsLine, IsOneLine, ReadsLine, ReadsLines, HoldsLine}
 use Rattle.siman_console.specs.Outcome.{Stream, Outcome}
 
 -- ---- what is told
@@ -60,14 +64,6 @@ told_of-next lines line n number =
 pub told_of-none : told_of 0 [] ≡ untold
 unfolding told_of
 told_of-none = refl
-
--- a line that is not empty is answered for as a word
-pub told_of_line-some : (number : ℕ) (line : List ℕ) → 0 < length line → told_of_line number line ≡ told_of_said number (said_of_hex line)
-told_of_line-some number [] some = absurd (omega arith)
-told_of_line-some number (b ∷ bs) some = refl
-
-over : {X : Type 0} (m n : ℕ) (x y : X) → m < n → (if nat_lt m n then x else y) ≡ x
-over m n x y h = grind (arith, nat_tests)
 
 -- too long a line is not byte pairs
 said_of_hex-long : (line : List ℕ) → LONGEST_HEX < length line → said_of_hex line ≡ not_byte_pairs
@@ -188,39 +184,50 @@ pub reads-none : (a : Option (List ℕ)) → ReadsLines a a []
 reads-none None = tt
 reads-none (Some bytes) = refl
 
-pub reads-more : (a b c : Option (List ℕ)) (lines : List (List ℕ)) (line : List ℕ) → ReadsLines a b lines → ReadsLine b c line
+all_more : (lines : List (List ℕ)) (line : List ℕ) → AllByRecursion IsOneLine lines → IsOneLine line → AllByRecursion IsOneLine (lines ++ line ∷ [])
+all_more [] line all one = (one, tt)
+all_more (first ∷ lines) line all one = (all.0, all_more lines line all.1 one)
+
+pub reads-more : (a b c : Option (List ℕ)) (lines : List (List ℕ)) (line : List ℕ) → ReadsLines a b lines → IsOneLine line → ReadsLine b c line
     → ReadsLines a c (lines ++ line ∷ [])
-reads-more None b c lines line before next = tt
-reads-more (Some x) None c lines line before next = absurd before
-reads-more (Some x) (Some y) None lines line before next = absurd next
-reads-more (Some x) (Some y) (Some z) lines line before next =
+reads-more None b c lines line before one next = all_more lines line before one
+reads-more (Some x) None c lines line before one next = absurd before
+reads-more (Some x) (Some y) None lines line before one next = absurd next
+reads-more (Some x) (Some y) (Some z) lines line before one next =
     before ∙ ap (λ ls. lines ++ ls) next ∙ sym (append_assoc lines (line ∷ []) (lines_of z))
 
+-- a text of these lines
+text_of : List (List ℕ) → List ℕ
+text_of [] = []
+text_of (line ∷ lines) = line ++ 10 ∷ text_of lines
+
+lines_of-text : (lines : List (List ℕ)) → AllByRecursion IsOneLine lines → lines_of (text_of lines) ≡ lines
+unfolding text_of
+lines_of-text [] all = refl
+lines_of-text (line ∷ lines) all = line_cut line (text_of lines) all.0 ∙ ap (λ ls. line ∷ ls) (lines_of-text lines all.1)
+
+-- bytes that the input has, of which these lines were read; the others are left
+lines_left : (a b : Option (List ℕ)) (lines : List (List ℕ)) → ReadsLines a b lines → (bytes : List ℕ) × Has a bytes × ((rest : List (List ℕ)) × (lines_of bytes ≡ lines ++ rest))
+lines_left None b lines read = (text_of lines, tt, ([], lines_of-text lines read ∙ sym (append-nil lines)))
+lines_left (Some x) None lines read = absurd read
+lines_left (Some x) (Some y) lines read = (x, refl, (lines_of y, read))
+
 -- All lines were told.
-pub all-told : (a b : Option (List ℕ)) (lines : List (List ℕ)) (status : ℕ) (out errors : Stream) → ReadsLines a b lines → IsAtEnd b
-    → TellsLines lines (Ok status) out errors → IfSome a (λ bytes. TellsLines (lines_of bytes) (Ok status) out errors)
-all-told None b lines status out errors read end told = tt
-all-told (Some x) None lines status out errors read end told = absurd read
-all-told (Some x) (Some y) lines status out errors read end told =
-    let all : lines_of x ≡ lines = read ∙ ap (λ bytes. lines ++ lines_of bytes) end ∙ append-nil lines in
-    subst (λ ls. TellsLines ls (Ok status) out errors) (sym all) told
+all_lines : (a b : Option (List ℕ)) (lines : List (List ℕ)) → ReadsLines a b lines → IsAtEnd b → (bytes : List ℕ) × Has a bytes × (lines_of bytes ≡ lines)
+all_lines None b lines read end = (text_of lines, tt, lines_of-text lines read)
+all_lines (Some x) None lines read end = absurd read
+all_lines (Some x) (Some y) lines read end = (x, refl, read ∙ ap (λ bytes. lines ++ lines_of bytes) end ∙ append-nil lines)
+
+-- what is told of the lines of an input
+abbrev pub TellsInput : (known : Option (List ℕ)) → Result ℕ Stop → (out errors : Stream) → Type 0
+TellsInput known result out errors = (bytes : List ℕ) × Has known bytes × TellsLines (lines_of bytes) result out errors
 
 -- It stopped between two lines.
-pub stopped-between : (a b : Option (List ℕ)) (lines : List (List ℕ)) (stop : Stop) (out errors : Stream) → ReadsLines a b lines
-    → ((rest : List (List ℕ)) → StopsAfter lines rest stop out errors) → IfSome a (λ bytes. TellsLines (lines_of bytes) (Err stop) out errors)
-stopped-between None b lines stop out errors read stops = tt
-stopped-between (Some x) None lines stop out errors read stops = absurd read
-stopped-between (Some x) (Some y) lines stop out errors read stops = (lines, lines_of y, read, stops (lines_of y))
-
--- It stopped in a line that was read.
-pub stopped-in : (a b c : Option (List ℕ)) (lines : List (List ℕ)) (line : List ℕ) (stop : Stop) (out errors : Stream) → ReadsLines a b lines
-    → ReadsLine b c line → ((others : List (List ℕ)) → StopsAfter lines (line ∷ others) stop out errors)
-    → IfSome a (λ bytes. TellsLines (lines_of bytes) (Err stop) out errors)
-stopped-in None b c lines line stop out errors read next stops = tt
-stopped-in (Some x) None c lines line stop out errors read next stops = absurd read
-stopped-in (Some x) (Some y) None lines line stop out errors read next stops = absurd next
-stopped-in (Some x) (Some y) (Some z) lines line stop out errors read next stops =
-    (lines, line ∷ lines_of z, read ∙ ap (λ ls. lines ++ ls) next, stops (lines_of z))
+stopped-between : (a b : Option (List ℕ)) (lines : List (List ℕ)) (stop : Stop) (out errors : Stream) → ReadsLines a b lines
+    → ((rest : List (List ℕ)) → StopsAfter lines rest stop out errors) → TellsInput a (Err stop) out errors
+stopped-between a b lines stop out errors read stops =
+    let left = lines_left a b lines read in
+    (left.0, left.1, (lines, left.2.0, left.2.1, stops left.2.0))
 
 -- ---- the lines so far
 
@@ -243,94 +250,53 @@ told-none a o e = record {
 
 -- one more line was read, and told
 pub told-more : (a b c o p q e f g : Option (List ℕ)) (number worst status worse : ℕ) (line : List ℕ) → ToldSoFar a b o p e f number worst
-    → ReadsLine b c line → worse ≡ max worst status → TellsLine (told_of_line number line) (Ok status) (stream p q) (stream f g)
+    → IsOneLine line → ReadsLine b c line → worse ≡ max worst status → TellsLine (told_of_line number line) (Ok status) (stream p q) (stream f g)
     → ToldSoFar a c o q e g (number + 1) worse
-told-more a b c o p q e f g number worst status worse line before next worsen told =
+told-more a b c o p q e f g number worst status worse line before one next worsen told =
     let longer = length-append before.lines (line ∷ []) in
     record {
       lines = before.lines ++ line ∷ [];
       count = (let one = before.count in omega arith);
       status = worsen ∙ worst-more before.lines line number worst status before.count before.status told.0;
       written = written-more before.lines line number o p q e f g before.count before.written told.1;
-      read = reads-more a b c before.lines line before.read next;
+      read = reads-more a b c before.lines line before.read one next;
     }
 
 -- there are no more
 pub told-all : (a b o p e f : Option (List ℕ)) (number worst : ℕ) → ToldSoFar a b o p e f number worst → IsAtEnd b
-    → IfSome a (λ bytes. TellsLines (lines_of bytes) (Ok worst) (stream o p) (stream e f))
+    → TellsInput a (Ok worst) (stream o p) (stream e f)
 told-all a b o p e f number worst before end =
-    all-told a b before.lines worst (stream o p) (stream e f) before.read end (before.status, before.written)
-
-pub told-some : (a b o p e f : Option (List ℕ)) (number worst : ℕ) → ToldSoFar a b o p e f number worst
-    → (lines : List (List ℕ)) × TellsLines lines (Ok worst) (stream o p) (stream e f)
-told-some a b o p e f number worst before = (before.lines, (before.status, before.written))
+    let all = all_lines a b before.lines before.read end in
+    (all.0, all.1, subst (λ (lines : List (List ℕ)). TellsLines lines (Ok worst) (stream o p) (stream e f)) (sym all.2) (before.status, before.written))
 
 -- a read failed
-stops-unread : (lines rest : List (List ℕ)) (o p e f : Option (List ℕ)) → IsWritten (told_of 0 lines) (stream o p) (stream e f)
-    → StopsAfter lines rest (stops.Fault Input) (stream o p) (stream e f)
-stops-unread lines rest o p e f written = (written.1, inl (inl refl, written.0))
-
 pub told-unread : (a b o p e f : Option (List ℕ)) (number worst : ℕ) → ToldSoFar a b o p e f number worst
-    → IfSome a (λ bytes. TellsLines (lines_of bytes) (Err (stops.Fault Input)) (stream o p) (stream e f))
+    → TellsInput a (Err (stops.Fault Input)) (stream o p) (stream e f)
 told-unread a b o p e f number worst before =
     stopped-between a b before.lines (stops.Fault Input) (stream o p) (stream e f) before.read
-    (λ rest. stops-unread before.lines rest o p e f before.written)
-
-pub told-unread-some : (a b o p e f : Option (List ℕ)) (number worst : ℕ) → ToldSoFar a b o p e f number worst
-    → (lines : List (List ℕ)) × TellsLines lines (Err (stops.Fault Input)) (stream o p) (stream e f)
-told-unread-some a b o p e f number worst before =
-    (before.lines ++ [], (before.lines, [], refl, stops-unread before.lines [] o p e f before.written))
+    (λ rest. (before.written.1, inl (inl refl, before.written.0)))
 
 -- it stopped in a line
-pub told-short : (a b c o p q e f g : Option (List ℕ)) (number worst : ℕ) (stop : Stop) (line : List ℕ) → ToldSoFar a b o p e f number worst → ReadsLine b c line
-    → TellsLine (told_of_line number line) (Err stop) (stream p q) (stream f g)
-    → IfSome a (λ bytes. TellsLines (lines_of bytes) (Err stop) (stream o q) (stream e g))
-told-short a b c o p q e f g number worst stop line before next told =
-    stopped-in a b c before.lines line stop (stream o q) (stream e g) before.read next
-    (λ others. stops-in before.lines others line number stop o p q e f g before.count before.written told)
+pub told-short : (a b c o p q e f g : Option (List ℕ)) (number worst : ℕ) (stop : Stop) (line : List ℕ) → ToldSoFar a b o p e f number worst → IsOneLine line → ReadsLine b c line
+    → TellsLine (told_of_line number line) (Err stop) (stream p q) (stream f g) → TellsInput a (Err stop) (stream o q) (stream e g)
+told-short a b c o p q e f g number worst stop line before one next told =
+    let lines = before.lines in
+    let left = lines_left a c (lines ++ line ∷ []) (reads-more a b c lines line before.read one next) in (
+      left.0,
+      left.1,
+      (lines, line ∷ left.2.0, left.2.1 ∙ append_assoc lines (line ∷ []) left.2.0, stops-in lines left.2.0 line number stop o p q e f g before.count before.written told),
+    )
 
-pub told-short-some : (a b o p q e f g : Option (List ℕ)) (number worst : ℕ) (stop : Stop) (line : List ℕ) → ToldSoFar a b o p e f number worst
-    → TellsLine (told_of_line number line) (Err stop) (stream p q) (stream f g)
-    → (lines : List (List ℕ)) × TellsLines lines (Err stop) (stream o q) (stream e g)
-told-short-some a b o p q e f g number worst stop line before told =
-    (before.lines ++ line ∷ [], (before.lines, line ∷ [], refl, stops-in before.lines [] line number stop o p q e f g before.count before.written told))
-
--- the status alone is answered
-pub status_known : (known : Option (List ℕ)) (ended : Ended) (o p e f : Option (List ℕ))
-    → IfSome known (λ bytes. (let end : Outcome = record { ended = ended; out = stream o p; errors = stream e f } in EndsLines (lines_of bytes) end))
-    → IfSome known (λ bytes. (wrote : Wrote) × (let end : Outcome = record { ended = record { status = ended.status; written = wrote }; out = stream o p; errors = stream e f } in
-    EndsLines (lines_of bytes) end))
-status_known None ended o p e f ends = tt
-status_known (Some bytes) ended o p e f ends = (ended.written, ends)
-
--- ---- what was passed on
-
-pub err_is : (result : Result ℕ Stop) (stop : Stop) → IsErrAnd result (λ e. e ≡ stop) → result ≡ Err stop
-err_is (Ok status) stop passed = absurd passed
-err_is (Err e) stop passed = ap Err passed
-
-pub err_known : (known : Option (List ℕ)) (stop : Stop) (result : Result ℕ Stop) (o p e f : Option (List ℕ)) → IsErrAnd result (λ e. e ≡ stop)
-    → IfSome known (λ bytes. TellsLines (lines_of bytes) (Err stop) (stream o p) (stream e f))
-    → IfSome known (λ bytes. TellsLines (lines_of bytes) result (stream o p) (stream e f))
-err_known known stop result o p e f passed told =
-    subst (λ (r : Result ℕ Stop). IfSome known (λ bytes. TellsLines (lines_of bytes) r (stream o p) (stream e f))) (sym (err_is result stop passed)) told
-
-pub err_some : (result : Result ℕ Stop) (stop : Stop) (o p e f : Option (List ℕ)) → IsErrAnd result (λ e. e ≡ stop)
-    → (lines : List (List ℕ)) × TellsLines lines (Err stop) (stream o p) (stream e f)
-    → (lines : List (List ℕ)) × TellsLines lines result (stream o p) (stream e f)
-err_some result stop o p e f passed told =
-    subst (λ (r : Result ℕ Stop). (lines : List (List ℕ)) × TellsLines lines r (stream o p) (stream e f)) (sym (err_is result stop passed)) told
+-- what was passed on is told
+pub passed_on : (known : Option (List ℕ)) (stop : Stop) (result : Result ℕ Stop) (out errors : Stream) → IsErrAnd result (λ e. e ≡ stop)
+    → TellsInput known (Err stop) out errors → TellsInput known result out errors
+passed_on known stop (Ok status) out errors passed told = absurd passed
+passed_on known stop (Err e) out errors passed told = rw passed told
 
 -- there was no memory to begin
-stops-none : (rest : List (List ℕ)) (o e : Option (List ℕ)) → StopsAfter [] rest (stops.Fault Memory) (stream o o) (stream e e)
-stops-none rest o e = let none = written-none o e in (none.1, inl (inr refl, none.0))
-
-pub short-known : (known : Option (List ℕ)) (result : Result ℕ Stop) (o e : Option (List ℕ)) → IsErrAnd result (λ s. s ≡ stops.Fault Memory)
-    → IfSome known (λ bytes. TellsLines (lines_of bytes) result (stream o o) (stream e e))
-short-known known result o e passed =
-    err_known known (stops.Fault Memory) result o o e e passed
-    (stopped-between known known [] (stops.Fault Memory) (stream o o) (stream e e) (reads-none known) (λ rest. stops-none rest o e))
-
-pub short-some : (result : Result ℕ Stop) (o e : Option (List ℕ)) → IsErrAnd result (λ s. s ≡ stops.Fault Memory)
-    → (lines : List (List ℕ)) × TellsLines lines result (stream o o) (stream e e)
-short-some result o e passed = err_some result (stops.Fault Memory) o o e e passed ([], ([], [], refl, stops-none [] o e))
+pub told-nothing : (known : Option (List ℕ)) (result : Result ℕ Stop) (o e : Option (List ℕ)) → IsErrAnd result (λ s. s ≡ stops.Fault Memory)
+    → TellsInput known result (stream o o) (stream e e)
+told-nothing known result o e passed =
+    let none = written-none o e in
+    passed_on known (stops.Fault Memory) result (stream o o) (stream e e) passed
+    (stopped-between known known [] (stops.Fault Memory) (stream o o) (stream e e) (reads-none known) (λ rest. (none.1, inl (inr refl, none.0))))

@@ -1,25 +1,16 @@
--- How `world` ends that ran a script and wrote its recording, or could not.
-use Rattle.std.proofs.Common.{◌≡◌, ◌⊎◌, ℕ, List, [], Option, Result, Ok, Err, refl, inl, inr, subst}
-use Rattle.std.specs.Result.{IsErrAnd}
+-- How `world` ends that wrote its recording, or could not.
+use Rattle.std.proofs.Common.{◌≡◌, ℕ, List, [], Option, Ok, Err, refl, inr, subst}
 use Rattle.std.specs.Io.KnownBytes.{Appends}
 use Rattle.byte_files.specs.Writing.{WritesPart}
 use Rattle.exercise_model.specs.Recording.{PlainRecording}
 use Rattle.exercise_recording.specs.Text.{recording_text}
 use Rattle.siman_console.specs.declared.fault.Fault.{Fault}
-use Rattle.siman_console.specs.declared.fault.Fault.TheVariants.{ScriptRead, Memory}
 use Rattle.std.proofs.KnownBytes.{Appends-kept}
 use Rattle.siman_console.specs.Making.{SaysSettled}
 use Rattle.siman_console.specs.Outcome.{Stream}
 use Rattle.siman_console.specs.Show.{IsPassedOn}
-use Rattle.siman_console.specs.World.{Scripted, Runs, world_text, PutsWorld}
+use Rattle.siman_console.specs.World.{world_text, PutsWorld}
 use Rattle.siman_console.proofs.Passings.{passed-whole}
-
--- no script was fetched
-pub unfetched : (scripted : Scripted) (fault : Fault) (result : Result PlainRecording Fault) → IsErrAnd result (λ e. e ≡ fault)
-    → (fault ≡ ScriptRead) ⊎ (fault ≡ Memory) → Runs scripted result
-unfetched scripted fault (Ok r) passed which = absurd passed
-unfetched scripted fault (Err e) passed (inl read) = rw passed (rw read tt)
-unfetched scripted fault (Err e) passed (inr memory) = rw passed (rw memory tt)
 
 -- the recording is in its file, which was settled, and then its line was written or not
 pub world_put : (r : PlainRecording) (line : List ℕ) (file out : Stream) (mid : Option (List ℕ)) → line ≡ world_text r → IsPassedOn file.old mid [] (recording_text r)

@@ -1,5 +1,5 @@
 -- What `audit` says of a recording, and how it ends.
-use Rattle.std.specs.Prelude.{◌≡◌, ◌⊎◌, ℕ, List, [], ◌∷◌, map, length, codes, string_bytes, Result, Ok, Err}
+use Rattle.std.specs.Prelude.{◌≡◌, ◌⊎◌, ℕ, List, [], ◌∷◌, map, length, codes, string_bytes, Option, Result, Ok, Err}
 use Rattle.std.specs.Io.KnownBytes.{Appends, Keeps}
 use Rattle.byte_files.specs.Writing.{WritesPart}
 use Rattle.dis_records.specs.Address.{Pair}
@@ -22,22 +22,20 @@ use Rattle.siman_console.specs.declared.audit.Finding.TheVariants.{Order, Stuck}
 use Rattle.siman_console.specs.Check.{Recorded}
 use Rattle.siman_console.specs.CountLine.{counted}
 use Rattle.siman_console.specs.Ending.{EndsWith}
+use Rattle.siman_console.specs.Input.{Has}
+use Rattle.siman_console.specs.Making.{WritesShort, MakesFile}
 use Rattle.siman_console.specs.Outcome.{Stream}
+use Rattle.siman_console.specs.Outside.{Deed}
+use Rattle.siman_console.specs.declared.show.TheConstants.{LARGEST_RECORDING}
+use Rattle.exercise_recording.specs.Reading.{recording_at}
 use Rattle.siman_texts.specs.Line.{Number, Word, Bare, Keyed, Line, named_line}
 use Rattle.siman_texts.specs.Spelled.{address_text, line_text, lines_text}
 
 -- ---- the lines
 
 -- explained steps=N
-abbrev pub explained_line : ℕ → Line
-explained_line steps = counted (codes "explained") (codes "steps") steps
-
 abbrev pub explained_text : ℕ → List ℕ
-explained_text steps = line_text (explained_line steps)
-
--- blocked stations=N
-abbrev pub blocked_line : ℕ → Line
-blocked_line stations = counted (codes "blocked") (codes "stations") stations
+explained_text steps = line_text (counted (codes "explained") (codes "steps") steps)
 
 -- blocked SITE:APPLICATION record=N cause=N NAME
 abbrev pub block_at : Pair → Block → Line
@@ -49,13 +47,9 @@ block_at address b =
 abbrev pub block_line : PlainRecording → Block → Line
 block_line r b = block_at (station_at r b.station).address b
 
--- how many blocks there are, and a line for each, in their order
-abbrev pub blocked_lines : PlainRecording → List Block → List Line
-blocked_lines r blocks = blocked_line (length blocks) ∷ map (block_line r) blocks
-
--- THE BLOCKED LIST
+-- THE BLOCKED LIST: blocked stations=N, and a line for each block, in their order
 abbrev pub blocked_text : PlainRecording → List Block → List ℕ
-blocked_text r blocks = lines_text (blocked_lines r blocks)
+blocked_text r blocks = lines_text (counted (codes "blocked") (codes "stations") (length blocks) ∷ map (block_line r) blocks)
 
 -- ---- what is found
 
@@ -102,28 +96,18 @@ Searches recorded (Err fault) = IsUnsearched recorded fault
 
 -- ---- what is written
 
--- A failed write leaves a prefix of the file and no line, or the whole file and a prefix of the line.
-abbrev pub WritesShort : (first second : List ℕ) → (file out : Stream) → Type 0
-WritesShort first second file out =
-    (WritesPart file.old file.new first × Keeps out.old out.new)
-    ⊎ (Appends file.old file.new first × WritesPart out.old out.new second)
-
 -- Two texts were written, the first whole to a file before the second, or a write failed.
 abbrev pub PutsBoth : (first second : List ℕ) → Result ℕ Fault → (file out : Stream) → Type 0
 PutsBoth first second (Ok status) file out =
     (status ≡ 0) × Appends file.old file.new first × Appends out.old out.new second
 PutsBoth first second (Err fault) file out = (fault ≡ Output) × WritesShort first second file out
 
--- WHAT IS WRITTEN OF AN ORDER: the text of its certificate to the file, whole, and then its line, with status 0
-abbrev pub PutsOrder : List Step → Result ℕ Fault → (file out : Stream) → Type 0
-PutsOrder steps answered file out = PutsBoth (certificate_text steps) (explained_text (length steps)) answered file out
-
 -- WHAT IS WRITTEN WHERE THERE IS NONE: the blocked list, with status 1, or a prefix of it
 abbrev pub PutsBlocked : (list : List ℕ) → Result ℕ Fault → (out : Stream) → Type 0
 PutsBlocked list (Ok status) out = (status ≡ 1) × Appends out.old out.new list
 PutsBlocked list (Err fault) out = (fault ≡ Output) × WritesPart out.old out.new list
 
--- what is written of a finding
+-- WHAT IS WRITTEN OF A FINDING: of an order its texts, and of none the blocked list
 abbrev pub PutsFinding : Finding → Result ℕ Fault → (file out : Stream) → Type 0
 PutsFinding (Order texts) answered file out = PutsBoth texts.certificate.items (string_bytes texts.line) answered file out
 PutsFinding (Stuck text) answered file out = Keeps file.old file.new × PutsBlocked (string_bytes text) answered out
@@ -132,10 +116,19 @@ PutsFinding (Stuck text) answered file out = Keeps file.old file.new × PutsBloc
 abbrev pub TellsAudit : Recorded → (answered : Result ℕ Fault) → (file out : Stream) → Type 0
 TellsAudit recorded answered file out =
     ((fault : Fault) × IsUnsearched recorded fault × (answered ≡ Err fault) × Keeps file.old file.new × Keeps out.old out.new)
-    ⊎ ((steps : List Step) × FindsOrder recorded steps × PutsOrder steps answered file out)
-    ⊎ ((list : List ℕ) × FindsNone recorded list × Keeps file.old file.new × PutsBlocked list answered out)
+    ⊎ ((finding : Finding) × Finds recorded finding × PutsFinding finding answered file out)
 
 -- HOW `audit` ENDS: what it found is in the file and out, and it ends as that asks for
 abbrev pub EndsAudit : Recorded → (status : ℕ) → (file out errors : Stream) → Type 0
 EndsAudit recorded status file out errors =
     (answered : Result ℕ Fault) × TellsAudit recorded answered file out × EndsWith answered status errors.old errors.new
+
+-- ---- by the names of files
+
+-- WHAT COMES OF A FILE for `audit` that has these bytes, where they are known, and what is made of it: a file of the certificate of an order, and none where there is no order
+abbrev pub SearchesFile : (known : Option (List ℕ)) → Result Finding Fault → Type 0
+SearchesFile known found = (bytes : List ℕ) × Has known bytes × Searches (recording_at LARGEST_RECORDING bytes) found
+
+abbrev pub MakesFinding : Finding → (name : List ℕ) → List Deed → Result ℕ Fault → (out : Stream) → Type 0
+MakesFinding (Order texts) name deeds answered out = MakesFile (PutsBoth texts.certificate.items (string_bytes texts.line)) name deeds answered out
+MakesFinding (Stuck text) name deeds answered out = (deeds ≡ []) × PutsBlocked (string_bytes text) answered out

@@ -20,7 +20,13 @@ use Rattle.exercise_check.specs.Goodness.{IsGood, Refuses}
 use Rattle.siman_console.specs.declared.files_fault.FilesFault.{FilesFault}
 use Rattle.siman_console.specs.declared.files_fault.FilesFault.TheVariants.{Recording, Certificate, Write, Memory}
 use Rattle.siman_console.specs.declared.fault.Fault.{Fault}
-use Rattle.siman_console.specs.Ending.{EndsWith, of_files}
+use Rattle.siman_console.specs.Ending.{EndsWith, fault_status, of_files}
+use Rattle.siman_console.specs.declared.check.TheConstants.{LARGEST_CERTIFICATE}
+use Rattle.siman_console.specs.declared.show.TheConstants.{LARGEST_RECORDING}
+use Rattle.exercise_recording.specs.Reading.{recording_at}
+use Rattle.exercise_check.specs.Certificate.{certificate_at}
+use Rattle.siman_console.specs.Input.{Has}
+use Rattle.siman_console.specs.Outcome.{Stream}
 use Rattle.siman_console.specs.Report.{report_text, no_text}
 
 -- what reading a recording gives, and what reading a certificate gives: its steps
@@ -93,21 +99,16 @@ Judges recorded certified (Err Memory) old new = Keeps old new
 
 -- how the fault of a file is told
 abbrev pub of_recording : RecordingFault → FilesFault
-of_recording (recordings.Format fault) = Recording (recordings.Format fault)
-of_recording recordings.Read = Recording recordings.Read
 of_recording recordings.Memory = Memory
+of_recording fault = Recording fault
 
 abbrev pub of_certificate : CertificateFault → FilesFault
-of_certificate (certificates.Format fault) = Certificate (certificates.Format fault)
-of_certificate certificates.Read = Certificate certificates.Read
 of_certificate certificates.Memory = Memory
+of_certificate fault = Certificate fault
 
 -- the statuses: 0 yes, 1 no, 2 a fault, 3 want of memory
 abbrev pub files_fault_status : FilesFault → ℕ
-files_fault_status (Recording fault) = 2
-files_fault_status (Certificate fault) = 2
-files_fault_status Write = 2
-files_fault_status Memory = 3
+files_fault_status fault = fault_status (of_files fault)
 
 -- the status of what was judged: 0 yes, 1 no
 abbrev pub judged_status : Result Bool FilesFault → Result ℕ Fault
@@ -119,6 +120,12 @@ judged_status (Err fault) = Err (of_files fault)
 abbrev pub TellsCheck : Recorded → Certified → (answered : Result ℕ Fault) → (old new : Option (List ℕ)) → Type 0
 TellsCheck recorded certified answered old new =
     (judged : Result Bool FilesFault) × Judges recorded certified judged old new × (answered ≡ judged_status judged)
+
+-- WHAT `check` SAYS of two files that have these bytes, where they are known
+abbrev pub ChecksFiles : (recording certificate : Option (List ℕ)) → Result ℕ Fault → (out : Stream) → Type 0
+ChecksFiles recording certificate answered out =
+    (bytes : List ℕ) × Has recording bytes
+    × ((text : List ℕ) × Has certificate text × TellsCheck (recording_at LARGEST_RECORDING bytes) (certificate_at LARGEST_CERTIFICATE text) answered out.old out.new)
 
 -- HOW `check` ENDS: what it judged is out, and it ends as that asks for
 abbrev pub EndsCheck : Recorded → Certified → (status : ℕ) → (old new : Option (List ℕ)) → (errors_old errors_new : Option (List ℕ)) → Type 0

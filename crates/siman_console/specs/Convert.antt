@@ -1,5 +1,5 @@
 -- What `convert` does with a recording, and how it ends.
-use Rattle.std.specs.Prelude.{◌≡◌, ◌⊎◌, ℕ, List, length, codes, Result, Ok, Err, string_bytes}
+use Rattle.std.specs.Prelude.{◌≡◌, ◌⊎◌, ℕ, List, length, codes, Option, Result, Ok, Err, string_bytes}
 use Rattle.exercise_model.specs.Recording.{PlainRecording}
 use Rattle.exercise_model.specs.Conversion.{converted}
 use Rattle.exercise_recording.specs.Text.{recording_text}
@@ -9,17 +9,18 @@ use Rattle.siman_console.specs.declared.fault.Fault.{Fault}
 use Rattle.siman_console.specs.declared.fault.Fault.TheVariants.{Already}
 use Rattle.siman_console.specs.Check.{Recorded}
 use Rattle.siman_console.specs.CountLine.{counted}
+use Rattle.siman_console.specs.declared.convert.TheConstants.{LARGEST_OLD_RECORDING}
+use Rattle.exercise_recording.specs.Reading.{recording_at}
+use Rattle.siman_console.specs.Input.{Has}
+use Rattle.siman_console.specs.Making.{MakesFile}
 use Rattle.siman_console.specs.Outcome.{Stream}
-use Rattle.siman_texts.specs.Line.{Line}
+use Rattle.siman_console.specs.Outside.{Deed}
 use Rattle.siman_texts.specs.Spelled.{line_text}
 use Rattle.siman_console.specs.Audit.{IsUnsearched, PutsBoth}
 
 -- converted records=N
-abbrev pub converted_line : (entries : ℕ) → Line
-converted_line entries = counted (codes "converted") (codes "records") entries
-
 abbrev pub converted_text : (entries : ℕ) → List ℕ
-converted_text entries = line_text (converted_line entries)
+converted_text entries = line_text (counted (codes "converted") (codes "records") entries)
 
 -- NOTHING IS CARRIED OVER: the file has a bad field, a read failed, memory ran out, or it is a recording of the second format already
 abbrev pub IsUncarried : Recorded → Fault → Type 0
@@ -35,6 +36,9 @@ abbrev pub Carries : Recorded → Result Carried Fault → Type 0
 Carries recorded (Ok carried) = (r : PlainRecording) × IsOld recorded r × CarriesTexts r carried.conversion.text (string_bytes carried.line)
 Carries recorded (Err fault) = IsUncarried recorded fault
 
--- WHAT IS WRITTEN OF A RECORDING of the first format: the text of its conversion to the file, whole, and then its line, with status 0
-abbrev pub PutsConverted : PlainRecording → Result ℕ Fault → (file out : Stream) → Type 0
-PutsConverted r answered file out = PutsBoth (recording_text (converted r)) (converted_text (length r.entries)) answered file out
+-- WHAT COMES OF A FILE for `convert` that has these bytes, where they are known; and a file of the conversion is made: its text, whole, and then its line, with status 0
+abbrev pub CarriesFile : (known : Option (List ℕ)) → Result Carried Fault → Type 0
+CarriesFile known carried = (bytes : List ℕ) × Has known bytes × Carries (recording_at LARGEST_OLD_RECORDING bytes) carried
+
+abbrev pub MakesConverted : Carried → (name : List ℕ) → List Deed → Result ℕ Fault → (out : Stream) → Type 0
+MakesConverted carried name = MakesFile (PutsBoth carried.conversion.text (string_bytes carried.line)) name

@@ -1,6 +1,8 @@
 -- Why a command gave no answer, and how a command ends (profile).
-use Rattle.std.specs.Prelude.{◌≡◌, ℕ, List, [], ◌++◌, codes, decimal, Option, Some, None, Result, Ok, Err}
+use Rattle.std.specs.Prelude.{◌≡◌, ◌≢◌, ◌⊎◌, ℕ, List, [], ◌++◌, codes, decimal, Option, Some, None, Result, Ok, Err}
 use Rattle.std.specs.Io.KnownBytes.{Keeps}
+use Rattle.std.specs.declared.io.ErrorKind.{ErrorKind}
+use Rattle.std.specs.declared.io.ErrorKind.TheVariants.{OutOfMemory}
 use Rattle.byte_files.specs.Writing.{Writes}
 use Rattle.byte_files.specs.declared.output.WriteFailed.{WriteFailed}
 use Rattle.exercise_recording.specs.declared.format_fault.RecordingFault.{RecordingFault}
@@ -8,7 +10,6 @@ use Rattle.exercise_recording.specs.declared.format_fault.RecordingFault.TheVari
 use Rattle.exercise_recording.specs.FaultText as recording_texts
 use Rattle.exercise_recording.specs.declared.conversion.ConvertFault.{ConvertFault}
 use Rattle.exercise_recording.specs.declared.conversion.ConvertFault.TheVariants as converts
-use Rattle.exercise_check.specs.declared.certificate_fault.CertificateFault.{CertificateFault}
 use Rattle.exercise_check.specs.declared.certificate_fault.CertificateFault.TheVariants as certificates
 use Rattle.exercise_check.specs.FaultText as certificate_texts
 use Rattle.siman_manager.specs.declared.fault.OrderFault.TheVariants as orders
@@ -29,42 +30,7 @@ use Rattle.siman_console.specs.declared.trial_fault.TrialFault.{TrialFault}
 use Rattle.siman_console.specs.declared.trial_fault.TrialFault.TheVariants as trials
 use Rattle.siman_console.specs.Records.{line_end}
 
--- THE TABLE OF FAULTS: what each is about
-abbrev pub subject_of : Fault → List ℕ
-subject_of NotBytePairs = codes "hex: "
-subject_of (HexLine number) = codes "hex: "
-subject_of Input = codes "file: "
-subject_of (File name) = codes "file: "
-subject_of Words = codes "words: "
-subject_of (Recording fault) = codes "recording: "
-subject_of Already = codes "recording: "
-subject_of (Certificate fault) = codes "certificate: "
-subject_of (Script fault) = codes "script: "
-subject_of ScriptRead = codes "script: "
-subject_of (World fault) = codes "world: "
-subject_of LineFailed = codes "live: "
-subject_of Output = codes "output: "
-subject_of (SameAs name) = codes "output: same as "
-subject_of Exists = codes "output: "
-subject_of Memory = []
-
--- the name of a fault of a recording, and of one of a certificate
-abbrev pub recording_fault_name : RecordingFault → List ℕ
-recording_fault_name (recordings.Format f) = recording_texts.name_of f
-recording_fault_name recordings.Read = codes "read"
-recording_fault_name recordings.Memory = codes "memory"
-
-abbrev pub certificate_fault_name : CertificateFault → List ℕ
-certificate_fault_name (certificates.Format f) = certificate_texts.name_of f
-certificate_fault_name certificates.Read = codes "read"
-certificate_fault_name certificates.Memory = codes "memory"
-
--- the name of a fault of a script, and of one of a world or its moves
-abbrev pub script_fault_name : ScriptFault → List ℕ
-script_fault_name (scripts.BadLine line) = codes "bad-line"
-script_fault_name (scripts.UnknownStation line) = codes "unknown-station"
-script_fault_name scripts.Memory = codes "memory"
-
+-- the name of a fault of a move
 abbrev pub move_fault_name : MoveFault → List ℕ
 move_fault_name moves.Records = codes "records"
 move_fault_name moves.NoSuchStation = codes "no-such-station"
@@ -75,68 +41,32 @@ move_fault_name (moves.Order orders.IdsSpent) = codes "ids-spent"
 move_fault_name (moves.Order orders.TooLong) = codes "too-long"
 move_fault_name (moves.Order orders.Memory) = codes "memory"
 
-abbrev pub world_fault_name : WorldFault → List ℕ
-world_fault_name worlds.Stations = codes "stations"
-world_fault_name (worlds.Move number fault) = move_fault_name fault
-world_fault_name worlds.Memory = codes "memory"
-
--- what there is to say of it
-abbrev pub name_of : Fault → List ℕ
-name_of NotBytePairs = codes "not byte pairs"
-name_of (HexLine number) = codes "not byte pairs"
-name_of Input = codes "-"
-name_of (File name) = name.now
-name_of Words = codes "not UTF-8"
-name_of (Recording fault) = recording_fault_name fault
-name_of Already = codes "already"
-name_of (Certificate fault) = certificate_fault_name fault
-name_of (Script fault) = script_fault_name fault
-name_of ScriptRead = codes "read"
-name_of (World fault) = world_fault_name fault
-name_of LineFailed = codes "line"
-name_of Output = codes "write"
-name_of (SameAs name) = name.now
-name_of Exists = codes "exists"
-name_of Memory = codes "memory"
-
--- where it is: the offset of a field in bytes from 0, a line of a script or of hex texts from 1, a move of a world from 0
-abbrev pub recording_place : RecordingFault → Option Place
-recording_place (recordings.Format f) = Some (Offset (recording_texts.place_of f))
-recording_place recordings.Read = None
-recording_place recordings.Memory = None
-
-abbrev pub certificate_place : CertificateFault → Option Place
-certificate_place (certificates.Format f) = Some (Offset (certificate_texts.place_of f))
-certificate_place certificates.Read = None
-certificate_place certificates.Memory = None
-
-abbrev pub script_place : ScriptFault → Option Place
-script_place (scripts.BadLine line) = Some (Line line)
-script_place (scripts.UnknownStation line) = Some (Line line)
-script_place scripts.Memory = None
-
-abbrev pub world_place : WorldFault → Option Place
-world_place worlds.Stations = None
-world_place (worlds.Move number fault) = Some (Move number)
-world_place worlds.Memory = None
-
-abbrev pub place_of : Fault → Option Place
-place_of NotBytePairs = None
-place_of (HexLine number) = Some (Line number)
-place_of Input = None
-place_of (File name) = None
-place_of Words = None
-place_of (Recording fault) = recording_place fault
-place_of Already = None
-place_of (Certificate fault) = certificate_place fault
-place_of (Script fault) = script_place fault
-place_of ScriptRead = None
-place_of (World fault) = world_place fault
-place_of LineFailed = None
-place_of Output = None
-place_of (SameAs name) = None
-place_of Exists = None
-place_of Memory = None
+-- THE TABLE OF FAULTS: what each is about, what there is to say of it, and where it is: the offset of a field in bytes from 0, a line of a script or of hex texts from 1, a move of a world from 0
+abbrev pub told_as : Fault → List ℕ × List ℕ × Option Place
+told_as NotBytePairs = (codes "hex: ", codes "not byte pairs", None)
+told_as (HexLine number) = (codes "hex: ", codes "not byte pairs", Some (Line number))
+told_as Input = (codes "file: ", codes "-", None)
+told_as (File name) = (codes "file: ", name.now, None)
+told_as Words = (codes "words: ", codes "not UTF-8", None)
+told_as (Recording (recordings.Format f)) = (codes "recording: ", recording_texts.name_of f, Some (Offset (recording_texts.place_of f)))
+told_as (Recording recordings.Read) = (codes "recording: ", codes "read", None)
+told_as (Recording recordings.Memory) = (codes "recording: ", codes "memory", None)
+told_as Already = (codes "recording: ", codes "already", None)
+told_as (Certificate (certificates.Format f)) = (codes "certificate: ", certificate_texts.name_of f, Some (Offset (certificate_texts.place_of f)))
+told_as (Certificate certificates.Read) = (codes "certificate: ", codes "read", None)
+told_as (Certificate certificates.Memory) = (codes "certificate: ", codes "memory", None)
+told_as (Script (scripts.BadLine line)) = (codes "script: ", codes "bad-line", Some (Line line))
+told_as (Script (scripts.UnknownStation line)) = (codes "script: ", codes "unknown-station", Some (Line line))
+told_as (Script scripts.Memory) = (codes "script: ", codes "memory", None)
+told_as ScriptRead = (codes "script: ", codes "read", None)
+told_as (World worlds.Stations) = (codes "world: ", codes "stations", None)
+told_as (World (worlds.Move number fault)) = (codes "world: ", move_fault_name fault, Some (Move number))
+told_as (World worlds.Memory) = (codes "world: ", codes "memory", None)
+told_as LineFailed = (codes "live: ", codes "line", None)
+told_as Output = (codes "output: ", codes "write", None)
+told_as (SameAs name) = (codes "output: same as ", name.now, None)
+told_as Exists = (codes "output: ", codes "exists", None)
+told_as Memory = ([], codes "memory", None)
 
 abbrev pub place_words : Place → List ℕ
 place_words (Offset at) = codes " at "
@@ -154,35 +84,24 @@ place_text (Some place) = place_words place ++ decimal (place_number place)
 
 -- SUBJECT: NAME, or SUBJECT: NAME at N, at line N or at move N; with its line end
 abbrev pub fault_text : Fault → List ℕ
-fault_text fault = (subject_of fault ++ name_of fault) ++ place_text (place_of fault)
+fault_text fault = ((told_as fault).0 ++ (told_as fault).1) ++ place_text (told_as fault).2
 
 abbrev pub fault_line : Fault → List ℕ
 fault_line fault = fault_text fault ++ line_end
 
 -- the status that tells of it: 3 for want of memory, else 2
 abbrev pub fault_status : Fault → ℕ
-fault_status NotBytePairs = 2
-fault_status (HexLine number) = 2
-fault_status Input = 2
-fault_status (File name) = 2
-fault_status Words = 2
-fault_status (Recording fault) = 2
-fault_status Already = 2
-fault_status (Certificate fault) = 2
-fault_status (Script fault) = 2
-fault_status ScriptRead = 2
-fault_status (World fault) = 2
-fault_status LineFailed = 2
-fault_status Output = 2
-fault_status (SameAs name) = 2
-fault_status Exists = 2
 fault_status Memory = 3
+fault_status other = 2
+
+-- how an error is told: as this fault, or as want of memory
+abbrev pub IsToldAs : ErrorKind → (other fault : Fault) → Type 0
+IsToldAs kind other fault = ((kind ≡ OutOfMemory) × (fault ≡ Memory)) ⊎ ((kind ≢ OutOfMemory) × (fault ≡ other))
 
 -- how the fault of a file is told
 abbrev pub of_recording : RecordingFault → Fault
-of_recording (recordings.Format fault) = Recording (recordings.Format fault)
-of_recording recordings.Read = Recording recordings.Read
 of_recording recordings.Memory = Memory
+of_recording fault = Recording fault
 
 -- how it is told that a recording was not carried over to the second format
 abbrev pub of_convert : ConvertFault → Fault
@@ -193,14 +112,12 @@ of_convert converts.Memory = Memory
 
 -- how the fault of a script, and that of its world, is told
 abbrev pub of_script : ScriptFault → Fault
-of_script (scripts.BadLine line) = Script (scripts.BadLine line)
-of_script (scripts.UnknownStation line) = Script (scripts.UnknownStation line)
 of_script scripts.Memory = Memory
+of_script fault = Script fault
 
 abbrev pub of_world : WorldFault → Fault
-of_world worlds.Stations = World worlds.Stations
-of_world (worlds.Move number fault) = World (worlds.Move number fault)
 of_world worlds.Memory = Memory
+of_world fault = World fault
 
 abbrev pub of_files : FilesFault → Fault
 of_files (files.Recording fault) = Recording fault

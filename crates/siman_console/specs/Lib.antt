@@ -20,3 +20,4 @@ pub mod CountLine
 pub mod Input
 pub mod Making
 pub mod Opening
+pub mod Saying

@@ -1,27 +1,28 @@
 -- What `live` does with the stations and moves of a script, and how it ends (profile).
-use Rattle.std.specs.Prelude.{◌≡◌, ◌⊎◌, ◌≤◌, ◌<◌, ⊤, ℕ, true, false, List, codes, Result, Ok, Err}
+use Rattle.std.specs.Prelude.{◌≡◌, ◌≢◌, ◌⊎◌, ◌≤◌, ◌<◌, ⊤, ℕ, true, false, List, [], ◌∷◌, length, codes, Option, Result, Ok, Err}
 use Rattle.std.specs.Io.KnownBytes.{Appends, Keeps}
 use Rattle.byte_files.specs.Writing.{WritesPart}
 use Rattle.exercise_model.specs.declared.recording.TheConstants.{MOST_ENTRIES}
 use Rattle.siman_scripts.specs.declared.script_fault.ScriptFault.TheVariants as scripts
 use Rattle.siman_worlds.specs.declared.world_fault.WorldFault.TheVariants as worlds
-use Rattle.siman_scripts.specs.Script.{ScriptData}
+use Rattle.siman_scripts.specs.Script.{ScriptData, script_at}
 use Rattle.siman_worlds.specs.World.{are_world_stations}
 use Rattle.siman_console.specs.declared.fault.Fault.{Fault}
-use Rattle.siman_console.specs.declared.fault.Fault.TheVariants.{Script, ScriptRead, World, LineFailed, Output, Memory}
+use Rattle.siman_console.specs.declared.fault.Fault.TheVariants.{Script, ScriptRead, World, LineFailed, Output, Exists, Memory}
 use Rattle.siman_console.specs.declared.live.Begun.{Begun}
+use Rattle.std.specs.declared.io.ErrorKind.{ErrorKind}
+use Rattle.std.specs.declared.io.ErrorKind.TheVariants.{AlreadyExists, OutOfMemory}
+use Rattle.siman_console.specs.Input.{Has}
+use Rattle.siman_console.specs.Making.{Answered}
 use Rattle.siman_console.specs.Outcome.{Stream}
+use Rattle.siman_console.specs.Outside.{Deed, LooksFor, Creates, Leaves}
 use Rattle.siman_console.specs.CountLine.{counted}
-use Rattle.siman_texts.specs.Line.{Line}
 use Rattle.siman_texts.specs.Spelled.{line_text}
 use Rattle.siman_console.specs.World.{Scripted}
 
 -- live records=N
-abbrev pub live_line : ℕ → Line
-live_line entries = counted (codes "live") (codes "records") entries
-
 abbrev pub live_text : ℕ → List ℕ
-live_text entries = line_text (live_line entries)
+live_text entries = line_text (counted (codes "live") (codes "records") entries)
 
 -- WHAT COMES OF A SCRIPT BEFORE ITS MOVES: its stations begin and their lines stand, or it is told why not. The first line of the script that is refused, stations that a world cannot have, lines that cannot be had; a failed read may come in place of the script, want of memory at any time.
 abbrev pub BeginsNone : Scripted → Fault → Type 0
@@ -60,3 +61,36 @@ pub record IsBegun (scripted : Scripted) (begun : Begun) : Type 0 where
 abbrev pub Begins : Scripted → Result Begun Fault → Type 0
 Begins scripted (Ok begun) = IsBegun scripted begun
 Begins scripted (Err fault) = BeginsNone scripted fault
+
+-- WHAT COMES OF A FILE for `live` that has these bytes, where they are known; what is done then follows
+abbrev pub BeginsFile : (known : Option (List ℕ)) → Result Begun Fault → Type 0
+BeginsFile known begun = (text : List ℕ) × Has known text × Begins (script_at text) begun
+
+-- how it is told that the lines of stations could not be had: want of memory, or else `live: line`
+abbrev pub IsUnlined : Fault → Type 0
+IsUnlined fault = (fault ≡ Memory) ⊎ (fault ≡ LineFailed)
+
+-- how it is told that a file was not created: want of memory, or that one stands there, or else as a failed write
+abbrev pub IsUncreated : ErrorKind → Fault → Type 0
+IsUncreated kind fault =
+    ((kind ≡ OutOfMemory) × (fault ≡ Memory)) ⊎ ((kind ≡ AlreadyExists) × (fault ≡ Exists))
+    ⊎ ((kind ≢ OutOfMemory) × (kind ≢ AlreadyExists) × (fault ≡ Output))
+
+-- A FILE IS CREATED of what comes of so many moves, and left
+abbrev pub CreatesMoves : (name : List ℕ) → (count : ℕ) → List Deed → Answered → Stream → Type 0
+CreatesMoves name count (Creates made (Err kind) ∷ []) answered out =
+    (made ≡ name) × Keeps out.old out.new × ((fault : Fault) × IsUncreated kind fault × (answered ≡ Err fault))
+CreatesMoves name count (Creates made (Ok fresh) ∷ Leaves left ∷ []) answered out = (made ≡ name) × TellsMoves count answered out
+CreatesMoves name count deeds answered out = ⊥
+
+-- None is created where the lines of the stations could not be had.
+abbrev pub LivesAtLines : (name : List ℕ) → (count : ℕ) → List Deed → Answered → Stream → Type 0
+LivesAtLines name count deeds answered out =
+    ((fault : Fault) × IsUnlined fault × (answered ≡ Err fault) × (deeds ≡ []) × Keeps out.old out.new)
+    ⊎ CreatesMoves name count deeds answered out
+
+-- WHERE A FILE STANDS under the name nothing is done, and no line is asked for
+abbrev pub LivesBegun : Begun → (name : List ℕ) → List Deed → Answered → Stream → Type 0
+LivesBegun begun name (LooksFor looked true ∷ deeds) answered out = (looked ≡ name) × (deeds ≡ []) × (answered ≡ Err Exists) × Keeps out.old out.new
+LivesBegun begun name (LooksFor looked false ∷ deeds) answered out = (looked ≡ name) × LivesAtLines name (length begun.moves.items) deeds answered out
+LivesBegun begun name deeds answered out = ⊥

@@ -1,11 +1,11 @@
 -- What becomes of a file that a command makes (profile).
-use Rattle.std.specs.Prelude.{◌≡◌, ◌≢◌, ◌⊎◌, ℕ, List, [], ◌∷◌, Option, Result, Ok, Err}
+use Rattle.std.specs.Prelude.{◌≡◌, ◌⊎◌, ℕ, List, [], ◌∷◌, Option, Result, Ok, Err}
 use Rattle.std.specs.Io.KnownBytes.{Appends, Keeps}
 use Rattle.byte_files.specs.Writing.{WritesPart}
 use Rattle.std.specs.declared.io.ErrorKind.{ErrorKind}
-use Rattle.std.specs.declared.io.ErrorKind.TheVariants.{OutOfMemory}
+use Rattle.siman_console.specs.Ending.{IsToldAs}
 use Rattle.siman_console.specs.declared.fault.Fault.{Fault}
-use Rattle.siman_console.specs.declared.fault.Fault.TheVariants.{Output, Memory}
+use Rattle.siman_console.specs.declared.fault.Fault.TheVariants.{Output}
 use Rattle.siman_console.specs.Outside.{Deed, Saved, Makes, Saves, Discards}
 use Rattle.siman_console.specs.Outcome.{Stream}
 
@@ -18,17 +18,20 @@ abbrev pub SaysSettled : (line : List ℕ) → Result (Unit {0}) Fault → (file
 SaysSettled line (Ok x) file out = Keeps file.old file.new × Appends out.old out.new line
 SaysSettled line (Err fault) file out = (fault ≡ Output) × Keeps file.old file.new × WritesPart out.old out.new line
 
--- how it is told that the file to be written was not made or not saved: want of memory, or else as a failed write
-abbrev pub IsUnmade : ErrorKind → Fault → Type 0
-IsUnmade kind fault = ((kind ≡ OutOfMemory) × (fault ≡ Memory)) ⊎ ((kind ≢ OutOfMemory) × (fault ≡ Output))
+-- A failed write leaves a prefix of the file and no line, or the whole file and a prefix of the line.
+abbrev pub WritesShort : (first second : List ℕ) → (file out : Stream) → Type 0
+WritesShort first second file out =
+    (WritesPart file.old file.new first × Keeps out.old out.new)
+    ⊎ (Appends file.old file.new first × WritesPart out.old out.new second)
 
+-- that the file to be written was not made or not saved is told as a failed write, or as want of memory
 abbrev pub TellsUnmade : ErrorKind → Answered → Stream → Type 0
-TellsUnmade kind answered out = Keeps out.old out.new × ((fault : Fault) × IsUnmade kind fault × (answered ≡ Err fault))
+TellsUnmade kind answered out = Keeps out.old out.new × ((fault : Fault) × IsToldAs kind Output fault × (answered ≡ Err fault))
 
 -- The status is answered where the file was saved.
 abbrev pub AnswersSaved : Saved → (status : ℕ) → Answered → Type 0
 AnswersSaved (Ok x) status answered = answered ≡ Ok status
-AnswersSaved (Err kind) status answered = (fault : Fault) × IsUnmade kind fault × (answered ≡ Err fault)
+AnswersSaved (Err kind) status answered = (fault : Fault) × IsToldAs kind Output fault × (answered ≡ Err fault)
 
 -- AFTER AN ANSWER THE FILE IS SAVED, with what it was left with, and after a fault it is discarded
 abbrev pub IsSaved : (left : Option (List ℕ)) → (put : Answered) → Deed → Answered → Type 0

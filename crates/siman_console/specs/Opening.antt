@@ -6,9 +6,8 @@ use Rattle.std.specs.declared.io.ErrorKind.TheVariants.{OutOfMemory}
 use Rattle.siman_console.specs.declared.fault.Fault.{Fault}
 use Rattle.siman_console.specs.declared.fault.Fault.TheVariants.{Memory}
 use Rattle.siman_console.specs.Ending.{fault_text}
-use Rattle.siman_console.specs.Input.{Gives}
 use Rattle.siman_console.specs.Making.{Answered}
-use Rattle.siman_console.specs.Outside.{Deed, Opens, Compares}
+use Rattle.siman_console.specs.Outside.{Deed, Opens, Compares, Reads}
 use Rattle.siman_console.specs.Outcome.{Stream}
 
 -- how a file that was not opened is told: want of memory, or else `file: NAME` with the name as it was given
@@ -24,8 +23,8 @@ IsSame name fault = fault_text fault ≡ codes "output: same as " ++ name
 
 -- the bytes of a file that was opened, where they are known, or why it was not
 abbrev pub bytes_by : {F : Type 0} → (F → Option (List ℕ)) → Result F Fault → Result (Option (List ℕ)) Fault
-bytes_by remaining (Ok file) = Ok (remaining file)
-bytes_by remaining (Err fault) = Err fault
+bytes_by bytes (Ok file) = Ok (bytes file)
+bytes_by bytes (Err fault) = Err fault
 
 -- A FILE IS OPENED that is not the one to be made; else nothing is read of it
 abbrev pub OpensApart : (name made : List ℕ) → List Deed → Result (Option (List ℕ)) Fault → Type 0
@@ -34,9 +33,12 @@ OpensApart name made deeds (Err fault) =
     ((kind : ErrorKind) × (deeds ≡ Opens name (Err kind) ∷ []) × IsUnopened name kind fault)
     ⊎ ((bytes : Option (List ℕ)) × (deeds ≡ Opens name (Ok bytes) ∷ Compares made true ∷ []) × IsSame name fault)
 
--- A FILE IS OPENED, and it goes on with what is read of it; or it is told why not
-abbrev pub GoesOn : {A : Type 0} → (name made : List ℕ) → (read : List ℕ → A) → (Goes : A → List Deed → Answered → Stream → Type 0) → List Deed → Answered → Stream → Type 0
-GoesOn {A} name made read Goes deeds answered out =
+-- A FILE IS OPENED, something is made of what is read of it, and another file of that; or it is told why not, of a file that is not opened, and of one of which nothing comes
+abbrev pub WorksOn : {A : Type 0} → (Gives : Option (List ℕ) → Result A Fault → Type 0) → (Makes : A → (made : List ℕ) → List Deed → Answered → Stream → Type 0)
+    → (name made : List ℕ) → List Deed → Answered → Stream → Type 0
+WorksOn {A} Gives Makes name made deeds answered out =
     ((fault : Fault) × OpensApart name made deeds (Err fault) × (answered ≡ Err fault) × Keeps out.old out.new)
-    ⊎ ((known : Option (List ℕ)) × (rest : List Deed) × (deeds ≡ Opens name (Ok known) ∷ Compares made false ∷ rest)
-    × ((a : A) × Gives read known a × Goes a rest answered out))
+    ⊎ ((known : Option (List ℕ)) × (fault : Fault) × (deeds ≡ Opens name (Ok known) ∷ Compares made false ∷ Reads known ∷ []) × Gives known (Err fault)
+    × (answered ≡ Err fault) × Keeps out.old out.new)
+    ⊎ ((known : Option (List ℕ)) × (rest : List Deed) × (a : A) × (deeds ≡ Opens name (Ok known) ∷ Compares made false ∷ Reads known ∷ rest) × Gives known (Ok a)
+    × Makes a made rest answered out)

@@ -26,6 +26,8 @@ pub data Deed : Type 0 where
   Opens : (name : List ℕ) → Found → Deed
   -- it was looked whether a regular file that stands under a name is the one that was opened last
   Compares : (name : List ℕ) → Bool → Deed
+  -- a file that was opened, with these bytes, where they are known, is read from here on
+  Reads : Option (List ℕ) → Deed
   -- a file was made that is to stand under a name; it was saved there with these bytes, where they are known, or discarded
   Makes : (name : List ℕ) → Found → Deed
   Saves : Option (List ℕ) → Saved → Deed
@@ -54,10 +56,6 @@ IsFresh (Err kind) = ⊤
 
 abbrev pub WasHeld : (List ℕ → Option Found) → Deed → Type 0
 WasHeld holds (Opens name found) = IsHeld (holds name) found
-WasHeld holds (Compares name same) = ⊤
 WasHeld holds (Makes name made) = IsFresh made
-WasHeld holds (Saves left saved) = ⊤
-WasHeld holds (Discards left) = ⊤
-WasHeld holds (LooksFor name taken) = ⊤
 WasHeld holds (Creates name made) = IsFresh made
-WasHeld holds (Leaves left) = ⊤
+WasHeld holds other = ⊤

@@ -5,7 +5,7 @@ use Rattle.dis_records.specs.declared.datum.FixedDatum.{FixedDatum}
 use Rattle.dis_records.specs.Datum.{Datum}
 use Rattle.siman_texts.specs.Line.{Value, Number, Word, Missing, Bare, Line, named_line}
 use Rattle.siman_pdus.specs.declared.pdu.Body.{Body}
-use Rattle.siman_pdus.specs.declared.pdu.Body.TheVariants.{CreateEntity, RemoveEntity, StartResume, StopFreeze, Acknowledge, ActionRequest, ActionResponse, DataQuery, SetData, DataPdu, EventReport, Comment}
+use Rattle.siman_pdus.specs.declared.pdu.Body.TheVariants.{ActionRequest, ActionResponse, DataQuery, SetData, DataPdu, EventReport, Comment}
 use Rattle.siman_pdus.specs.declared.pdu.Pdu.{Pdu}
 use Rattle.siman_pdus.specs.DatumLists.{DatumLists, IdLists}
 use Rattle.siman_console.specs.Head.{head_line}
@@ -31,24 +31,13 @@ variable_line datum =
 abbrev pub id_line : List ℕ → ℕ → Line
 id_line name id = named_line name (Bare (codes "id") (Number id) ∷ [])
 
-abbrev pub fixed_id_line : ℕ → Line
-fixed_id_line id = id_line (codes "fixed") id
-
-abbrev pub variable_id_line : ℕ → Line
-variable_id_line id = id_line (codes "variable") id
-
 abbrev pub datum_lines : DatumLists → List Line
 datum_lines d = map fixed_line d.fixed ++ map variable_line d.variable
 
 abbrev pub id_lines : IdLists → List Line
-id_lines d = map fixed_id_line d.fixed ++ map variable_id_line d.variable
+id_lines d = map (id_line (codes "fixed")) d.fixed ++ map (id_line (codes "variable")) d.variable
 
 abbrev pub record_lines : Body → List Line
-record_lines (CreateEntity request) = []
-record_lines (RemoveEntity request) = []
-record_lines (StartResume real sim request) = []
-record_lines (StopFreeze real reason behaviour request) = []
-record_lines (Acknowledge flag response request) = []
 record_lines (ActionRequest request action datums) = datum_lines datums
 record_lines (ActionResponse request status datums) = datum_lines datums
 record_lines (DataQuery request interval ids) = id_lines ids
@@ -56,6 +45,7 @@ record_lines (SetData request datums) = datum_lines datums
 record_lines (DataPdu request datums) = datum_lines datums
 record_lines (EventReport event datums) = datum_lines datums
 record_lines (Comment datums) = datum_lines datums
+record_lines other = []
 
 abbrev pub pdu_lines : Pdu → List Line
 pdu_lines pdu = head_line pdu ∷ record_lines pdu.body

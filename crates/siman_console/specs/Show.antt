@@ -17,7 +17,11 @@ use Rattle.exercise_model.specs.Meaning.{meaning}
 use Rattle.byte_files.specs.Writing.{WritesPart}
 use Rattle.siman_console.specs.declared.fault.Fault.{Fault}
 use Rattle.siman_console.specs.declared.fault.Fault.TheVariants.{Recording, Output, Memory}
+use Rattle.siman_console.specs.declared.show.TheConstants.{LARGEST_RECORDING}
+use Rattle.exercise_recording.specs.Reading.{recording_at}
 use Rattle.siman_console.specs.Ending.{EndsWith}
+use Rattle.siman_console.specs.Input.{Has}
+use Rattle.siman_console.specs.Outcome.{Stream}
 use Rattle.siman_texts.specs.declared.spelling.Spelling.TheVariants.{Text}
 use Rattle.siman_texts.specs.Line.{Number, Clock, Word, Field, Bare, Keyed, Called, Line, named_line, opened_line}
 use Rattle.siman_texts.specs.Spelled.{address_text, line_spelled, lines_spelled}
@@ -121,6 +125,10 @@ shown_status (Err fault) = Err fault
 -- What `show` tells: what it showed is out, with status 0, or it met a fault.
 abbrev pub TellsShow : Result PlainRecording FormatFault → (answered : Result ℕ Fault) → (old new : Option (List ℕ)) → Type 0
 TellsShow recorded answered old new = (shown : Result (Unit {0}) Fault) × Shows recorded shown old new × (answered ≡ shown_status shown)
+
+-- WHAT `show` SAYS of a file that has these bytes, where they are known
+abbrev pub ShowsFile : (known : Option (List ℕ)) → Result ℕ Fault → (out : Stream) → Type 0
+ShowsFile known answered out = (bytes : List ℕ) × Has known bytes × TellsShow (recording_at LARGEST_RECORDING bytes) answered out.old out.new
 
 -- HOW `show` ENDS: what it showed is out, and it ends as that asks for
 abbrev pub EndsShow : Result PlainRecording FormatFault → (status : ℕ) → (old new : Option (List ℕ)) → (errors_old errors_new : Option (List ℕ)) → Type 0

@@ -16,6 +16,9 @@ use Rattle.siman_console.specs.declared.fault.Fault.{Fault}
 use Rattle.siman_console.specs.declared.trial_fault.TrialFault.{TrialFault}
 use Rattle.siman_console.specs.declared.trial_fault.TrialFault.TheVariants.{Read, Script, World, Write, Memory}
 use Rattle.siman_console.specs.Ending.{of_trial}
+use Rattle.siman_scripts.specs.Script.{script_at}
+use Rattle.siman_console.specs.Input.{Has}
+use Rattle.siman_console.specs.Outcome.{Stream}
 use Rattle.siman_console.specs.Report.{report_text}
 use Rattle.siman_console.specs.Audit.{explained_text}
 use Rattle.siman_console.specs.World.{Scripted, recording_of, refusal_of, world_text}
@@ -68,14 +71,12 @@ Tries scripted (Err Memory) old new = Keeps old new
 
 -- how the fault of a script, and that of its world, is passed on
 abbrev pub script_refused : ScriptFault → TrialFault
-script_refused (scripts.BadLine line) = Script (scripts.BadLine line)
-script_refused (scripts.UnknownStation line) = Script (scripts.UnknownStation line)
 script_refused scripts.Memory = Memory
+script_refused fault = Script fault
 
 abbrev pub world_refused : WorldFault → TrialFault
-world_refused worlds.Stations = World worlds.Stations
-world_refused (worlds.Move number fault) = World (worlds.Move number fault)
 world_refused worlds.Memory = Memory
+world_refused fault = World fault
 
 -- the status of what was tried: 0 yes
 abbrev pub tried_status : Result Bool TrialFault → Result ℕ Fault
@@ -87,3 +88,7 @@ tried_status (Err fault) = Err (of_trial fault)
 abbrev pub TellsTrial : Scripted → (answered : Result ℕ Fault) → (old new : Option (List ℕ)) → Type 0
 TellsTrial scripted answered old new =
     (tried : Result Bool TrialFault) × Tries scripted tried old new × (answered ≡ tried_status tried)
+
+-- WHAT IS SAID of a script that standard input has, whose bytes are these where they are known
+abbrev pub TriesInput : (known : Option (List ℕ)) → Result ℕ Fault → (out : Stream) → Type 0
+TriesInput known answered out = (text : List ℕ) × Has known text × TellsTrial (script_at text) answered out.old out.new

@@ -17,8 +17,12 @@ use Rattle.siman_worlds.specs.World.{WorldData, sent_in, world_recording, world_
 use Rattle.siman_console.specs.declared.fault.Fault.{Fault}
 use Rattle.siman_console.specs.declared.fault.Fault.TheVariants.{Script, ScriptRead, World, Output, Memory}
 use Rattle.siman_console.specs.Ending.{EndsWith}
+use Rattle.siman_scripts.specs.Script.{script_at}
+use Rattle.siman_console.specs.Input.{Has}
+use Rattle.siman_console.specs.Making.{WritesShort, MakesFile}
 use Rattle.siman_console.specs.Outcome.{Stream}
-use Rattle.siman_texts.specs.Line.{Number, Keyed, Line, named_line}
+use Rattle.siman_console.specs.Outside.{Deed}
+use Rattle.siman_texts.specs.Line.{Number, Keyed, named_line}
 use Rattle.siman_texts.specs.Spelled.{line_text}
 
 -- what reading a script gives
@@ -72,23 +76,15 @@ is_sent (Received s stamp b) = false
 is_sent (Told s e y) = false
 
 -- world records=N sent=M
-abbrev pub world_line : PlainRecording → Line
-world_line r = named_line (codes "world") (Keyed (codes "records") (Number (length r.entries)) ∷ Keyed (codes "sent") (Number (length (sent_in r.entries))) ∷ [])
-
 abbrev pub world_text : PlainRecording → List ℕ
-world_text r = line_text (world_line r)
-
--- A failed write leaves a prefix of the file and no line, or the whole file and a prefix of the line.
-abbrev pub WritesShort : PlainRecording → (file out : Stream) → Type 0
-WritesShort r file out =
-    (WritesPart file.old file.new (recording_text r) × Keeps out.old out.new)
-    ⊎ (Appends file.old file.new (recording_text r) × WritesPart out.old out.new (world_text r))
+world_text r =
+    line_text (named_line (codes "world") (Keyed (codes "records") (Number (length r.entries)) ∷ Keyed (codes "sent") (Number (length (sent_in r.entries))) ∷ []))
 
 -- WHAT IS WRITTEN OF A RECORDING: its text to the file, whole, and then its line; want of memory leaves a prefix of the file and no line
 abbrev pub PutsWorld : PlainRecording → Result ℕ Fault → (file out : Stream) → Type 0
 PutsWorld r (Ok status) file out =
     (status ≡ 0) × Appends file.old file.new (recording_text r) × Appends out.old out.new (world_text r)
-PutsWorld r (Err Output) file out = WritesShort r file out
+PutsWorld r (Err Output) file out = WritesShort (recording_text r) (world_text r) file out
 PutsWorld r (Err Memory) file out = WritesPart file.old file.new (recording_text r) × Keeps out.old out.new
 PutsWorld r (Err other) file out = ⊥
 
@@ -102,3 +98,10 @@ TellsWorld scripted answered file out =
 abbrev pub EndsWorld : Scripted → (status : ℕ) → (file out errors : Stream) → Type 0
 EndsWorld scripted status file out errors =
     (answered : Result ℕ Fault) × TellsWorld scripted answered file out × EndsWith answered status errors.old errors.new
+
+-- WHAT COMES OF A FILE for `world` that has these bytes, where they are known; and a file of that recording is made
+abbrev pub RunsFile : (known : Option (List ℕ)) → Result PlainRecording Fault → Type 0
+RunsFile known made = (text : List ℕ) × Has known text × Runs (script_at text) made
+
+abbrev pub MakesWorld : PlainRecording → (name : List ℕ) → List Deed → Result ℕ Fault → (out : Stream) → Type 0
+MakesWorld r name = MakesFile (PutsWorld r) name

@@ -1,6 +1,6 @@
 //! The command `audit`: a recording, searched for an order that explains it.
 
-ghost use Rattle.std.specs.Prelude.{◌≡◌, ◌<◌, ◌≤◌, ◌++◌, ℕ, List, map, length, All, Ok, IfOk, OnOk, string_bytes};
+ghost use Rattle.std.specs.Prelude.{◌≡◌, ◌<◌, ◌≤◌, ◌++◌, ℕ, List, Option, map, length, All, Ok, IfOk, OnOk, string_bytes};
 ghost use Rattle.std.specs.Io.KnownBytes.{Keeps};
 ghost use Rattle.exercise_recording.specs.Reading.{recording_at};
 ghost use Rattle.exercise_check.specs.Certificate.{certificate_text};
@@ -10,12 +10,15 @@ ghost use Rattle.exercise_audit.specs.Audit.{IsBlocked};
 ghost use Rattle.siman_console.specs.declared.show.TheConstants.{LARGEST_RECORDING};
 ghost use Rattle.siman_console.specs.Input.{Has};
 ghost use Rattle.siman_console.specs.Outcome.{Stream};
+ghost use Rattle.siman_console.specs.Outside.{Deed, Found, Adds, WasHeld};
 ghost use Rattle.siman_texts.specs.Spelled.{line_text, lines_text};
-ghost use Rattle.siman_console.specs.Audit.{block_at, block_line, Finds, Searches, PutsBlocked, PutsFinding, TellsAudit, EndsAudit};
+ghost use Rattle.siman_console.specs.Audit.{block_at, block_line, Finds, Searches, PutsBlocked, PutsFinding, TellsAudit, EndsAudit, MakesFinding};
 
 use crate::count_line::counted;
 use crate::fault::{Fault, end};
-use crate::making::{Making, settle_and_say};
+use crate::making::{Making, make_file, settle_and_say};
+use crate::outside::Outside;
+use crate::product::Product;
 use crate::show::LARGEST_RECORDING;
 use byte_files::put;
 use dis_records::Address;
@@ -87,7 +90,7 @@ fn audited<R: Read + Drop, F: Write, W: Write>(
 }
 
 /// Searches the recording that a reader has for an order that explains it.
-pub(crate) fn search<R: Read + Drop>(alloc: Global, recording: R) -> Result<Finding, Fault<'static>>
+fn search<R: Read + Drop>(alloc: Global, recording: R) -> Result<Finding, Fault<'static>>
     ensures { (bytes : List ℕ) × Has (R.remaining recording) bytes × Searches (recording_at LARGEST_RECORDING bytes) result }
 {
     let bytes = fetch_recording(alloc, recording, LARGEST_RECORDING)?;
@@ -99,10 +102,10 @@ fn search_bytes(alloc: Global, bytes: &[u8]) -> Result<Finding, Fault<'static>>
     ensures { Searches (recording_at LARGEST_RECORDING bytes.now) result }
 {
     let log = RecordingView::over_limited(alloc, bytes, LARGEST_RECORDING)?;
-    Ok(found(alloc, &log)?)
+    Ok(search_log(alloc, &log)?)
 }
 
-fn found<L: ExerciseLog>(alloc: Global, log: &L) -> Result<Finding, AllocError>
+fn search_log<L: ExerciseLog>(alloc: Global, log: &L) -> Result<Finding, AllocError>
     ensures { IfOk result (Finds (Ok (L.recording log.now))) }
 {
     match audit(alloc, log)? {
@@ -227,8 +230,48 @@ impl Making for OrderTexts {
     }
 }
 
+/// What comes of a recording: the file of its certificate, and where it has none the blocked list.
+impl Product for Finding {
+    ghost use Rattle.siman_console.specs.Audit.{SearchesFile};
+
+    ghost reads = { SearchesFile };
+
+    ghost makes = { MakesFinding };
+
+    fn read<R: Read + Drop>(alloc: Global, file: R) -> Result<Finding, Fault<'static>> {
+        search(alloc, file)
+    }
+
+    fn make<O: Outside, W: Write>(
+        self,
+        alloc: Global,
+        name: &str,
+        outside: &mut O,
+        out: &mut W,
+    ) -> Result<u8, Fault<'static>> {
+        make_found(alloc, &self, name, outside, out)
+    }
+}
+
+/// Makes the file of the certificate that was found; where none was, no file is made.
+fn make_found<O: Outside, W: Write>(
+    alloc: Global,
+    finding: &Finding,
+    name: &str,
+    outside: &mut O,
+    out: &mut W,
+) -> Result<u8, Fault<'static>>
+    ensures { let out : Stream = record { old = W.contents out.old; new = W.contents out.new } in
+        (deeds : List Deed) × Adds (O.deeds outside.old) (O.deeds outside.new) deeds × ((holds : List ℕ → Option Found) → All (WasHeld holds) deeds) × MakesFinding finding.now name.now deeds result out }
+{
+    match finding {
+        Finding::Order(order) => make_file(alloc, order, name, outside, out),
+        Finding::Stuck(list) => put_stuck(list, out),
+    }
+}
+
 /// Writes a blocked list, and gives the status.
-pub(crate) fn put_stuck<W: Write>(list: &str, out: &mut W) -> Result<u8, Fault<'static>>
+fn put_stuck<W: Write>(list: &str, out: &mut W) -> Result<u8, Fault<'static>>
     ensures { let out : Stream = record { old = W.contents out.old; new = W.contents out.new } in
         PutsBlocked list.now result out }
 {

@@ -6,15 +6,16 @@ ghost use Rattle.siman_console.specs.declared.check.TheConstants.{LARGEST_CERTIF
 ghost use Rattle.siman_console.specs.declared.show.TheConstants.{LARGEST_RECORDING};
 ghost use Rattle.exercise_recording.specs.Reading.{recording_at};
 ghost use Rattle.exercise_check.specs.Certificate.{certificate_at};
-ghost use Rattle.siman_console.specs.Input.{Gives, Has};
-ghost use Rattle.siman_console.specs.Check.{Certified, Judges, judged_status, TellsCheck, EndsCheck};
+ghost use Rattle.siman_console.specs.Input.{Has};
+ghost use Rattle.siman_console.specs.Check.{Judges, judged_status, EndsCheck};
 
 use crate::fault::{Fault, end};
 use crate::files_fault::FilesFault;
 use crate::report::{no_line, report_text};
+use crate::saying::OfFiles;
 use crate::show::LARGEST_RECORDING;
 use byte_files::put;
-use exercise_check::{Certificate, CheckFault, check, read_certificate};
+use exercise_check::{Certificate, CheckFault, check, fetch_certificate};
 use exercise_model::ExerciseLog;
 use exercise_recording::{RecordingView, fetch_recording};
 use std::alloc::Global;
@@ -25,8 +26,8 @@ pub const LARGEST_CERTIFICATE: u32 = 1_048_576;
 
 /// Judges the recording that the first reader has by the certificate that the second one has, and
 /// writes what is to be said: true is a yes with the report of the recording, false a no with the
-/// line of its first bad step. The recording is read first, whole, then the certificate; the answer
-/// is made whole before any of it is written.
+/// line of its first bad step. The recording is read first, whole, then the certificate, whole; the
+/// answer is made whole before any of it is written.
 ///
 /// A recording that is none, has more than 268,435,456 bytes or can't be read gives Recording, a
 /// certificate that is none, has more than 1,048,576 steps or can't be read Certificate, want of
@@ -38,8 +39,8 @@ pub fn check_files<R: Read + Drop, C: Read + Drop, W: Write>(
     out: &mut W,
 ) -> Result<bool, FilesFault>
     ensures { (bytes : List ℕ) × Has (R.remaining recording) bytes
-        × ((certified : Certified) × Gives (certificate_at LARGEST_CERTIFICATE) (C.remaining certificate) certified
-        × Judges (recording_at LARGEST_RECORDING bytes) certified result (W.contents out.old) (W.contents out.new)) }
+        × ((text : List ℕ) × Has (C.remaining certificate) text
+        × Judges (recording_at LARGEST_RECORDING bytes) (certificate_at LARGEST_CERTIFICATE text) result (W.contents out.old) (W.contents out.new)) }
 {
     let bytes = fetch_recording(alloc, recording, LARGEST_RECORDING)?;
     check_bytes(alloc, &bytes, certificate, out)
@@ -52,11 +53,11 @@ fn check_bytes<C: Read + Drop, W: Write>(
     certificate: C,
     out: &mut W,
 ) -> Result<bool, FilesFault>
-    ensures { (certified : Certified) × Gives (certificate_at LARGEST_CERTIFICATE) (C.remaining certificate) certified
-        × Judges (recording_at LARGEST_RECORDING bytes.now) certified result (W.contents out.old) (W.contents out.new) }
+    ensures { (text : List ℕ) × Has (C.remaining certificate) text
+        × Judges (recording_at LARGEST_RECORDING bytes.now) (certificate_at LARGEST_CERTIFICATE text) result (W.contents out.old) (W.contents out.new) }
 {
     let log = RecordingView::over_limited(alloc, bytes, LARGEST_RECORDING)?;
-    let certificate = read_certificate(alloc, certificate, LARGEST_CERTIFICATE)?;
+    let certificate = fetch_certificate(alloc, certificate, LARGEST_CERTIFICATE)?;
     judge(alloc, &log, &certificate, out)
 }
 
@@ -72,25 +73,33 @@ pub fn check_command<R: Read + Drop, C: Read + Drop, W: Write, E: Write>(
     errors: &mut E,
 ) -> u8
     ensures ends { (bytes : List ℕ) × Has (R.remaining recording) bytes
-        × ((certified : Certified) × Gives (certificate_at LARGEST_CERTIFICATE) (C.remaining certificate) certified
-        × EndsCheck (recording_at LARGEST_RECORDING bytes) certified result (W.contents out.old) (W.contents out.new) (E.contents errors.old) (E.contents errors.new)) }
+        × ((text : List ℕ) × Has (C.remaining certificate) text
+        × EndsCheck (recording_at LARGEST_RECORDING bytes) (certificate_at LARGEST_CERTIFICATE text) result (W.contents out.old) (W.contents out.new) (E.contents errors.old) (E.contents errors.new)) }
     ensures silent { result ≤ 1 → Keeps (E.contents errors.old) (E.contents errors.new) }
 {
-    end(check_recording(alloc, recording, certificate, out), errors).status
+    end(
+        CheckCommand::say(alloc, recording, certificate, out),
+        errors,
+    )
+    .status
 }
 
-/// As [`check_files`], and gives the status: 0 is a yes, 1 a no.
-pub(crate) fn check_recording<R: Read + Drop, C: Read + Drop, W: Write>(
-    alloc: Global,
-    recording: R,
-    certificate: C,
-    out: &mut W,
-) -> Result<u8, Fault<'static>>
-    ensures { (bytes : List ℕ) × Has (R.remaining recording) bytes
-        × ((certified : Certified) × Gives (certificate_at LARGEST_CERTIFICATE) (C.remaining certificate) certified
-        × TellsCheck (recording_at LARGEST_RECORDING bytes) certified result (W.contents out.old) (W.contents out.new)) }
-{
-    status_of(check_files(alloc, recording, certificate, out))
+/// The command, which judges the recording of a file by the certificate of another.
+pub(crate) struct CheckCommand;
+
+impl OfFiles for CheckCommand {
+    ghost use Rattle.siman_console.specs.Check.{ChecksFiles};
+
+    ghost says = { ChecksFiles };
+
+    fn say<R: Read + Drop, S: Read + Drop, W: Write>(
+        alloc: Global,
+        first: R,
+        second: S,
+        out: &mut W,
+    ) -> Result<u8, Fault<'static>> {
+        status_of(check_files(alloc, first, second, out))
+    }
 }
 
 /// Writes what is to be said of a log and a certificate.

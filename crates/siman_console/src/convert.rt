@@ -1,14 +1,16 @@
 //! The command `convert`: a recording of the first format as one of the second.
 
+ghost use Rattle.std.specs.Prelude.{ℕ, List};
 ghost use Rattle.exercise_recording.specs.Reading.{recording_at};
 ghost use Rattle.siman_console.specs.declared.convert.TheConstants.{LARGEST_OLD_RECORDING};
-ghost use Rattle.siman_console.specs.Check.{Recorded};
-ghost use Rattle.siman_console.specs.Input.{Gives};
+ghost use Rattle.siman_console.specs.Input.{Has};
 ghost use Rattle.siman_console.specs.Convert.{Carries};
 
 use crate::count_line::counted;
 use crate::fault::Fault;
-use crate::making::{Making, settle_and_say};
+use crate::making::{Making, make_file, settle_and_say};
+use crate::outside::Outside;
+use crate::product::Product;
 use exercise_recording::Conversion;
 use std::alloc::Global;
 use std::io::{Read, Write};
@@ -25,8 +27,8 @@ pub(crate) struct Carried {
 }
 
 /// Reads the recording that a reader has, to be written in the second format.
-pub(crate) fn carry<R: Read + Drop>(alloc: Global, old: R) -> Result<Carried, Fault<'static>>
-    ensures { (recorded : Recorded) × Gives (recording_at LARGEST_OLD_RECORDING) (R.remaining old) recorded × Carries recorded result }
+fn carry<R: Read + Drop>(alloc: Global, old: R) -> Result<Carried, Fault<'static>>
+    ensures { (bytes : List ℕ) × Has (R.remaining old) bytes × Carries (recording_at LARGEST_OLD_RECORDING bytes) result }
 {
     let conversion = Conversion::read(alloc, old, LARGEST_OLD_RECORDING)?;
     let entries = conversion.entry_count() as usize;
@@ -54,5 +56,28 @@ impl Making for Carried {
             Ok(()) => Ok(0),
             Err(fault) => Err(fault),
         }
+    }
+}
+
+/// What comes of a recording: the file of its conversion.
+impl Product for Carried {
+    ghost use Rattle.siman_console.specs.Convert.{CarriesFile, MakesConverted};
+
+    ghost reads = { CarriesFile };
+
+    ghost makes = { MakesConverted };
+
+    fn read<R: Read + Drop>(alloc: Global, file: R) -> Result<Carried, Fault<'static>> {
+        carry(alloc, file)
+    }
+
+    fn make<O: Outside, W: Write>(
+        self,
+        alloc: Global,
+        name: &str,
+        outside: &mut O,
+        out: &mut W,
+    ) -> Result<u8, Fault<'static>> {
+        make_file(alloc, &self, name, outside, out)
     }
 }

@@ -1,9 +1,10 @@
 //! Why a command gave no answer, and how a command ends.
 
 ghost use Rattle.std.specs.Prelude.{◌≡◌, Some};
+ghost use Rattle.std.specs.IoError.{error_kind};
 ghost use Rattle.byte_files.specs.Writing.{Writes};
 ghost use Rattle.siman_console.specs.declared.fault.Fault.TheVariants.{Memory};
-ghost use Rattle.siman_console.specs.Ending.{subject_of, name_of, move_fault_name, place_of, place_text, fault_text, fault_line, fault_status, of_recording, of_convert, of_files, of_script, of_world, of_trial, Ends};
+ghost use Rattle.siman_console.specs.Ending.{move_fault_name, told_as, place_text, fault_text, fault_line, fault_status, IsToldAs, of_recording, of_convert, of_files, of_script, of_world, of_trial, Ends};
 
 use crate::files_fault::FilesFault;
 use crate::place::Place;
@@ -16,8 +17,8 @@ use siman_manager::OrderFault;
 use siman_scripts::ScriptFault;
 use siman_worlds::{MoveFault, WorldFault};
 use std::alloc::AllocError;
-use std::fmt;
-use std::io::Write;
+use std::io::{ErrorKind, Write};
+use std::{fmt, io};
 
 /// Why a command gave no answer, or not the whole of it.
 #[derive(Clone, Copy)]
@@ -57,70 +58,51 @@ pub enum Fault<'a> {
 }
 
 impl<'a> Fault<'a> {
-    /// What it is about, to stand before its name.
-    fn subject(self) -> &'static str
-        ensures { result.now ≡ subject_of self.entry }
+    /// How it is told: what it is about, what there is to say of it, and its place in what was read.
+    fn told(self) -> (&'static str, &'a str, Option<Place>)
+        ensures subject { result.0.now ≡ (told_as self.entry).0 }
+        ensures name { result.1.now ≡ (told_as self.entry).1 }
+        ensures place { result.2 ≡ (told_as self.entry).2 }
     {
         match self {
-            Fault::NotBytePairs | Fault::HexLine(_) => "hex: ",
-            Fault::Input | Fault::File(_) => "file: ",
-            Fault::Words => "words: ",
-            Fault::Recording(_) | Fault::Already => "recording: ",
-            Fault::Certificate(_) => "certificate: ",
-            Fault::Script(_) | Fault::ScriptRead => "script: ",
-            Fault::World(_) => "world: ",
-            Fault::LineFailed => "live: ",
-            Fault::Output | Fault::Exists => "output: ",
-            Fault::SameAs(_) => "output: same as ",
-            Fault::Memory => "",
-        }
-    }
-
-    /// What there is to say of it.
-    fn name(self) -> &'a str
-        ensures { result.now ≡ name_of self.entry }
-    {
-        match self {
-            Fault::NotBytePairs | Fault::HexLine(_) => "not byte pairs",
-            Fault::Input => "-",
-            Fault::File(name) | Fault::SameAs(name) => name,
-            Fault::Words => "not UTF-8",
-            Fault::Recording(RecordingFault::Format(fault)) => fault.name(),
-            Fault::Certificate(CertificateFault::Format(fault)) => fault.name(),
-            Fault::Recording(RecordingFault::Read)
-            | Fault::Certificate(CertificateFault::Read)
-            | Fault::ScriptRead => "read",
-            Fault::Already => "already",
-            Fault::Script(ScriptFault::BadLine(_)) => "bad-line",
-            Fault::Script(ScriptFault::UnknownStation(_)) => "unknown-station",
-            Fault::World(WorldFault::Stations) => "stations",
-            Fault::World(WorldFault::Move(_, fault)) => move_fault_name(fault),
-            Fault::LineFailed => "line",
-            Fault::Output => "write",
-            Fault::Exists => "exists",
-            Fault::Recording(RecordingFault::Memory)
-            | Fault::Certificate(CertificateFault::Memory)
-            | Fault::Script(ScriptFault::Memory)
-            | Fault::World(WorldFault::Memory)
-            | Fault::Memory => "memory",
-        }
-    }
-
-    /// Its place in what was read.
-    fn place(self) -> Option<Place>
-        ensures { result ≡ place_of self.entry }
-    {
-        match self {
-            Fault::Recording(RecordingFault::Format(fault)) => Some(Place::Offset(fault.place())),
-            Fault::Certificate(CertificateFault::Format(fault)) => {
-                Some(Place::Offset(fault.place()))
+            Fault::NotBytePairs => ("hex: ", "not byte pairs", None),
+            Fault::HexLine(line) => ("hex: ", "not byte pairs", Some(Place::Line(line))),
+            Fault::Input => ("file: ", "-", None),
+            Fault::File(name) => ("file: ", name, None),
+            Fault::Words => ("words: ", "not UTF-8", None),
+            Fault::Recording(RecordingFault::Format(fault)) => (
+                "recording: ",
+                fault.name(),
+                Some(Place::Offset(fault.place())),
+            ),
+            Fault::Recording(RecordingFault::Read) => ("recording: ", "read", None),
+            Fault::Recording(RecordingFault::Memory) => ("recording: ", "memory", None),
+            Fault::Already => ("recording: ", "already", None),
+            Fault::Certificate(CertificateFault::Format(fault)) => (
+                "certificate: ",
+                fault.name(),
+                Some(Place::Offset(fault.place())),
+            ),
+            Fault::Certificate(CertificateFault::Read) => ("certificate: ", "read", None),
+            Fault::Certificate(CertificateFault::Memory) => ("certificate: ", "memory", None),
+            Fault::Script(ScriptFault::BadLine(line)) => {
+                ("script: ", "bad-line", Some(Place::Line(line)))
             }
-            Fault::HexLine(line)
-            | Fault::Script(ScriptFault::BadLine(line) | ScriptFault::UnknownStation(line)) => {
-                Some(Place::Line(line))
+            Fault::Script(ScriptFault::UnknownStation(line)) => {
+                ("script: ", "unknown-station", Some(Place::Line(line)))
             }
-            Fault::World(WorldFault::Move(number, _)) => Some(Place::Move(number)),
-            _ => None,
+            Fault::Script(ScriptFault::Memory) => ("script: ", "memory", None),
+            Fault::ScriptRead => ("script: ", "read", None),
+            Fault::World(WorldFault::Stations) => ("world: ", "stations", None),
+            Fault::World(WorldFault::Move(number, fault)) => {
+                ("world: ", move_fault_name(fault), Some(Place::Move(number)))
+            }
+            Fault::World(WorldFault::Memory) => ("world: ", "memory", None),
+            Fault::LineFailed => ("live: ", "line", None),
+            Fault::Output => ("output: ", "write", None),
+            Fault::SameAs(name) => ("output: same as ", name, None),
+            Fault::Exists => ("output: ", "exists", None),
+            Fault::Memory => ("", "memory", None),
         }
     }
 
@@ -130,21 +112,7 @@ impl<'a> Fault<'a> {
     {
         match self {
             Fault::Memory => 3,
-            Fault::NotBytePairs
-            | Fault::HexLine(_)
-            | Fault::Input
-            | Fault::File(_)
-            | Fault::Words
-            | Fault::Recording(_)
-            | Fault::Already
-            | Fault::Certificate(_)
-            | Fault::Script(_)
-            | Fault::ScriptRead
-            | Fault::World(_)
-            | Fault::LineFailed
-            | Fault::Output
-            | Fault::SameAs(_)
-            | Fault::Exists => 2,
+            _ => 2,
         }
     }
 }
@@ -171,11 +139,12 @@ impl fmt::Display for Fault<'_> {
     ghost output = { λ f. Some (fault_text f) };
 
     fn fmt<W: fmt::Write>(&self, f: &mut fmt::Formatter<W>) -> fmt::Result {
-        match self.place() {
-            None => write!(f, "{}{}", self.subject(), self.name()),
+        let (subject, name, place) = self.told();
+        match place {
+            None => write!(f, "{subject}{name}"),
             Some(place) => {
                 let (words, number) = (place.words(), place.number());
-                write!(f, "{}{}{words}{number}", self.subject(), self.name())
+                write!(f, "{subject}{name}{words}{number}")
             }
         }
     }
@@ -262,6 +231,16 @@ impl From<TrialFault> for Fault<'_> {
     }
 }
 
+/// How an error is told: as this fault, or as want of memory.
+pub(crate) fn of_error<'a>(error: &io::Error, fault: Fault<'a>) -> Fault<'a>
+    ensures { IsToldAs (error_kind error.now) fault.entry result }
+{
+    if error.kind() == ErrorKind::OutOfMemory {
+        return Fault::Memory;
+    }
+    fault
+}
+
 /// How a command ended.
 #[derive(Clone, Copy, Debug, PartialEq, Eq)]
 pub struct Ended {
@@ -290,8 +269,9 @@ fn tell_place<E: Write>(place: Option<Place>, errors: &mut E) -> Result<(), Writ
 fn tell_text<E: Write>(fault: Fault<'_>, errors: &mut E) -> Result<(), WriteFailed>
     ensures { Writes result (E.contents errors.old) (E.contents errors.new) (fault_text fault.entry) }
 {
-    put_both(errors, fault.subject().as_bytes(), fault.name().as_bytes())?;
-    tell_place(fault.place(), errors)
+    let (subject, name, place) = fault.told();
+    put_both(errors, subject.as_bytes(), name.as_bytes())?;
+    tell_place(place, errors)
 }
 
 /// Writes the line of a fault.

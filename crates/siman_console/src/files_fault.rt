@@ -31,10 +31,7 @@ impl FilesFault {
     pub fn status(self) -> u8
         ensures { result ≡ files_fault_status self }
     {
-        match self {
-            FilesFault::Recording(_) | FilesFault::Certificate(_) | FilesFault::Write => 2,
-            FilesFault::Memory => 3,
-        }
+        Fault::from(self).status()
     }
 }
 

@@ -30,10 +30,12 @@ mod outside;
 mod pdu;
 mod pdus;
 mod place;
+mod product;
 mod program;
 mod recording_file;
 mod records;
 mod report;
+mod saying;
 mod script_trial;
 mod show;
 mod trial_fault;
@@ -56,7 +58,7 @@ pub use show::{LARGEST_RECORDING, show_command};
 pub use siman_scripts::{
     Act, LARGEST_SCRIPT, Move, Script, ScriptFault, WorldStation, read_script,
 };
-pub use siman_words::{Task, read_words};
+pub use siman_words::{NoWord, OneWord, Task, TwoWords, asks_help, read_words};
 pub use siman_worlds::{MoveFault, WorldFault, run_world};
 pub use trial_fault::TrialFault;
 pub use world::world_command;

@@ -1,19 +1,17 @@
 //! Making a file: what is written to it, and what is said then.
 
 ghost use Rattle.std.specs.Prelude.{◌≡◌, ◌∷◌, [], ℕ, List, Option, Result};
-ghost use Rattle.std.specs.IoError.{error_kind};
 ghost use Rattle.std.specs.List.{All};
 ghost use Rattle.siman_console.specs.declared.fault.Fault.{Fault};
 ghost use Rattle.siman_console.specs.Outside.{Deed, Found, Adds, WasHeld};
 ghost use Rattle.siman_console.specs.Outcome.{Stream};
-ghost use Rattle.siman_console.specs.Making.{SaysSettled, IsUnmade, IsSaved, MakesFile};
+ghost use Rattle.siman_console.specs.Making.{SaysSettled, IsSaved, MakesFile};
 
-use crate::fault::Fault;
+use crate::fault::{Fault, of_error};
 use crate::outside::Outside;
 use byte_files::put;
 use std::alloc::Global;
-use std::io;
-use std::io::{ErrorKind, Write};
+use std::io::Write;
 
 /// What a command makes a file of.
 pub(crate) trait Making {
@@ -52,16 +50,6 @@ pub(crate) fn settle_and_say<F: Write, W: Write>(
     }
 }
 
-/// How it is told that the file to be written could not be made, or not be saved.
-fn unmade(error: &io::Error) -> Fault<'static>
-    ensures { IsUnmade (error_kind error.now) result }
-{
-    if error.kind() == ErrorKind::OutOfMemory {
-        return Fault::Memory;
-    }
-    Fault::Output
-}
-
 /// Saves a file that was written, or discards it where there was a fault.
 fn save_or_discard<O: Outside>(
     put: Result<u8, Fault<'static>>,
@@ -79,7 +67,7 @@ fn save_or_discard<O: Outside>(
     };
     match outside.save(file) {
         Ok(()) => Ok(status),
-        Err(error) => Err(unmade(&error)),
+        Err(error) => Err(of_error(&error, Fault::Output)),
     }
 }
 
@@ -101,6 +89,6 @@ pub(crate) fn make_file<M: Making, O: Outside, W: Write>(
             let put = made.put(alloc, &mut file, out);
             save_or_discard(put, file, outside)
         }
-        Err(error) => Err(unmade(&error)),
+        Err(error) => Err(of_error(&error, Fault::Output)),
     }
 }

@@ -26,8 +26,8 @@ pub(crate) fn unopened<'a>(name: &'a str, error: &io::Error) -> Fault<'a>
 pub(crate) fn open_apart<'a, O: Outside>(
     names: (&'a str, &'a str),
     outside: &mut O,
-) -> Result<O::File, Fault<'a>>
-    ensures { (deeds : List Deed) × Adds (O.deeds outside.old) (O.deeds outside.new) deeds × All (WasHeld (O.holds outside.old)) deeds × OpensApart names.entry.0.now names.entry.1.now deeds (bytes_by O.File.remaining result) }
+) -> Result<O::Opened, Fault<'a>>
+    ensures { (deeds : List Deed) × Adds (O.deeds outside.old) (O.deeds outside.new) deeds × All (WasHeld (O.holds outside.old)) deeds × OpensApart names.entry.0.now names.entry.1.now deeds (bytes_by O.bytes result) }
 {
     let (name, made) = names;
     match outside.open(name) {

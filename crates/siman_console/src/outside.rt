@@ -9,9 +9,12 @@ use std::io::{Read, Write};
 /// tell what it holds and what it did; the files of the operating system tell neither.
 pub trait Outside {
     ghost use Rattle.std.specs.Prelude.{◌≡◌, ◌∷◌, [], ℕ, List, Option, None};
-    ghost use Rattle.siman_console.specs.Outside.{Found, Deed, Opens, Compares, Makes, Saves, Discards, LooksFor, Creates, Leaves, found_by, saved_by, Adds, IsHeld, IsFresh};
+    ghost use Rattle.siman_console.specs.Outside.{Found, Deed, Opens, Compares, Reads, Makes, Saves, Discards, LooksFor, Creates, Leaves, found_by, saved_by, Adds, IsHeld, IsFresh};
 
-    /// A file that was opened to be read.
+    /// A file that was opened to be read, of which nothing was read so far.
+    type Opened: Drop;
+
+    /// What is read of a file that was opened.
     type File: Read + Drop;
 
     /// A file that was made to be written. Where it is flushed, what was written so far outlasts the
@@ -27,16 +30,24 @@ pub trait Outside {
     /// What opening the file of a name finds, where it is known.
     ghost holds: { Self → List ℕ → Option Found } = { λ _ _. None };
 
+    /// The bytes of a file that was opened, where they are known.
+    ghost bytes: { Self.Opened → Option (List ℕ) } = { λ _. None };
+
     /// Opens the file of a name to read it from its start.
-    fn open(&mut self, name: &str) -> io::Result<Self::File>
-        ensures done { Adds (deeds self.old) (deeds self.new) (Opens name.now (found_by Self.File.remaining result) ∷ []) }
-        ensures held { IsHeld (holds self.old name.now) (found_by Self.File.remaining result) }
+    fn open(&mut self, name: &str) -> io::Result<Self::Opened>
+        ensures done { Adds (deeds self.old) (deeds self.new) (Opens name.now (found_by bytes result) ∷ []) }
+        ensures held { IsHeld (holds self.old name.now) (found_by bytes result) }
         ensures stays { holds self.new ≡ holds self.old };
 
     /// Whether a regular file stands under a name, and is the one that was opened: by the same name,
     /// by another, or by a link.
-    fn is_opened(&mut self, file: &Self::File, name: &str) -> bool
+    fn is_opened(&mut self, file: &Self::Opened, name: &str) -> bool
         ensures done { Adds (deeds self.old) (deeds self.new) (Compares name.now result ∷ []) };
+
+    /// Begins to read a file that was opened.
+    fn read(&mut self, file: Self::Opened) -> Self::File
+        ensures done { Adds (deeds self.old) (deeds self.new) (Reads (bytes file) ∷ []) }
+        ensures same { Self.File.remaining result ≡ bytes file };
 
     /// Makes the file that is to stand under a name, to write it from its start. Until it is saved,
     /// what stands under that name stays as it is, unless that is no regular file but a device, a

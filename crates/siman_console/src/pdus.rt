@@ -1,12 +1,13 @@
 //! The command `pdus`: datagrams in hex text, one a line, shown.
 
-ghost use Rattle.std.specs.Prelude.{◌≡◌, ◌+◌, ◌<◌, List, ℕ, length, IfOk, IfSome};
+ghost use Rattle.std.specs.Prelude.{◌≡◌, ◌+◌, ◌<◌, List, ℕ, length, IfOk};
 ghost use Rattle.std.specs.Io.Buffered.{reader_remaining};
 ghost use Rattle.siman_scripts.specs.Text.{lines_of};
 ghost use Rattle.siman_console.specs.declared.hex_text.TheConstants.{LONGEST_HEX};
 ghost use Rattle.siman_console.specs.declared.fault.Fault.TheVariants.{Memory};
 ghost use Rattle.siman_console.specs.declared.pdus.Stop.TheVariants as stops;
 ghost use Rattle.siman_console.specs.Ending.{Wrote};
+ghost use Rattle.siman_console.specs.Input.{Has};
 ghost use Rattle.siman_console.specs.Pdus.{told_of_line, TellsBad, TellsLine, TellsLines, ReadsNext, EndsAt, EndsLines};
 ghost use Rattle.siman_console.specs.Outcome.{Stream, Outcome};
 
@@ -50,11 +51,8 @@ pub fn pdus_command<R: Read + Drop, W: Write, E: Write>(
     out: &mut W,
     errors: &mut E,
 ) -> u8
-    ensures known { IfSome (R.remaining input) (λ bytes. (wrote : Wrote) × (let o : Outcome = record { ended = record { status = result; written = wrote }; out = record { old = W.contents out.old; new = W.contents out.new }; errors = record { old = E.contents errors.old; new = E.contents errors.new } } in
+    ensures { (bytes : List ℕ) × Has (R.remaining input) bytes × ((wrote : Wrote) × (let o : Outcome = record { ended = record { status = result; written = wrote }; out = record { old = W.contents out.old; new = W.contents out.new }; errors = record { old = E.contents errors.old; new = E.contents errors.new } } in
         EndsLines (lines_of bytes) o)) }
-    // Whatever it read, it told the lines of that.
-    ensures ends { (lines : List (List ℕ)) × (wrote : Wrote) × (let o : Outcome = record { ended = record { status = result; written = wrote }; out = record { old = W.contents out.old; new = W.contents out.new }; errors = record { old = E.contents errors.old; new = E.contents errors.new } } in
-        EndsLines lines o) }
 {
     end_lines(alloc, input, out, errors).status
 }
@@ -66,10 +64,8 @@ pub(crate) fn end_lines<R: Read + Drop, W: Write, E: Write>(
     out: &mut W,
     errors: &mut E,
 ) -> Ended
-    ensures known { let o : Outcome = record { ended = result; out = record { old = W.contents out.old; new = W.contents out.new }; errors = record { old = E.contents errors.old; new = E.contents errors.new } } in
-        IfSome (R.remaining input) (λ bytes. EndsLines (lines_of bytes) o) }
-    ensures ends { let o : Outcome = record { ended = result; out = record { old = W.contents out.old; new = W.contents out.new }; errors = record { old = E.contents errors.old; new = E.contents errors.new } } in
-        (lines : List (List ℕ)) × EndsLines lines o }
+    ensures { let o : Outcome = record { ended = result; out = record { old = W.contents out.old; new = W.contents out.new }; errors = record { old = E.contents errors.old; new = E.contents errors.new } } in
+        (bytes : List ℕ) × Has (R.remaining input) bytes × EndsLines (lines_of bytes) o }
 {
     end_at(tell_input(alloc, input, out, errors), errors)
 }
@@ -95,12 +91,9 @@ fn tell_input<R: Read + Drop, W: Write, E: Write>(
     out: &mut W,
     errors: &mut E,
 ) -> Result<u8, Stop>
-    ensures known { let out : Stream = record { old = W.contents out.old; new = W.contents out.new } in
+    ensures { let out : Stream = record { old = W.contents out.old; new = W.contents out.new } in
         let errors : Stream = record { old = E.contents errors.old; new = E.contents errors.new } in
-        IfSome (R.remaining input) (λ bytes. TellsLines (lines_of bytes) result out errors) }
-    ensures some { let out : Stream = record { old = W.contents out.old; new = W.contents out.new } in
-        let errors : Stream = record { old = E.contents errors.old; new = E.contents errors.new } in
-        (lines : List (List ℕ)) × TellsLines lines result out errors }
+        (bytes : List ℕ) × Has (R.remaining input) bytes × TellsLines (lines_of bytes) result out errors }
 {
     let mut reader = buffered(alloc, input)?;
     let mut line = vec![in alloc; 0u8; LONGEST_HEX + 1]?;
@@ -127,12 +120,9 @@ fn tell_lines<R: Read, W: Write, E: Write>(
     errors: &mut E,
 ) -> Result<u8, Stop>
     requires { length buffer.old ≡ LONGEST_HEX + 1 }
-    ensures known { let out : Stream = record { old = W.contents out.old; new = W.contents out.new } in
+    ensures { let out : Stream = record { old = W.contents out.old; new = W.contents out.new } in
         let errors : Stream = record { old = E.contents errors.old; new = E.contents errors.new } in
-        IfSome (R.remaining reader.old) (λ bytes. TellsLines (lines_of bytes) result out errors) }
-    ensures some { let out : Stream = record { old = W.contents out.old; new = W.contents out.new } in
-        let errors : Stream = record { old = E.contents errors.old; new = E.contents errors.new } in
-        (lines : List (List ℕ)) × TellsLines lines result out errors }
+        (bytes : List ℕ) × Has (R.remaining reader.old) bytes × TellsLines (lines_of bytes) result out errors }
 {
     let mut worst = 0;
     for number in 1..usize::MAX {

@@ -8,12 +8,13 @@ ghost use Rattle.exercise_check.specs.declared.certificate.Step.{Step};
 ghost use Rattle.exercise_check.specs.Goodness.{IsGood};
 ghost use Rattle.siman_scripts.specs.Script.{script_at};
 ghost use Rattle.siman_console.specs.Input.{Has};
-ghost use Rattle.siman_console.specs.Trial.{trial_text, Performs, Tries, tried_status, TellsTrial};
+ghost use Rattle.siman_console.specs.Trial.{trial_text, Performs, Tries, tried_status};
 
 use crate::count_line::counted;
 use crate::fault::Fault;
 use crate::input::read_text;
 use crate::report::report_text;
+use crate::saying::OfFile;
 use crate::trial_fault::TrialFault;
 use crate::world::world_line;
 use byte_files::put;
@@ -66,15 +67,21 @@ pub fn trial<R: Read + Drop, W: Write>(
     }
 }
 
-/// As [`trial`], and gives the status: 0 is a yes.
-pub(crate) fn tell_trial<R: Read + Drop, W: Write>(
-    alloc: Global,
-    input: R,
-    out: &mut W,
-) -> Result<u8, Fault<'static>>
-    ensures { (text : List ℕ) × Has (R.remaining input) text × TellsTrial (script_at text) result (W.contents out.old) (W.contents out.new) }
-{
-    status_of(trial(alloc, input, out))
+/// What no words ask for: the script of standard input is tried, with status 0.
+pub(crate) struct TrialCommand;
+
+impl OfFile for TrialCommand {
+    ghost use Rattle.siman_console.specs.Trial.{TriesInput};
+
+    ghost says = { TriesInput };
+
+    fn say<R: Read + Drop, W: Write>(
+        alloc: Global,
+        file: R,
+        out: &mut W,
+    ) -> Result<u8, Fault<'static>> {
+        status_of(trial(alloc, file, out))
+    }
 }
 
 /// As [`perform`], of the script that a text spells.

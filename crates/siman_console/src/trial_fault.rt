@@ -32,11 +32,7 @@ impl TrialFault {
     pub fn status(self) -> u8
         ensures { result ≡ fault_status (of_trial self) }
     {
-        match self {
-            TrialFault::Read | TrialFault::Script(_) | TrialFault::World(_) | TrialFault::Write =>
-                2,
-            TrialFault::Memory => 3,
-        }
+        Fault::from(self).status()
     }
 }
 

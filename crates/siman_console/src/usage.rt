@@ -1,27 +1,29 @@
 //! What is told of words that gave no task.
 
-ghost use Rattle.std.specs.IoError.{error_kind};
-ghost use Rattle.clap.specs.Values.{kind_of};
-ghost use Rattle.siman_console.specs.Outcome.{Outcome, EndsUsage, IsUnread};
+ghost use Rattle.siman_console.specs.Outcome.{Outcome, EndsUsage};
 
 use crate::fault::{Ended, Fault, end};
 use byte_files::put_shown;
 use clap::Error;
 use clap::error::ErrorKind;
-use std::io;
-use std::io::{ErrorKind as IoKind, Write};
+use std::io::Write;
 
 /// Tells why words gave no task. Status 0 is the help that they asked for, on `out`; 2 a fault of
 /// usage, told on `errors`, or a failed write of the help (`output: write`); 3 want of memory
 /// (`memory`).
-pub(crate) fn end_usage<W: Write, E: Write>(error: &Error, out: &mut W, errors: &mut E) -> Ended
+pub(crate) fn end_usage<W: Write, E: Write>(
+    asks_help: bool,
+    error: &Error,
+    out: &mut W,
+    errors: &mut E,
+) -> Ended
     ensures { let o : Outcome = record { ended = result; out = record { old = W.contents out.old; new = W.contents out.new }; errors = record { old = E.contents errors.old; new = E.contents errors.new } } in
-        EndsUsage (kind_of error.now) o }
+        EndsUsage asks_help o }
 {
     if error.kind() == ErrorKind::OutOfMemory {
         return end(Err(Fault::Memory), errors);
     }
-    if error.use_stderr() {
+    if !asks_help {
         return Ended {
             status: 2,
             written: put_shown(errors, error),
@@ -31,15 +33,4 @@ pub(crate) fn end_usage<W: Write, E: Write>(error: &Error, out: &mut W, errors: 
         Ok(()) => end(Ok(0), errors),
         Err(_) => end(Err(Fault::Output), errors),
     }
-}
-
-/// Why the words of a command line could not be had: for want of memory, or since a word is not
-/// UTF-8.
-pub(crate) fn unread(error: &io::Error) -> Fault<'static>
-    ensures { IsUnread (error_kind error.now) result }
-{
-    if error.kind() == IoKind::OutOfMemory {
-        return Fault::Memory;
-    }
-    Fault::Words
 }

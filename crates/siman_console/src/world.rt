@@ -11,7 +11,9 @@ ghost use Rattle.siman_console.specs.World.{Runs, is_sent, world_text, TellsWorl
 
 use crate::fault::{Fault, end};
 use crate::input::read_text;
-use crate::making::{Making, settle_and_say};
+use crate::making::{Making, make_file, settle_and_say};
+use crate::outside::Outside;
+use crate::product::Product;
 use crate::recording_file::put_recording;
 use exercise_model::{EntryView, LogEntry, Recording};
 use siman_scripts::{LARGEST_SCRIPT, Script, read_script};
@@ -66,10 +68,7 @@ fn world<R: Read + Drop, F: Write, W: Write>(
 }
 
 /// The recording of the world that the script of a reader describes.
-pub(crate) fn run_script<R: Read + Drop>(
-    alloc: Global,
-    script: R,
-) -> Result<Recording, Fault<'static>>
+fn run_script<R: Read + Drop>(alloc: Global, script: R) -> Result<Recording, Fault<'static>>
     ensures { (text : List ℕ) × Has (R.remaining script) text × Runs (script_at text) result }
 {
     let mut script = script;
@@ -114,6 +113,29 @@ impl Making for Recording {
             Ok(()) => Ok(0),
             Err(fault) => Err(fault),
         }
+    }
+}
+
+/// What comes of a script: the file of the recording of its world.
+impl Product for Recording {
+    ghost use Rattle.siman_console.specs.World.{RunsFile, MakesWorld};
+
+    ghost reads = { RunsFile };
+
+    ghost makes = { MakesWorld };
+
+    fn read<R: Read + Drop>(alloc: Global, file: R) -> Result<Recording, Fault<'static>> {
+        run_script(alloc, file)
+    }
+
+    fn make<O: Outside, W: Write>(
+        self,
+        alloc: Global,
+        name: &str,
+        outside: &mut O,
+        out: &mut W,
+    ) -> Result<u8, Fault<'static>> {
+        make_file(alloc, &self, name, outside, out)
     }
 }
 

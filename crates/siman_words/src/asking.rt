@@ -1,9 +1,9 @@
-//! The table of commands: which words ask for which task.
+//! Reading words by the table of commands: the task that they ask for, or whether they ask for help.
 
 ghost use Rattle.std.specs.Prelude.{◌≡◌, map, option_map};
-ghost use Rattle.siman_words.specs.Words.{asked_by, is_option, pdu_asked, pdus_asked, show_asked, check_asked, audit_asked, world_asked, live_asked, convert_asked, command_asked, asked};
+ghost use Rattle.siman_words.specs.Words.{asked_by, is_option, takes_of, takes_named, bare_asked, one_asked, two_asked, taken, asked, is_short, is_help, is_version, helps_behind, is_topic, helps, asks_help};
 
-use crate::task::Task;
+use crate::commands::{NoWord, OneWord, ROWS, Row, Takes, Task, TwoWords};
 use std::convert::AsStr;
 
 /// Whether a word is an option: it begins with a hyphen, and has more.
@@ -14,104 +14,65 @@ fn is_option(word: &str) -> bool
     word.len() > 1 && word[0] == b'-'
 }
 
-fn pdu_task<S: AsStr>(words: &[S]) -> Option<Task<'_>>
-    ensures { option_map asked_by result ≡ pdu_asked (map S.text words.now) }
+/// What the command of a name takes, by the rows of a table.
+fn takes_of(mut table: &[Row], name: &str) -> Option<Takes>
+    ensures { result ≡ takes_of (map (λ row. (row.name.now, row.takes)) table.entry.now) name.now }
+{
+    while let [row, rest @ ..] = table {
+        if row.name == name {
+            return Some(row.takes);
+        }
+        table = rest;
+    }
+    None
+}
+
+/// What the command of a name takes.
+#[tactic(auto, unfolding(crate::specs::Words::takes_named))]
+fn takes_named(name: &str) -> Option<Takes>
+    ensures { result ≡ takes_named name.now }
+{
+    takes_of(&ROWS, name)
+}
+
+fn no_word<S: AsStr>(command: NoWord, words: &[S]) -> Option<Task<'_>>
+    ensures { option_map asked_by result ≡ bare_asked command (map S.text words.now) }
 {
     match words {
-        [hex] if !is_option(hex.as_str()) => Some(Task::Pdu(hex.as_str())),
+        [] => Some(Task::Bare(command)),
         _ => None,
     }
 }
 
-fn pdus_task<S: AsStr>(words: &[S]) -> Option<Task<'_>>
-    ensures { option_map asked_by result ≡ pdus_asked (map S.text words.now) }
+fn one_word<S: AsStr>(command: OneWord, words: &[S]) -> Option<Task<'_>>
+    ensures { option_map asked_by result ≡ one_asked command (map S.text words.now) }
 {
     match words {
-        [] => Some(Task::Pdus),
+        [word] if !is_option(word.as_str()) => Some(Task::One(command, word.as_str())),
         _ => None,
     }
 }
 
-fn show_task<S: AsStr>(words: &[S]) -> Option<Task<'_>>
-    ensures { option_map asked_by result ≡ show_asked (map S.text words.now) }
+fn two_words<S: AsStr>(command: TwoWords, words: &[S]) -> Option<Task<'_>>
+    ensures { option_map asked_by result ≡ two_asked command (map S.text words.now) }
 {
     match words {
-        [recording] if !is_option(recording.as_str()) => Some(Task::Show(recording.as_str())),
-        _ => None,
-    }
-}
-
-fn check_task<S: AsStr>(words: &[S]) -> Option<Task<'_>>
-    ensures { option_map asked_by result ≡ check_asked (map S.text words.now) }
-{
-    match words {
-        [recording, certificate]
-            if !is_option(recording.as_str()) && !is_option(certificate.as_str()) => {
-            Some(Task::Check(recording.as_str(), certificate.as_str()))
+        [first, second] if !is_option(first.as_str()) && !is_option(second.as_str()) => {
+            Some(Task::Two(command, first.as_str(), second.as_str()))
         }
         _ => None,
     }
 }
 
-fn audit_task<S: AsStr>(words: &[S]) -> Option<Task<'_>>
-    ensures { option_map asked_by result ≡ audit_asked (map S.text words.now) }
+/// The task of a command, where it takes just these words.
+fn taken<S: AsStr>(takes: Option<Takes>, words: &[S]) -> Option<Task<'_>>
+    ensures { option_map asked_by result ≡ taken takes (map S.text words.now) }
 {
-    match words {
-        [recording, certificate]
-            if !is_option(recording.as_str()) && !is_option(certificate.as_str()) => {
-            Some(Task::Audit(recording.as_str(), certificate.as_str()))
-        }
-        _ => None,
-    }
-}
-
-fn world_task<S: AsStr>(words: &[S]) -> Option<Task<'_>>
-    ensures { option_map asked_by result ≡ world_asked (map S.text words.now) }
-{
-    match words {
-        [script, recording] if !is_option(script.as_str()) && !is_option(recording.as_str()) => {
-            Some(Task::World(script.as_str(), recording.as_str()))
-        }
-        _ => None,
-    }
-}
-
-fn live_task<S: AsStr>(words: &[S]) -> Option<Task<'_>>
-    ensures { option_map asked_by result ≡ live_asked (map S.text words.now) }
-{
-    match words {
-        [script, recording] if !is_option(script.as_str()) && !is_option(recording.as_str()) => {
-            Some(Task::Live(script.as_str(), recording.as_str()))
-        }
-        _ => None,
-    }
-}
-
-fn convert_task<S: AsStr>(words: &[S]) -> Option<Task<'_>>
-    ensures { option_map asked_by result ≡ convert_asked (map S.text words.now) }
-{
-    match words {
-        [old, new] if !is_option(old.as_str()) && !is_option(new.as_str()) => {
-            Some(Task::Convert(old.as_str(), new.as_str()))
-        }
-        _ => None,
-    }
-}
-
-/// The task that the words of a command ask for.
-fn command_task<'a, S: AsStr>(command: &str, words: &'a [S]) -> Option<Task<'a>>
-    ensures { option_map asked_by result ≡ command_asked command.now (map S.text words.now) }
-{
-    match command {
-        "pdu" => pdu_task(words),
-        "pdus" => pdus_task(words),
-        "show" => show_task(words),
-        "check" => check_task(words),
-        "audit" => audit_task(words),
-        "world" => world_task(words),
-        "live" => live_task(words),
-        "convert" => convert_task(words),
-        _ => None,
+    match takes {
+        None => None,
+        Some(Takes::Nothing(command)) => no_word(command, words),
+        Some(Takes::One(command)) => one_word(command, words),
+        Some(Takes::Two(command)) => two_words(command, words),
     }
 }
 
@@ -121,6 +82,86 @@ pub(crate) fn task_of<S: AsStr>(words: &[S]) -> Option<Task<'_>>
 {
     match words {
         [] | [_] => Some(Task::Trial),
-        [_, command, rest @ ..] => command_task(command.as_str(), rest),
+        [_, name, rest @ ..] => taken(takes_named(name.as_str()), rest),
+    }
+}
+
+/// Whether a word is a hyphen and this letter, with more behind them or not.
+fn is_short(letter: u8, word: &str) -> bool
+    ensures { result ≡ is_short letter word.now }
+{
+    let word = word.as_bytes();
+    word.len() > 1 && word[0] == b'-' && word[1] == letter
+}
+
+fn is_help(word: &str) -> bool
+    ensures { result ≡ is_help word.now }
+{
+    word == "--help" || is_short(b'h', word)
+}
+
+fn is_version(word: &str) -> bool
+    ensures { result ≡ is_version word.now }
+{
+    word == "--version" || is_short(b'V', word)
+}
+
+/// Whether words behind a command that takes so many ask for its help, before one that it does not
+/// take.
+fn helps_behind<S: AsStr>(most: usize, words: &[S]) -> bool
+    ensures { result ≡ helps_behind most (map S.text words.now) }
+{
+    let mut left = most;
+    let mut others = words;
+    while let [word, rest @ ..] = others {
+        let word = word.as_str();
+        if is_help(word) {
+            return true;
+        }
+        if left == 0 || is_option(word) {
+            return false;
+        }
+        left -= 1;
+        others = rest;
+    }
+    false
+}
+
+fn helps<S: AsStr>(takes: Option<Takes>, words: &[S]) -> bool
+    ensures { result ≡ helps takes (map S.text words.now) }
+{
+    match takes {
+        None => false,
+        Some(Takes::Nothing(_)) => helps_behind(0, words),
+        Some(Takes::One(_)) => helps_behind(1, words),
+        Some(Takes::Two(_)) => helps_behind(2, words),
+    }
+}
+
+/// Whether `help` may stand before words: none, or the name of a command or `help` itself.
+fn is_topic<S: AsStr>(words: &[S]) -> bool
+    ensures { result ≡ is_topic (map S.text words.now) }
+{
+    match words {
+        [] => true,
+        [name] => name.as_str() == "help" || takes_named(name.as_str()).is_some(),
+        _ => false,
+    }
+}
+
+/// Whether words that ask for no task ask for help, the program's name first. Otherwise they break
+/// the usage.
+pub fn asks_help<S: AsStr>(words: &[S]) -> bool
+    ensures { result ≡ asks_help (map S.text words.now) }
+{
+    match words {
+        [] | [_] => false,
+        [_, first, rest @ ..] => {
+            let first = first.as_str();
+            is_help(first)
+                || is_version(first)
+                || (first == "help" && is_topic(rest))
+                || helps(takes_named(first), rest)
+        }
     }
 }

@@ -2,7 +2,7 @@
 //! the fault of usage of those that ask for none.
 //!
 //! It runs no task and prints nothing. The layer above calls [`read_words`], whose contract gives the
-//! task, and shows the error of words that ask for none.
+//! task, and shows the error of words that ask for none: as help where [`asks_help`], else as a fault.
 #![tactic(auto)]
 
 ghost use Rattle.std.specs.Prelude.{◌≡◌, map, option_map};
@@ -10,16 +10,16 @@ ghost use Rattle.std.specs.Result.{result_ok};
 ghost use Rattle.siman_words.specs.Words.{asked_by, asked};
 
 mod asking;
-mod rows;
-mod task;
+mod commands;
 mod usage;
 
 use crate::asking::task_of;
 use crate::usage::usage_of;
+pub use asking::asks_help;
 use clap::Error;
+pub use commands::{NoWord, OneWord, Task, TwoWords};
 use std::alloc::Global;
 use std::convert::AsStr;
-pub use task::Task;
 
 /// What the words ask for, the program's name first. Words that ask for help or break the usage
 /// give an error, which tells it; so does want of memory then, and a task takes none.

@@ -4,6 +4,6 @@ use Rattle.siman_console.proofs.check.check_command.Goals as goal
 
 pub returns-clause-ends : goal.returns-clause-ends
 returns-clause-ends g c =
-    let said = c.check_recording.ensures in
+    let said = c.say.ensures in
     let judged = said.2 in
-    (said.0, said.1, (judged.0, judged.1, (c.check_recording.result, judged.2, ends_with _ c.end.result _ _ c.end.ensures)))
+    (said.0, said.1, (judged.0, judged.1, (c.say.result, judged.2, ends_with _ c.end.result _ _ c.end.ensures)))

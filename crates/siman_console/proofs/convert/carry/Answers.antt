@@ -1,24 +1,24 @@
 -- A recording was readied, or was not, and its line made.
-use Rattle.std.proofs.Common.{Ok, Err, ap, ◌∙◌}
-use Rattle.exercise_recording.specs.Conversion.{Readies}
-use Rattle.siman_console.specs.declared.convert.Carried.{Carried}
+use Rattle.std.proofs.Common.{inl, inr, refl, ap, ◌∙◌}
 use Rattle.siman_console.specs.Convert.{converted_text, Carries}
-use Rattle.siman_console.proofs.Carryings.{of_some, unready, unmade, readied}
+use Rattle.exercise_recording.specs.Reading.{recording_at}
+use Rattle.siman_console.specs.declared.convert.TheConstants.{LARGEST_OLD_RECORDING}
+use Rattle.siman_console.proofs.Carryings.{uncarried, readied}
+use Rattle.siman_console.proofs.Passed.{at_fault}
 use Rattle.siman_console.proofs.convert.carry.Goals as goal
 
 pub returns-in_err-conversion : goal.returns-in_err-conversion
 returns-in_err-conversion g c =
-    let fault = c.in_err-conversion.field-0.0 in
-    of_some (λ recorded. Readies recorded (Err fault)) (λ recorded. Carries recorded c.from_residual.result) (g.R.Read.remaining c.args.old)
-    (λ recorded why. unready fault _ c.from_residual.ensures.1 recorded why) c.in_err-conversion.ensures.known c.in_err-conversion.ensures.some
+    let why = c.in_err-conversion.ensures in
+    let recorded = recording_at LARGEST_OLD_RECORDING why.0 in
+    (why.0, why.1, at_fault (Carries recorded) _ _ c.from_residual.ensures.1 (uncarried recorded c.in_err-conversion.field-0.0 why.2))
 
 pub returns-in_err-line : goal.returns-in_err-line
 returns-in_err-line g c =
-    of_some (λ recorded. Readies recorded (Ok c.in_ok-conversion.conversion)) (λ recorded. Carries recorded c.from_residual-in_err-line.result) (g.R.Read.remaining c.args.old)
-    (λ recorded ready. unmade _ c.from_residual-in_err-line.ensures.1 recorded) c.in_ok-conversion.ensures.known c.in_ok-conversion.ensures.some
+    let ready = c.in_ok-conversion.ensures in
+    (ready.0, ready.1, at_fault (Carries (recording_at LARGEST_OLD_RECORDING ready.0)) _ _ c.from_residual-in_err-line.ensures.1 (inl (inr (inr refl))))
 
 pub returns : goal.returns
 returns g c =
-    let carried : Carried = record { conversion = c.in_ok-conversion.conversion; line = c.in_ok-line.line } in
-    of_some (λ recorded. Readies recorded (Ok c.in_ok-conversion.conversion)) (λ recorded. Carries recorded (Ok carried)) (g.R.Read.remaining c.args.old)
-    (λ recorded ready. readied c.in_ok-conversion.conversion _ (c.in_ok-line.ensures ∙ ap converted_text c.entry_count-entries.ensures) recorded ready) c.in_ok-conversion.ensures.known c.in_ok-conversion.ensures.some
+    let ready = c.in_ok-conversion.ensures in
+    (ready.0, ready.1, readied c.in_ok-conversion.conversion _ (c.in_ok-line.ensures ∙ ap converted_text c.entry_count-entries.ensures) _ ready.2)

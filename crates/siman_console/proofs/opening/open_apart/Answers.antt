@@ -6,7 +6,7 @@ use Rattle.siman_console.proofs.opening.open_apart.Goals as goal
 
 pub returns-then-is_opened : goal.returns-then-is_opened
 returns-then-is_opened g c =
-    let bytes = g.O.File.Read.remaining c.in-Ok.file in
+    let bytes = g.O.Outside.bytes c.in-Ok.file in
     let first = Opens c.args.names.0.now (Ok bytes) in
     let second = Compares c.args.names.1.now true in (
       first ∷ second ∷ [],

@@ -4,5 +4,5 @@ use Rattle.siman_console.proofs.show.show_command.Goals as goal
 
 pub returns-clause-ends : goal.returns-clause-ends
 returns-clause-ends g c =
-    let said = c.show_recording.ensures in
-    (said.0, said.1, (c.show_recording.result, said.2, ends_with _ c.end.result _ _ c.end.ensures))
+    let said = c.say.ensures in
+    (said.0, said.1, (c.say.result, said.2, ends_with _ c.end.result _ _ c.end.ensures))

@@ -2,7 +2,7 @@
 use Rattle.std.proofs.Common.{[], ◌∷◌, Ok, refl}
 use Rattle.siman_console.specs.Outside.{Creates, Leaves, WasHeld}
 use Rattle.siman_console.proofs.Openings.{adds_then, all_two}
-use Rattle.siman_console.proofs.program.create_live.Goals as goal
+use Rattle.siman_console.proofs.live.create_live.Goals as goal
 
 pub returns-in-Ok : goal.returns-in-Ok
 returns-in-Ok g c =

@@ -3,7 +3,7 @@ use Rattle.std.proofs.Common.{[], ◌∷◌, false, refl}
 use Rattle.std.proofs.lemmas.List.Elements.{All-append}
 use Rattle.siman_console.specs.Outside.{LooksFor, WasHeld}
 use Rattle.siman_console.proofs.Openings.{adds_then, all_one}
-use Rattle.siman_console.proofs.program.live_begun.Goals as goal
+use Rattle.siman_console.proofs.live.BegunProduct.make.Goals as goal
 
 pub returns : goal.returns
 returns g c =

@@ -1,0 +1,169 @@
+//! The table of commands, from which the reading of words, usage and help follow.
+
+/// A command that takes no words.
+#[derive(Clone, Copy)]
+pub enum NoWord {
+    /// Show the datagrams that standard input has in hex text, one a line.
+    Pdus,
+}
+
+/// A command that takes one word.
+#[derive(Clone, Copy)]
+pub enum OneWord {
+    /// Show the datagram of this hex text.
+    Pdu,
+    /// Show the recording of this file.
+    Show,
+}
+
+/// A command that takes two words.
+#[derive(Clone, Copy)]
+pub enum TwoWords {
+    /// Judge the recording of the first file by the certificate of the second.
+    Check,
+    /// Search the recording of the first file for an order that explains it, and make the second of
+    /// its certificate.
+    Audit,
+    /// Run the script of the first file, and make the second of its recording.
+    World,
+    /// Make the moves of the script of the first file over sockets, and make the second of their
+    /// recording.
+    Live,
+    /// Carry the recording of the first file over to the second format, and make the second of it.
+    Convert,
+}
+
+/// What the words of a command line ask for.
+#[derive(Clone, Copy)]
+pub enum Task<'a> {
+    /// No words: run the script that standard input has, search the recording of its world for an
+    /// order, and judge it.
+    Trial,
+    /// A command alone.
+    Bare(NoWord),
+    /// A command and its word.
+    One(OneWord, &'a str),
+    /// A command and its two words.
+    Two(TwoWords, &'a str, &'a str),
+}
+
+/// What a command takes, and so what it is.
+#[derive(Clone, Copy)]
+pub enum Takes {
+    Nothing(NoWord),
+    One(OneWord),
+    Two(TwoWords),
+}
+
+/// A command of the table.
+#[derive(Clone, Copy)]
+pub(crate) struct Row {
+    pub name: &'static str,
+    pub takes: Takes,
+    /// What it does.
+    pub about: &'static str,
+    pub example: &'static str,
+    /// Of each word that it takes how usage calls it, and what it is.
+    pub words: &'static [(&'static str, &'static str)],
+}
+
+/// The table of the commands, in the order of the help.
+pub(crate) const ROWS: [Row; 8] = [
+    Row {
+        name: "pdu",
+        takes: Takes::One(OneWord::Pdu),
+        about: "Shows the PDU of a datagram",
+        example: "Example:\n  siman pdu 07010B0500000000001C000000010001000000020003000700000001",
+        words: &[("HEX", "The bytes of the datagram, as pairs of hex digits")],
+    },
+    Row {
+        name: "pdus",
+        takes: Takes::Nothing(NoWord::Pdus),
+        about: "Shows the PDUs of many datagrams, whose hex texts are read from standard input, one a line",
+        example: "Example:\n  siman pdus < datagrams.hex",
+        words: &[],
+    },
+    Row {
+        name: "show",
+        takes: Takes::One(OneWord::Show),
+        about: "Shows a recording, a line for each entry",
+        example: "Example:\n  siman show exercise.dsrc",
+        words: &[("REC", "The file of the recording")],
+    },
+    Row {
+        name: "check",
+        takes: Takes::Two(TwoWords::Check),
+        about: "Checks whether a certificate explains a recording, and reports what it says",
+        example: "Example:\n  siman check exercise.dsrc exercise.dsct",
+        words: &[
+            ("REC", "The file of the recording"),
+            ("CERT", "The file of the certificate"),
+        ],
+    },
+    Row {
+        name: "audit",
+        takes: Takes::Two(TwoWords::Audit),
+        about: "Searches a recording for an order that explains it, and writes its certificate",
+        example: "Example:\n  siman audit exercise.dsrc exercise.dsct",
+        words: &[
+            ("REC", "The file of the recording"),
+            (
+                "CERT",
+                "The file of the certificate, which is made anew where there is one",
+            ),
+        ],
+    },
+    Row {
+        name: "world",
+        takes: Takes::Two(TwoWords::World),
+        about: "Runs the exercise that a script describes, and writes its recording",
+        example: "Example:\n  siman world exercise.script exercise.dsrc",
+        words: &[
+            ("SCRIPT", "The file of the script"),
+            ("REC", "The file of the recording, which is made anew"),
+        ],
+    },
+    Row {
+        name: "live",
+        takes: Takes::Two(TwoWords::Live),
+        about: "Makes the moves of a script over UDP sockets of the loopback, one a station, and writes their recording",
+        example: "Example:\n  siman live exercise.script exercise.dsrc",
+        words: &[
+            ("SCRIPT", "The file of the script"),
+            (
+                "REC",
+                "The file of the recording, which must not be there yet",
+            ),
+        ],
+    },
+    Row {
+        name: "convert",
+        takes: Takes::Two(TwoWords::Convert),
+        about: "Carries a recording of the first format over to the second, closed",
+        example: "Example:\n  siman convert old.dsrc new.dsrc",
+        words: &[
+            ("OLD", "The file of the recording, of the first format"),
+            (
+                "NEW",
+                "The file of the same recording in the second format, which is made anew",
+            ),
+        ],
+    },
+];
+
+/// The version of the program.
+pub(crate) const VERSION: &str = "0.1.0";
+
+/// What the program does, for the help.
+pub(crate) const ABOUT: &str =
+    "Shows Simulation Management PDUs of DIS (IEEE 1278.1-2012), and runs, shows, searches and checks recorded exercises. With no command, a script is read from standard input, run, searched for an order and checked";
+
+/// What the exit statuses tell, for the help, and the example of no words; those of the table follow.
+pub(crate) const STATUSES: &str = "Exit status:
+  0  the answer is on standard output; of `check` it is yes, of `audit` explained
+  1  a datagram is refused, or the answer of `check` is no, of `audit` blocked
+  2  a fault of usage, hex text, files, scripts, worlds, lines or writing, told on standard error
+  3  memory ran out
+
+Examples:
+  siman < exercise.script";

@@ -24,9 +24,9 @@ pub struct Answers {
     blocked: u32,
     yes: u32,
     /// How many certificates were refused by each cause, which is its place.
-    causes: Vec<u32>,
+    causes: [u32; 14],
     /// How many stations each cause stood in the way of.
-    ways: Vec<u32>,
+    ways: [u32; 14],
 }
 
 fn add_one(counts: &mut [u32], place: usize) {
@@ -36,21 +36,13 @@ fn add_one(counts: &mut [u32], place: usize) {
 }
 
 /// Whether all counts from a place on are above 0, up to another.
-fn are_counted(counts: &[u32], from: usize, end: usize) -> bool {
+fn are_counted(counts: &[u32; 14], from: usize, end: usize) -> bool {
     for place in from..end {
-        if is_zero(counts, place) {
+        if counts[place % 14] == 0 {
             return false;
         }
     }
     true
-}
-
-/// Whether a count is 0.
-fn is_zero(counts: &[u32], place: usize) -> bool {
-    match counts.get(place) {
-        Some(count) => *count == 0,
-        None => true,
-    }
 }
 
 /// The first stations of a scene, so many, as they are before its first deed.
@@ -95,34 +87,26 @@ fn entry(alloc: Global, deed: Deed, stamp: u64) -> Result<LogEntry, AllocError> 
     })
 }
 
-/// How many stations of a scene are recorded: in an open recording all but the last.
-fn recorded(form: Form, scene: &Scene) -> usize {
-    match form {
-        Form::Open => scene.stations.saturating_sub(1),
-        Form::First | Form::Closed => scene.stations,
-    }
-}
-
-/// A recording of a form, of a scene that is made up.
-pub fn recording(alloc: Global, form: Form, random: Random) -> Result<Recording, LogFault> {
-    let Ok(mut scene) = begin(alloc, random) else {
-        return Err(LogFault::Memory);
-    };
-    let count = recorded(form, &scene);
-    let Ok(stations) = stations(alloc, &scene, count) else {
-        return Err(LogFault::Memory);
-    };
-    let mut recording = Recording::start_form(alloc, form, 1, stations)?;
+/// Makes so much happen, and lets neighbours change places.
+fn happen(scene: &mut Scene) -> Result<(), AllocError> {
     let deeds = scene.random.below(MOST_DEEDS).saturating_add(1);
     for _ in 0..deeds {
-        if scene.go_on().is_err() {
-            return Err(LogFault::Memory);
-        }
+        scene.go_on()?;
     }
     for _ in 0..deeds {
         scene.swap();
     }
-    for deed in &scene.deeds {
+    Ok(())
+}
+
+/// Adds what the first stations of a scene did, so many.
+fn add_deeds(
+    alloc: Global,
+    deeds: &[Deed],
+    count: usize,
+    recording: &mut Recording,
+) -> Result<(), LogFault> {
+    for deed in deeds {
         if station_of(*deed) >= count {
             continue;
         }
@@ -131,7 +115,30 @@ pub fn recording(alloc: Global, form: Form, random: Random) -> Result<Recording,
             Err(_) => return Err(LogFault::Memory),
         }
     }
+    Ok(())
+}
+
+/// A recording of a form, of a scene in which nothing happened so far.
+fn recorded(alloc: Global, form: Form, scene: &mut Scene) -> Result<Recording, LogFault> {
+    // In an open recording the last station is not recorded.
+    let count = match form {
+        Form::Open => scene.stations.saturating_sub(1),
+        Form::First | Form::Closed => scene.stations,
+    };
+    let Ok(stations) = stations(alloc, scene, count) else {
+        return Err(LogFault::Memory);
+    };
+    if happen(scene).is_err() {
+        return Err(LogFault::Memory);
+    }
+    let mut recording = Recording::start_form(alloc, form, 1, stations)?;
+    add_deeds(alloc, &scene.deeds, count, &mut recording)?;
     Ok(recording)
+}
+
+/// A recording of a form, of a scene that is made up.
+pub fn recording(alloc: Global, form: Form, random: Random) -> Result<Recording, LogFault> {
+    recorded(alloc, form, &mut begin(alloc, random))
 }
 
 /// Whether one of these steps names an entry.
@@ -208,11 +215,11 @@ impl Answers {
     fn try_audit(&mut self, alloc: Global, log: &Recording) -> Result<(), AllocError> {
         let (same, found) = compare_audits(alloc, log, u16::from(ENTITIES))?;
         self.take(same);
-        match found {
+        match &found {
             Audit::Explained(_) => self.explained = self.explained.saturating_add(1),
             Audit::Blocked(blocks) => {
                 self.blocked = self.blocked.saturating_add(1);
-                for block in &blocks {
+                for block in blocks {
                     add_one(&mut self.ways, usize::from(block.cause.number()));
                 }
             }
@@ -220,17 +227,39 @@ impl Answers {
         Ok(())
     }
 
+    /// Compares what is answered to a certificate, and to the same when it is spoilt.
+    fn try_checks(
+        &mut self,
+        alloc: Global,
+        log: &Recording,
+        random: &mut Random,
+        certificate: &mut Certificate,
+    ) -> Result<(), AllocError> {
+        self.try_check(alloc, log, certificate)?;
+        spoil(random, certificate)?;
+        self.try_check(alloc, log, certificate)
+    }
+
+    /// Tries a recording.
+    fn try_log(
+        &mut self,
+        alloc: Global,
+        log: &Recording,
+        random: &mut Random,
+    ) -> Result<(), AllocError> {
+        self.try_audit(alloc, log)?;
+        self.try_checks(alloc, log, random, &mut whole(alloc, log)?)
+    }
+
     /// Tries a recording of a form that is made up.
     fn try_one(&mut self, alloc: Global, form: Form, mut random: Random) -> Result<(), AllocError> {
-        let Ok(log) = recording(alloc, form, random) else {
-            self.take(false);
-            return Ok(());
-        };
-        self.try_audit(alloc, &log)?;
-        let mut certificate = whole(alloc, &log)?;
-        self.try_check(alloc, &log, &certificate)?;
-        spoil(&mut random, &mut certificate)?;
-        self.try_check(alloc, &log, &certificate)
+        match recording(alloc, form, random) {
+            Ok(log) => self.try_log(alloc, &log, &mut random),
+            Err(_) => {
+                self.take(false);
+                Ok(())
+            }
+        }
     }
 
     /// Whether all answers were as the plain ones are, and each came: yes, and each cause, and of
@@ -243,8 +272,8 @@ impl Answers {
                     && are_counted(&self.ways, 5, strangers)
                     && are_counted(&self.causes, 12, 14)
                     && are_counted(&self.ways, 12, 14)
-                    && is_zero(&self.causes, strangers)
-                    && is_zero(&self.ways, strangers)
+                    && !are_counted(&self.causes, strangers, 12)
+                    && !are_counted(&self.ways, strangers, 12)
             }
             Form::First | Form::Closed => {
                 are_counted(&self.causes, 1, 14) && are_counted(&self.ways, 5, 14)
@@ -263,10 +292,9 @@ impl Answers {
             ..
         } = self;
         writeln!(out, "explained {explained}, blocked {blocked}, yes {yes}")?;
-        for cause in 1..=13usize {
-            if let (Some(no), Some(way)) = (self.causes.get(cause), self.ways.get(cause)) {
-                writeln!(out, "cause {cause}: no {no}, blocks {way}")?;
-            }
+        for cause in 1..14usize {
+            let (no, way) = (self.causes[cause], self.ways[cause]);
+            writeln!(out, "cause {cause}: no {no}, blocks {way}")?;
         }
         writeln!(out, "otherwise {otherwise}")
     }
@@ -279,8 +307,8 @@ pub fn try_generated(alloc: Global, form: Form, count: u32) -> Result<Answers, A
         explained: 0,
         blocked: 0,
         yes: 0,
-        causes: Vec::from_slice(alloc, &[0; 14])?,
-        ways: Vec::from_slice(alloc, &[0; 14])?,
+        causes: [0; 14],
+        ways: [0; 14],
     };
     for number in 0..count {
         let mut random = Random {

@@ -5,8 +5,8 @@ use crate::file::File;
 use crate::lines::{Line, Part};
 use crate::station_case::{StationCase, nobody};
 use std::alloc::Global;
-use std::io;
 use std::io::{ErrorKind, Write};
+use std::{io, mem};
 
 /// Bytes that are given or must be left, and how the calls go that read or write them.
 #[derive(Drop)]
@@ -44,7 +44,7 @@ pub struct Case {
     pub asked: Option<String>,
     pub status: u8,
     pub half_told: bool,
-    pub post: StationCase,
+    pub at_line: StationCase,
     part: Part,
 }
 
@@ -60,22 +60,15 @@ fn put_numbered(out: &mut Vec<u8>, number: u32, text: &str) -> io::Result<()> {
     Ok(())
 }
 
-/// The same for each number from one to another.
-fn put_each(out: &mut Vec<u8>, first: u32, last: u32, text: &str) -> io::Result<()> {
-    for number in first..=last {
-        put_numbered(out, number, text)?;
-    }
-    Ok(())
-}
-
-/// The case before the first, with no files.
-pub fn first(alloc: Global) -> Case {
+/// A case of a name with these files, of which nothing else is said so far; before the first there
+/// is one without a name.
+pub fn begin_case(alloc: Global, name: String, files: Vec<File>) -> Case {
     Case {
         alloc,
-        name: String::new(alloc),
+        name,
         words: Vec::new(alloc),
         unread: None,
-        files: Vec::new(alloc),
+        files,
         input: empty(alloc),
         out: empty(alloc),
         errors: empty(alloc),
@@ -86,29 +79,17 @@ pub fn first(alloc: Global) -> Case {
         asked: None,
         status: 0,
         half_told: false,
-        post: nobody(alloc),
+        at_line: nobody(alloc),
         part: Part::Out,
     }
 }
 
 impl Case {
-    /// A case of a name with the files of this one, of which nothing else is said so far.
+    /// The next case, with the files of this one.
     fn next(&mut self, name: &str) -> io::Result<()> {
-        self.name = String::from_str(self.alloc, name)?;
-        self.words = Vec::new(self.alloc);
-        self.unread = None;
-        self.input = empty(self.alloc);
-        self.out = empty(self.alloc);
-        self.errors = empty(self.alloc);
-        self.left = empty(self.alloc);
-        self.is_left = false;
-        self.is_discarded = false;
-        self.keep = None;
-        self.asked = None;
-        self.status = 0;
-        self.half_told = false;
-        self.post = nobody(self.alloc);
-        self.part = Part::Out;
+        let name = String::from_str(self.alloc, name)?;
+        let files = mem::replace(&mut self.files, Vec::new(self.alloc));
+        *self = begin_case(self.alloc, name, files);
         Ok(())
     }
 
@@ -124,8 +105,8 @@ impl Case {
             Part::Out => Some(&mut self.out.bytes),
             Part::Errors => Some(&mut self.errors.bytes),
             Part::Left | Part::Discarded => Some(&mut self.left.bytes),
-            Part::Coming => self.post.coming.last_mut(),
-            Part::Sent => Some(&mut self.post.sent),
+            Part::Coming => self.at_line.coming.last_mut(),
+            Part::Sent => Some(&mut self.at_line.sent),
         }
     }
 
@@ -148,13 +129,13 @@ impl Case {
     }
 
     fn add_each(&mut self, first: u32, last: u32, text: &str) -> io::Result<bool> {
-        match self.filled() {
-            Some(filled) => {
-                put_each(filled, first, last, text)?;
-                Ok(true)
-            }
-            None => Ok(false),
+        let Some(filled) = self.filled() else {
+            return Ok(false);
+        };
+        for number in first..=last {
+            put_numbered(filled, number, text)?;
         }
+        Ok(true)
     }
 
     fn add_hex(&mut self, text: &str) -> io::Result<bool> {
@@ -205,11 +186,11 @@ impl Case {
     fn begin(&mut self, part: Part) -> io::Result<()> {
         match part {
             Part::Word => self.words.push(Vec::new(self.alloc))?,
-            Part::Coming => self.post.coming.push(Vec::new(self.alloc))?,
+            Part::Coming => self.at_line.coming.push(Vec::new(self.alloc))?,
             _ => {}
         }
-        self.is_left = self.is_left || part == Part::Left;
-        self.is_discarded = self.is_discarded || part == Part::Discarded;
+        self.is_left = self.is_left || matches!(part, Part::Left);
+        self.is_discarded = self.is_discarded || matches!(part, Part::Discarded);
         self.part = part;
         Ok(())
     }
@@ -261,11 +242,11 @@ impl Case {
             Line::Status(status) => self.status = status,
             Line::AskedNothing => self.asked = Some(String::new(self.alloc)),
             Line::HalfTold => self.half_told = true,
-            Line::Station(station) => self.post.station = Some(station),
-            Line::LineFails(number) => self.post.fails_at = Some(number),
-            Line::Call(call) => self.post.calls.push(call)?,
-            Line::EachCallFails(count) => self.post.each_call = count,
-            Line::EachByteFails => self.post.each_byte = true,
+            Line::Station(station) => self.at_line.station = Some(station),
+            Line::LineFails(number) => self.at_line.fails_at = Some(number),
+            Line::Call(call) => self.at_line.calls.push(call)?,
+            Line::EachCallFails(count) => self.at_line.each_call = count,
+            Line::EachByteFails => self.at_line.each_byte = true,
         }
         Ok(true)
     }

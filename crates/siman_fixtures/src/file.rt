@@ -15,5 +15,11 @@ pub struct File {
 
 /// The last file of a name.
 pub fn found<'a>(files: &'a [File], name: &str) -> Option<&'a File> {
-    files.iter().rfind(|file| file.name.as_str() == name)
+    let mut last = None;
+    for file in files {
+        if file.name.as_str() == name {
+            last = Some(file);
+        }
+    }
+    last
 }

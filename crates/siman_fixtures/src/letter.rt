@@ -23,46 +23,39 @@ pub struct Letter {
     pub stamp: u8,
 }
 
-/// A site and its application 1, and an entity of theirs.
-fn put_id(bytes: &mut Vec<u8>, station: usize, entity: u8) -> Result<(), AllocError> {
+/// The bytes of a site, of its application 1, and of an entity of theirs.
+fn id(station: usize, entity: u8) -> [u8; 6] {
     let site = (station % 200) as u8;
     let high = if entity == ALL { 0xFF } else { 0 };
-    bytes.extend_from_slice(&[0, site.saturating_add(1), 0, 1, high, entity])
-}
-
-fn put_zeros(bytes: &mut Vec<u8>, count: u8) -> Result<(), AllocError> {
-    for _ in 0..count {
-        bytes.push(0)?;
-    }
-    Ok(())
+    [0, site.saturating_add(1), 0, 1, high, entity]
 }
 
 impl Letter {
-    /// Its length, and how many zeros stand before its request identifier and behind it.
-    fn sizes(&self) -> (u8, u8, u8) {
+    /// Its length, and the place of the last byte of its request identifier.
+    fn sizes(&self) -> (u8, usize) {
         match self.kind {
-            11 | 12 => (28, 0, 0),
-            13 => (44, 16, 0),
-            14 => (40, 12, 0),
-            15 => (32, 0, 0),
-            16 | 17 => (40, 0, 12),
-            _ => (32, 4, 0),
+            11 | 12 => (28, 27),
+            13 => (44, 43),
+            14 => (40, 39),
+            16 | 17 => (40, 27),
+            _ => (32, 31),
         }
     }
 
     /// The datagram.
     pub fn datagram(&self, alloc: Global) -> Result<Vec<u8>, AllocError> {
-        let (length, before, behind) = self.sizes();
-        let head = [7, 1, self.kind, 5, 0, 0, 0, self.stamp, 0, length, 0, 0];
-        let mut bytes = Vec::from_slice(alloc, &head)?;
-        put_id(&mut bytes, self.from, self.origin)?;
-        put_id(&mut bytes, self.to, self.target)?;
-        put_zeros(&mut bytes, before)?;
+        let (length, place) = self.sizes();
+        let mut bytes = [0; 44];
+        bytes[..4].copy_from_slice(&[7, 1, self.kind, 5]);
+        bytes[7] = self.stamp;
+        bytes[9] = length;
+        bytes[12..18].copy_from_slice(&id(self.from, self.origin));
+        bytes[18..24].copy_from_slice(&id(self.to, self.target));
         if self.kind == 15 {
-            bytes.extend_from_slice(&[0, self.flag, 0, self.response])?;
+            bytes[25] = self.flag;
+            bytes[27] = self.response;
         }
-        bytes.extend_from_slice(&[0, 0, 0, self.request])?;
-        put_zeros(&mut bytes, behind)?;
-        Ok(bytes)
+        bytes[place.min(43)] = self.request;
+        Vec::from_slice(alloc, &bytes[..usize::from(length.min(44))])
     }
 }

@@ -16,7 +16,7 @@ mod scene;
 mod station_case;
 
 pub use calls::{Calls, Given, WELL, Written, read_from, write_to};
-pub use case::{Case, Stream, first};
+pub use case::{Case, Stream, begin_case};
 pub use entries::{Entries, entries_of};
 pub use file::{File, found};
 pub use lines::{Line, Part, read_line};

@@ -5,7 +5,7 @@ use crate::station_case::Call;
 use std::io::ErrorKind;
 
 /// What the lines behind it fill.
-#[derive(Clone, Copy, PartialEq, Eq)]
+#[derive(Clone, Copy)]
 pub enum Part {
     Word,
     File,

@@ -34,7 +34,7 @@ pub struct Scene {
     sent: Vec<Letter>,
     got: Vec<Letter>,
     /// The state of each entity from 0 of each station.
-    pub states: Vec<EntityState>,
+    pub states: [EntityState; 32],
     request: u8,
 }
 
@@ -63,19 +63,19 @@ fn recent(random: &mut Random, letters: &[Letter]) -> Option<Letter> {
 }
 
 /// A scene before its first deed, of 2 to 4 stations.
-pub fn begin(alloc: Global, mut random: Random) -> Result<Scene, AllocError> {
+pub fn begin(alloc: Global, mut random: Random) -> Scene {
     let stations = random.below(3).saturating_add(2);
     let is_wild = random.one_in(2);
-    let mut states = Vec::new(alloc);
+    let mut states = [EntityState::Absent; 32];
     for place in 0..32usize {
         let entity = place % 8;
-        states.push(match random.below(4) {
+        states[place] = match random.below(4) {
             0 if entity >= 1 && entity <= 4 => EntityState::Running,
             1 if entity >= 1 && entity <= 4 => EntityState::Stopped,
             _ => EntityState::Absent,
-        })?;
+        };
     }
-    Ok(Scene {
+    Scene {
         random,
         stations,
         is_wild,
@@ -84,7 +84,7 @@ pub fn begin(alloc: Global, mut random: Random) -> Result<Scene, AllocError> {
         got: Vec::new(alloc),
         states,
         request: 0,
-    })
+    }
 }
 
 impl Scene {
@@ -155,10 +155,11 @@ impl Scene {
         self.send(letter.from, letter)
     }
 
-    /// A station receives what was sent to it.
-    fn bring(&mut self) -> Result<(), AllocError> {
+    /// What was sent comes to its station, or is sent once more.
+    fn bring(&mut self, is_received: bool) -> Result<(), AllocError> {
         match recent(&mut self.random, &self.sent) {
-            Some(letter) => self.get(letter),
+            Some(letter) if is_received => self.get(letter),
+            Some(letter) => self.send(letter.from, letter),
             None => self.ask(),
         }
     }
@@ -220,7 +221,7 @@ impl Scene {
     /// A station answers an order that it received.
     fn answer(&mut self) -> Result<(), AllocError> {
         let Some(order) = recent(&mut self.random, &self.got) else {
-            return self.bring();
+            return self.bring(true);
         };
         if let Some(again) = self.sent_answer(&order) {
             return self.send(order.to, again);
@@ -232,27 +233,27 @@ impl Scene {
         self.send(order.to, self.answer_to(&order, able))
     }
 
-    /// A station tells a state.
-    fn tell(&mut self) -> Result<(), AllocError> {
+    /// A station tells a state, or one by chance.
+    fn tell(&mut self, is_true: bool) -> Result<(), AllocError> {
         let station = self.random.below(self.stations);
         let entity = self.entity();
-        let state = self.state(station, entity);
+        let state = if is_true {
+            self.state(station, entity)
+        } else {
+            match self.random.below(3) {
+                0 => EntityState::Absent,
+                1 => EntityState::Stopped,
+                _ => EntityState::Running,
+            }
+        };
         self.deeds.push(Deed::Tells(station, entity, state))?;
         Ok(())
-    }
-
-    /// A station sends once more what it sent.
-    fn copy(&mut self) -> Result<(), AllocError> {
-        match recent(&mut self.random, &self.sent) {
-            Some(letter) => self.send(letter.from, letter),
-            None => self.ask(),
-        }
     }
 
     /// An answer that is spoilt in one way.
     fn answer_badly(&mut self) -> Result<(), AllocError> {
         let Some(order) = recent(&mut self.random, &self.got) else {
-            return self.bring();
+            return self.bring(true);
         };
         let able = self.random.one_in(2);
         let mut letter = self.answer_to(&order, able);
@@ -282,27 +283,14 @@ impl Scene {
         self.get(letter)
     }
 
-    /// A station tells a state by chance.
-    fn tell_badly(&mut self) -> Result<(), AllocError> {
-        let station = self.random.below(self.stations);
-        let entity = self.entity();
-        let state = match self.random.below(3) {
-            0 => EntityState::Absent,
-            1 => EntityState::Stopped,
-            _ => EntityState::Running,
-        };
-        self.deeds.push(Deed::Tells(station, entity, state))?;
-        Ok(())
-    }
-
     /// Something happens.
     pub fn go_on(&mut self) -> Result<(), AllocError> {
         match self.random.below(24) {
             0..=4 => self.ask(),
-            5..=8 => self.bring(),
+            5..=8 => self.bring(true),
             9..=13 => self.answer(),
-            14 => self.tell(),
-            15 => self.copy(),
+            14 => self.tell(true),
+            15 => self.bring(false),
             16 => {
                 let kind = if self.random.one_in(2) { 22 } else { 99 };
                 let letter = self.letter(kind);
@@ -310,8 +298,8 @@ impl Scene {
             }
             17..=19 if self.is_wild => self.answer_badly(),
             20 if self.is_wild => self.go_astray(),
-            21 if self.is_wild => self.tell_badly(),
-            _ => self.bring(),
+            21 if self.is_wild => self.tell(false),
+            _ => self.bring(true),
         }
     }
 

@@ -6,7 +6,7 @@ use exercise_model::{ExerciseLog, LogEntry, LogFault, MOST_ENTRIES, Recording, S
 use exercise_recording::{RecordingFault, RecordingWriter, WriterFault, read_recording};
 use siman_console::FilesFault;
 use siman_refusals::{station, unmade};
-use std::alloc::Global;
+use std::alloc::{AllocError, Global};
 use std::io;
 use std::io::Write;
 
@@ -26,11 +26,9 @@ fn stations(alloc: Global) -> io::Result<Vec<Station>> {
     Ok(stations)
 }
 
-/// What `push` answers to one entry more than there can be; a recording keeps those that it has.
-fn pushed(alloc: Global) -> io::Result<Result<(), LogFault>> {
-    let Ok(mut log) = Recording::start(alloc, 1, stations(alloc)?) else {
-        return Err(unmade());
-    };
+/// Fills a recording; what `push` answers to one entry more than there can be, where those that it has
+/// are kept.
+fn fill(log: &mut Recording) -> io::Result<Result<(), LogFault>> {
     for _ in 0..MOST_ENTRIES {
         if log.push(told_entry()).is_err() {
             return Err(unmade());
@@ -41,6 +39,14 @@ fn pushed(alloc: Global) -> io::Result<Result<(), LogFault>> {
         Ok(answer)
     } else {
         Err(unmade())
+    }
+}
+
+/// The same of a recording that is begun.
+fn pushed(alloc: Global) -> io::Result<Result<(), LogFault>> {
+    match Recording::start(alloc, 1, stations(alloc)?) {
+        Ok(mut log) => fill(&mut log),
+        Err(_) => Err(unmade()),
     }
 }
 
@@ -67,16 +73,39 @@ fn read(alloc: Global, file: &[u8]) -> Result<usize, RecordingFault> {
     Ok(log.entry_count())
 }
 
-/// What is read of the same file with one entry more before its end.
-fn read_longer(alloc: Global, mut file: Vec<u8>) -> io::Result<Result<usize, RecordingFault>> {
+/// One entry more before the end of the file, and the end behind it.
+fn add_entry(file: &mut Vec<u8>) -> Result<(), AllocError> {
     let end = file.len().saturating_sub(5);
     file.truncate(end);
-    file.extend_from_slice(&[3, 0, 0, 0, 7, 0, 0, 0, 16, 0, 1])?;
-    Ok(read(alloc, &file))
+    file.extend_from_slice(&[3, 0, 0, 0, 7, 0, 0, 0, 16, 0, 1])
 }
 
-/// Prints the texts of what `check_files` refuses with.
-fn put_texts<W: Write>(out: &mut W) -> io::Result<()> {
+/// Fills a file by a writer, and prints what is answered to one entry more, and what is read of it.
+fn put_file<W: Write>(alloc: Global, file: &mut Vec<u8>, out: &mut W) -> io::Result<()> {
+    let (more, end) = told(&stations(alloc)?, file)?;
+    if let Err(fault) = more {
+        writeln!(out, "told of one entry more: {fault}")?;
+    }
+    if end.is_ok() {
+        writeln!(out, "finish: {} bytes", file.len())?;
+    }
+    if let Ok(count) = read(alloc, file) {
+        writeln!(out, "read: {count} entries")?;
+    }
+    add_entry(file)?;
+    if let Err(fault) = read(alloc, file) {
+        writeln!(out, "read with one entry more: {fault}")?;
+    }
+    Ok(())
+}
+
+/// Fills a recording, and prints what is answered to one entry more, and the texts of what
+/// `check_files` refuses with.
+pub(crate) fn put_full<W: Write>(alloc: Global, out: &mut W) -> io::Result<()> {
+    if let Err(fault) = pushed(alloc)? {
+        writeln!(out, "push of one entry more: {fault}")?;
+    }
+    put_file(alloc, &mut Vec::new(alloc), out)?;
     let faults = [
         FilesFault::Recording(RecordingFault::Read),
         FilesFault::Certificate(CertificateFault::Read),
@@ -87,26 +116,4 @@ fn put_texts<W: Write>(out: &mut W) -> io::Result<()> {
         writeln!(out, "{fault}")?;
     }
     Ok(())
-}
-
-/// Fills a recording, and prints what is answered to one entry more.
-pub(crate) fn put_full<W: Write>(alloc: Global, out: &mut W) -> io::Result<()> {
-    if let Err(fault) = pushed(alloc)? {
-        writeln!(out, "push of one entry more: {fault}")?;
-    }
-    let mut file = Vec::new(alloc);
-    let (more, end) = told(&stations(alloc)?, &mut file)?;
-    if let Err(fault) = more {
-        writeln!(out, "told of one entry more: {fault}")?;
-    }
-    if end.is_ok() {
-        writeln!(out, "finish: {} bytes", file.len())?;
-    }
-    if let Ok(count) = read(alloc, &file) {
-        writeln!(out, "read: {count} entries")?;
-    }
-    if let Err(fault) = read_longer(alloc, file)? {
-        writeln!(out, "read with one entry more: {fault}")?;
-    }
-    put_texts(out)
 }

@@ -19,23 +19,29 @@ struct Table<'a> {
 }
 
 impl<'a> Outside for Table<'a> {
+    type Opened = &'a [u8];
+
     type File = Given<'a>;
 
     type Made = Written;
 
     type Line = WireLine;
 
-    fn open(&mut self, name: &str) -> io::Result<Given<'a>> {
+    fn open(&mut self, name: &str) -> io::Result<&'a [u8]> {
         for (known, bytes) in self.files {
             if *known == name {
-                return Ok(read_from(*bytes, WELL));
+                return Ok(*bytes);
             }
         }
         Err(io::Error::from(ErrorKind::NotFound))
     }
 
-    fn is_opened(&mut self, _file: &Given<'a>, _name: &str) -> bool {
+    fn is_opened(&mut self, _file: &&'a [u8], _name: &str) -> bool {
         false
+    }
+
+    fn read(&mut self, file: &'a [u8]) -> Given<'a> {
+        read_from(file, WELL)
     }
 
     fn make(&mut self, _name: &str) -> io::Result<Written> {

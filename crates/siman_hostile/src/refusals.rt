@@ -12,7 +12,7 @@ mod scripts;
 
 use crate::refusals::files::Judging;
 use crate::refusals::scripts::{Performing, ReadingScript, RunningWorld, Trying};
-use siman_refusals::{put_call, put_library_calls};
+use siman_refusals::{put_call, put_library_calls, room};
 use std::alloc::Global;
 use std::io;
 use std::io::Write;
@@ -20,9 +20,9 @@ use std::io::Write;
 /// Makes each call, and prints what is told of it.
 pub(crate) fn put_calls<W: Write>(alloc: Global, out: &mut W) -> io::Result<()> {
     put_library_calls(alloc, out)?;
-    put_call(alloc, "check_files", Judging::begin(alloc), out)?;
-    put_call(alloc, "read_script", Ok(ReadingScript), out)?;
-    put_call(alloc, "run_world", Ok(RunningWorld), out)?;
-    put_call(alloc, "perform", Performing::begin(alloc), out)?;
-    put_call(alloc, "trial", Trying::begin(alloc), out)
+    put_call::<Judging, _, _>(alloc, "check_files", room(alloc), out)?;
+    put_call::<ReadingScript, _, _>(alloc, "read_script", Ok(()), out)?;
+    put_call::<RunningWorld, _, _>(alloc, "run_world", Ok(()), out)?;
+    put_call::<Performing, _, _>(alloc, "perform", room(alloc), out)?;
+    put_call::<Trying, _, _>(alloc, "trial", room(alloc), out)
 }

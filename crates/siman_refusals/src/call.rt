@@ -5,7 +5,7 @@ use std::io;
 use std::io::Write;
 
 /// What a call said.
-#[derive(Clone, Copy, PartialEq, Eq)]
+#[derive(Drop)]
 pub enum Said {
     /// What it says where memory lasts.
     Usual,
@@ -27,42 +27,38 @@ pub fn refused(holds: bool) -> Said {
     if holds { Said::Memory } else { Said::Otherwise }
 }
 
-/// [`Said::Send`] where it holds.
-pub fn failed(holds: bool) -> Said {
-    if holds { Said::Send } else { Said::Otherwise }
-}
-
-/// A call, with what it is lent.
-pub trait Call {
+/// A call, on what it is lent.
+pub trait Call<L> {
     /// Makes the call.
-    fn make(&mut self, alloc: Global) -> Said;
+    fn make(alloc: Global, lent: &mut L) -> Said;
 }
 
 /// What is told of a call: what it says, and where memory was refused, what it says again.
-fn told<C: Call>(alloc: Global, call: &mut C) -> &'static str {
-    match call.make(alloc) {
+fn told<L, C: Call<L>>(alloc: Global, lent: &mut L) -> &'static str {
+    match C::make(alloc, lent) {
         Said::Usual => "usual",
         Said::Otherwise => "otherwise",
-        Said::Memory => match call.make(alloc) {
+        Said::Memory => match C::make(alloc, lent) {
             Said::Usual => "memory, then usual",
             _ => "memory, then otherwise",
         },
-        Said::Send => match call.make(alloc) {
+        Said::Send => match C::make(alloc, lent) {
             Said::Usual => "send, then usual",
             _ => "send, then otherwise",
         },
     }
 }
 
-/// Prints what is told of a call, if it was begun.
-pub fn put_call<C: Call + Drop, W: Write>(
+/// Prints what is told of a call, if what it is lent could be made.
+pub fn put_call<C: Call<L>, L: Drop, W: Write>(
     alloc: Global,
     name: &str,
-    begun: io::Result<C>,
+    lent: io::Result<L>,
     out: &mut W,
 ) -> io::Result<()> {
-    match begun {
-        Ok(mut call) => writeln!(out, "{name}: {}", told(alloc, &mut call)),
-        Err(_) => writeln!(out, "{name}: not begun"),
-    }
+    let told = match lent {
+        Ok(mut lent) => told::<L, C>(alloc, &mut lent),
+        Err(_) => "not begun",
+    };
+    writeln!(out, "{name}: {told}")
 }

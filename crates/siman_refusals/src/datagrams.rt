@@ -1,10 +1,10 @@
 //! Datagrams that are read, written, shown and copied.
 
 use crate::call::{Call, Said, refused, usual};
+use crate::recordings::unmade;
 use siman_pdus::{Body, EncodeFault, Pdu, PduFault, decode, encode, view};
 use std::alloc::Global;
 use std::io;
-use std::io::ErrorKind;
 
 /// A Comment of 1:1 for 2:3 with one variable datum, of 5 and 40 bits.
 pub(crate) const COMMENT: [u8; 48] = [
@@ -13,16 +13,16 @@ pub(crate) const COMMENT: [u8; 48] = [
 ];
 
 /// A Comment with a variable datum of 12 bits, of which the last byte has unused bits that are set.
-pub(crate) const TWELVE_BITS: [u8; 48] = [
+const TWELVE_BITS: [u8; 48] = [
     7, 1, 22, 5, 0, 0, 0, 0, 0, 48, 0, 0, 0, 1, 0, 1, 0, 0, 0, 2, 0, 3, 0, 0, 0, 0, 0, 0, 0, 0, 0,
     1, 0, 0, 0, 5, 0, 0, 0, 12, 171, 197, 0, 0, 0, 0, 0, 0,
 ];
 
 /// The PDU that a datagram spells, to be lent.
-pub(crate) fn read(alloc: Global, datagram: &[u8]) -> io::Result<Pdu> {
+pub(crate) fn pdu_of(alloc: Global, datagram: &[u8]) -> io::Result<Pdu> {
     match decode(alloc, datagram) {
         Ok(pdu) => Ok(pdu),
-        Err(_) => Err(io::Error::from(ErrorKind::Other)),
+        Err(_) => Err(unmade()),
     }
 }
 
@@ -38,11 +38,10 @@ fn says(pdu: &Pdu, bits: u32, bytes: &[u8]) -> bool {
 }
 
 /// A datagram is read.
-#[derive(Drop)]
 pub(crate) struct Decoding;
 
-impl Call for Decoding {
-    fn make(&mut self, alloc: Global) -> Said {
+impl Call<()> for Decoding {
+    fn make(alloc: Global, _lent: &mut ()) -> Said {
         match decode(alloc, &COMMENT) {
             Ok(pdu) => usual(says(&pdu, 40, b"HELLO")),
             Err(fault) => refused(fault == PduFault::Memory),
@@ -51,38 +50,31 @@ impl Call for Decoding {
 }
 
 /// A PDU is written behind a byte.
-#[derive(Drop)]
-pub(crate) struct Encoding {
-    pdu: Pdu,
-    out: Vec<u8>,
+pub(crate) struct Encoding;
+
+/// The Comment, and a byte.
+pub(crate) fn to_encode(alloc: Global) -> io::Result<(Pdu, Vec<u8>)> {
+    let out = Vec::from_slice(alloc, &[9])?;
+    Ok((pdu_of(alloc, &COMMENT)?, out))
 }
 
-impl Encoding {
-    pub(crate) fn begin(alloc: Global) -> io::Result<Encoding> {
-        Ok(Encoding {
-            pdu: read(alloc, &COMMENT)?,
-            out: Vec::from_slice(alloc, &[9])?,
-        })
-    }
-}
-
-impl Call for Encoding {
-    fn make(&mut self, _alloc: Global) -> Said {
-        match encode(&self.pdu, &mut self.out) {
-            Ok(()) => usual(self.out.as_slice().strip_prefix(&[9]) == Some(COMMENT.as_slice())),
+impl Call<(Pdu, Vec<u8>)> for Encoding {
+    fn make(_alloc: Global, lent: &mut (Pdu, Vec<u8>)) -> Said {
+        let (pdu, out) = lent;
+        match encode(pdu, out) {
+            Ok(()) => usual(out.as_slice().strip_prefix(&[9]) == Some(COMMENT.as_slice())),
             Err(fault) => {
-                refused(fault == EncodeFault::Memory && self.out.as_slice() == [9].as_slice())
+                refused(fault == EncodeFault::Memory && out.as_slice() == [9].as_slice())
             }
         }
     }
 }
 
 /// A datagram is shown in place, and a PDU is made of what is shown.
-#[derive(Drop)]
 pub(crate) struct Showing;
 
-impl Call for Showing {
-    fn make(&mut self, alloc: Global) -> Said {
+impl Call<()> for Showing {
+    fn make(alloc: Global, _lent: &mut ()) -> Said {
         match view(&TWELVE_BITS) {
             Ok(shown) => match shown.to_pdu(alloc) {
                 Ok(pdu) => usual(says(&pdu, 12, &[0xAB, 0xC0])),
@@ -94,24 +86,13 @@ impl Call for Showing {
 }
 
 /// A PDU is copied.
-#[derive(Drop)]
-pub(crate) struct Copying {
-    pdu: Pdu,
-}
+pub(crate) struct Copying;
 
-impl Copying {
-    pub(crate) fn begin(alloc: Global) -> io::Result<Copying> {
-        Ok(Copying {
-            pdu: read(alloc, &COMMENT)?,
-        })
-    }
-}
-
-impl Call for Copying {
-    fn make(&mut self, alloc: Global) -> Said {
-        match self.pdu.copy(alloc) {
-            Ok(copy) => usual(copy == self.pdu && says(&copy, 40, b"HELLO")),
-            Err(_) => refused(says(&self.pdu, 40, b"HELLO")),
+impl Call<Pdu> for Copying {
+    fn make(alloc: Global, pdu: &mut Pdu) -> Said {
+        match pdu.copy(alloc) {
+            Ok(copy) => usual(copy == *pdu && says(&copy, 40, b"HELLO")),
+            Err(_) => refused(says(pdu, 40, b"HELLO")),
         }
     }
 }

@@ -5,65 +5,50 @@
 
 mod call;
 mod datagrams;
-mod files;
 mod load;
 mod machines;
 mod recordings;
 mod stations;
 
-use crate::datagrams::{Copying, Decoding, Encoding, Showing};
-use crate::files::Carrying;
-use crate::machines::{Beginning, Ordering, Taking};
-use crate::recordings::{Checking, Pushing, Reading, ReadingSteps, Searching, Seeing};
-use crate::stations::{Issuing, Nudging, Serving};
+use crate::datagrams::{COMMENT, Copying, Decoding, Encoding, Showing, pdu_of, to_encode};
+use crate::machines::{Beginning, CREATION, FIXED, Ordering, Taking, VARIABLE, manager, to_take};
+use crate::recordings::{
+    APART, Carrying, Checking, FetchingSteps, Pushing, Reading, ReadingSteps, Searching, Seeing,
+    recording_of, to_check,
+};
+use crate::stations::{Issuing, Nudging, Serving, to_issue, to_nudge, to_serve};
 pub use call::{Call, Said, put_call, refused, usual};
 pub use load::{put_halves, put_station};
-pub use recordings::{recording_text, station, unmade};
+pub use recordings::{RECORDING, room, station, unmade};
 use std::alloc::Global;
 use std::io;
 use std::io::Write;
 
-fn put_datagrams<W: Write>(alloc: Global, out: &mut W) -> io::Result<()> {
-    put_call(alloc, "decode", Ok(Decoding), out)?;
-    put_call(alloc, "encode", Encoding::begin(alloc), out)?;
-    put_call(alloc, "to_pdu", Ok(Showing), out)?;
-    put_call(alloc, "copy", Copying::begin(alloc), out)
-}
-
-fn put_recordings<W: Write>(alloc: Global, out: &mut W) -> io::Result<()> {
-    put_call(alloc, "read_recording", Reading::begin(alloc), out)?;
-    put_call(alloc, "over", Seeing::begin(alloc), out)?;
-    put_call(alloc, "push", Pushing::begin(alloc), out)?;
-    put_call(alloc, "check", Checking::begin(alloc), out)?;
-    put_call(alloc, "audit", Searching::begin(alloc), out)?;
-    put_call(alloc, "read_certificate", Ok(ReadingSteps), out)?;
-    put_call(alloc, "convert", Carrying::begin(alloc), out)
-}
-
-fn put_machines<W: Write>(alloc: Global, out: &mut W) -> io::Result<()> {
-    put_call(alloc, "begin", Beginning::begin(alloc), out)?;
-    put_call(alloc, "take, of fixed datums", Taking::of_fixed(alloc), out)?;
-    put_call(
-        alloc,
-        "take, of variable datums",
-        Taking::of_variable(alloc),
-        out,
-    )?;
-    put_call(
-        alloc,
-        "take, of a creation",
-        Taking::of_creation(alloc),
-        out,
-    )?;
-    put_call(alloc, "request", Ordering::begin(alloc), out)?;
-    put_call(alloc, "serve", Serving::begin(alloc), out)?;
-    put_call(alloc, "issue", Issuing::begin(alloc), out)?;
-    put_call(alloc, "nudge", Nudging::begin(alloc), out)
-}
-
 /// Makes each of these calls, and prints what is told of it.
 pub fn put_library_calls<W: Write>(alloc: Global, out: &mut W) -> io::Result<()> {
-    put_datagrams(alloc, out)?;
-    put_recordings(alloc, out)?;
-    put_machines(alloc, out)
+    put_call::<Decoding, _, _>(alloc, "decode", Ok(()), out)?;
+    put_call::<Encoding, _, _>(alloc, "encode", to_encode(alloc), out)?;
+    put_call::<Showing, _, _>(alloc, "to_pdu", Ok(()), out)?;
+    put_call::<Copying, _, _>(alloc, "copy", pdu_of(alloc, &COMMENT), out)?;
+    put_call::<Reading, _, _>(alloc, "read_recording", Ok(()), out)?;
+    put_call::<Seeing, _, _>(alloc, "over", Ok(()), out)?;
+    put_call::<Pushing, _, _>(alloc, "push", recording_of(alloc, &RECORDING), out)?;
+    put_call::<Checking, _, _>(alloc, "check", to_check(alloc), out)?;
+    put_call::<Searching, _, _>(alloc, "audit", recording_of(alloc, &APART), out)?;
+    put_call::<ReadingSteps, _, _>(alloc, "read_certificate", Ok(()), out)?;
+    put_call::<FetchingSteps, _, _>(alloc, "fetch_certificate", Ok(()), out)?;
+    put_call::<Carrying, _, _>(alloc, "convert", room(alloc), out)?;
+    put_call::<Beginning, _, _>(alloc, "begin", station(alloc, 2, 3), out)?;
+    put_call::<Taking, _, _>(alloc, "take, of fixed datums", to_take(alloc, FIXED), out)?;
+    put_call::<Taking, _, _>(
+        alloc,
+        "take, of variable datums",
+        to_take(alloc, VARIABLE),
+        out,
+    )?;
+    put_call::<Taking, _, _>(alloc, "take, of a creation", to_take(alloc, CREATION), out)?;
+    put_call::<Ordering, _, _>(alloc, "request", manager(alloc), out)?;
+    put_call::<Serving, _, _>(alloc, "serve", to_serve(alloc), out)?;
+    put_call::<Issuing, _, _>(alloc, "issue", to_issue(alloc), out)?;
+    put_call::<Nudging, _, _>(alloc, "nudge", to_nudge(alloc), out)
 }

@@ -1,15 +1,16 @@
 //! A manager, an application and a station that are called 100,000 times.
 
-use crate::machines::{application, creation, creation_under, manager, ordered};
-use crate::recordings::{CREATE, unmade};
-use crate::stations::RecordedStation;
+use crate::machines::{application, creation_under, manager, ordered};
+use crate::recordings::unmade;
+use crate::stations::{Came, Deed, RecordedStation, carry_out, creations};
 use exercise_recording::RecordingWriter;
 use siman_application::Application;
-use siman_lines::{MemoryLine, Node, Served, issue, nudge, serve};
+use siman_lines::MemoryLine;
 use siman_manager::Manager;
-use std::alloc::{AllocError, Global};
-use std::io;
+use siman_stations::Node;
+use std::alloc::Global;
 use std::io::Write;
+use std::{io, slice};
 
 /// How often each is called.
 const MOST: u32 = 100_000;
@@ -24,17 +25,22 @@ fn orders(manager: &mut Manager) -> u32 {
     MOST
 }
 
+/// Whether an application takes and answers a creation under an identifier.
+fn is_answered(application: &mut Application, id: u32) -> bool {
+    matches!(application.take(&creation_under(id), 0), Ok(Some(_)))
+}
+
 /// How many requests an application takes and answers before one is refused.
 fn requests(application: &mut Application) -> u32 {
-    for number in 0..MOST {
-        match application.take(&creation_under(number), 0) {
-            Ok(Some(_)) => {}
-            _ => return number,
+    for id in 0..MOST {
+        if !is_answered(application, id) {
+            return id;
         }
     }
     MOST
 }
 
+// What is alive where a call may refuse is dear to prove, so machines are made apart.
 fn order_count(alloc: Global) -> io::Result<u32> {
     Ok(orders(&mut manager(alloc)?))
 }
@@ -46,108 +52,60 @@ fn request_count(alloc: Global) -> io::Result<u32> {
 /// Calls a manager and an application, and prints how far they came.
 pub fn put_halves<W: Write>(alloc: Global, out: &mut W) -> io::Result<()> {
     let (orders, requests) = (order_count(alloc)?, request_count(alloc)?);
-    writeln!(out, "orders: {orders}")?;
-    writeln!(out, "requests: {requests}")?;
-    Ok(())
+    writeln!(out, "orders: {orders}\nrequests: {requests}")
 }
 
-/// Creations under identifiers from 0 on, as datagrams.
-fn creations(alloc: Global) -> Result<Vec<Vec<u8>>, AllocError> {
-    let mut creations = Vec::new(alloc);
-    for number in 0..MOST {
-        let mut bytes = Vec::from_slice(alloc, &CREATE)?;
-        bytes.truncate(24);
-        bytes.extend_from_slice(&number.to_be_bytes())?;
-        creations.push(bytes)?;
-    }
-    Ok(creations)
-}
-
-/// How many datagrams a station answers in one call of `serve`.
-fn served<W: Write>(
+/// How often a station does something before nothing comes of it.
+fn times<W: Write>(
     alloc: Global,
     line: &mut MemoryLine,
     node: &mut Node,
     recorder: &mut RecordingWriter<'_, W>,
-) -> u32 {
-    match serve(alloc, line, node, recorder, 0, 0, MOST) {
-        Ok(Served { sent, .. }) => sent,
-        Err(_) => 0,
-    }
-}
-
-/// How many orders a station issues before one is refused.
-fn issued<W: Write>(
-    alloc: Global,
-    line: &mut MemoryLine,
-    node: &mut Node,
-    recorder: &mut RecordingWriter<'_, W>,
+    deed: Deed,
 ) -> u32 {
     for number in 0..MOST {
-        if issue(alloc, line, node, recorder, 0, creation(), 0).is_err() {
-            return number;
-        }
-    }
-    MOST
-}
-
-/// How often a station finds an order that is due, before it finds none or is refused.
-fn nudged<W: Write>(
-    alloc: Global,
-    line: &mut MemoryLine,
-    node: &mut Node,
-    recorder: &mut RecordingWriter<'_, W>,
-) -> u32 {
-    for number in 0..MOST {
-        match nudge(alloc, line, node, recorder, 0, 10) {
-            Ok(true) => {}
+        match carry_out(alloc, line, node, recorder, deed) {
+            Came::Done(done) if done > 0 => {}
             _ => return number,
         }
     }
     MOST
 }
 
-/// How far a station came at its line.
-#[derive(Clone, Copy)]
-struct StationCounts {
-    served: u32,
-    issued: u32,
-    nudged: u32,
-    /// How many datagrams are on the line.
-    sent: usize,
-}
+/// How many datagrams a station answers in one call, how many orders it issues before one is refused,
+/// and how often it finds an order that is due; and how many datagrams are on the line then.
+type Counts = (u32, u32, u32, usize);
 
-/// Calls a station at its line.
-fn station_counts(alloc: Global) -> io::Result<StationCounts> {
+fn counts(alloc: Global, recorded: &mut RecordedStation) -> io::Result<Counts> {
     let RecordedStation {
-        stations,
-        mut node,
-        mut line,
-        mut text,
-    } = RecordedStation::begin(alloc, 2, 3, creations(alloc)?)?;
-    let Ok(mut recorder) = RecordingWriter::start(&mut text, 1, &stations) else {
+        station,
+        node,
+        line,
+        text,
+        ..
+    } = recorded;
+    let Ok(mut recorder) = RecordingWriter::start(text, 1, slice::from_ref(station)) else {
         return Err(unmade());
     };
-    let served = served(alloc, &mut line, &mut node, &mut recorder);
-    let issued = issued(alloc, &mut line, &mut node, &mut recorder);
-    let nudged = nudged(alloc, &mut line, &mut node, &mut recorder);
-    Ok(StationCounts {
-        served,
-        issued,
-        nudged,
-        sent: line.sent().len(),
-    })
+    let served = match carry_out(alloc, line, node, &mut recorder, Deed::Serve(MOST)) {
+        Came::Done(sent) => sent,
+        _ => 0,
+    };
+    let issued = times(alloc, line, node, &mut recorder, Deed::Issue);
+    let nudged = times(alloc, line, node, &mut recorder, Deed::Nudge(10));
+    Ok((served, issued, nudged, line.sent().len()))
+}
+
+fn station_counts(alloc: Global) -> io::Result<Counts> {
+    let coming = creations(alloc, MOST, 0, 1)?;
+    counts(alloc, &mut RecordedStation::begin(alloc, 2, 3, coming)?)
 }
 
 /// Calls a station at its line, and prints how far it came.
 pub fn put_station<W: Write>(alloc: Global, out: &mut W) -> io::Result<()> {
-    let StationCounts {
-        served,
-        issued,
-        nudged,
-        sent,
-    } = station_counts(alloc)?;
-    writeln!(out, "served: {served}, issued: {issued}, nudged: {nudged}")?;
-    writeln!(out, "on the line: {sent}")?;
-    Ok(())
+    let (served, issued, nudged, sent) = station_counts(alloc)?;
+    writeln!(
+        out,
+        "served: {served}, issued: {issued}, nudged: {nudged}\non the line: {sent}"
+    )
 }

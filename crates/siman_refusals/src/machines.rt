@@ -4,7 +4,7 @@ ghost use Rattle.std.specs.Prelude.{IsTrue};
 ghost use Rattle.siman_pdus.specs.Role.{is_request_body};
 
 use crate::call::{Call, Said, refused, usual};
-use crate::datagrams::read;
+use crate::datagrams::pdu_of;
 use crate::recordings::{ABLE, CREATE, station, unmade};
 use dis_records::{Address, EntityId, EntityState, FixedDatum, VariableDatum, Version};
 use exercise_model::Station;
@@ -14,50 +14,60 @@ use siman_pdus::{Body, Pdu};
 use std::alloc::Global;
 use std::io;
 
-/// A Data Query of 1:1 to 2:3 for the fixed datums 11, 12 and 10, and its answer.
-pub(crate) const FIXED_QUERY: [u8; 52] = [
+/// A Data Query of 1:1 to 2:3 for the fixed datums 11, 12 and 10.
+const FIXED_QUERY: [u8; 52] = [
     7, 1, 18, 5, 0, 0, 0, 0, 0, 52, 0, 0, 0, 1, 0, 1, 0, 0, 0, 2, 0, 3, 0, 0, 0, 0, 0, 1, 0, 0, 0,
     0, 0, 0, 0, 3, 0, 0, 0, 0, 0, 0, 0, 11, 0, 0, 0, 12, 0, 0, 0, 10,
 ];
 
 /// The values of 11 and 10.
-pub(crate) const FIXED_ANSWER: [u8; 56] = [
+const FIXED_ANSWER: [u8; 56] = [
     7, 1, 20, 5, 0, 0, 0, 0, 0, 56, 0, 0, 0, 2, 0, 3, 0, 0, 0, 1, 0, 1, 0, 0, 0, 0, 0, 1, 0, 0, 0,
     0, 0, 0, 0, 2, 0, 0, 0, 0, 0, 0, 0, 11, 0, 0, 0, 6, 0, 0, 0, 10, 0, 0, 0, 5,
 ];
 
 /// A Data Query of 1:1 to 2:3 for the variable datums 5 and 6.
-pub(crate) const VARIABLE_QUERY: [u8; 48] = [
+const VARIABLE_QUERY: [u8; 48] = [
     7, 1, 18, 5, 0, 0, 0, 0, 0, 48, 0, 0, 0, 1, 0, 1, 0, 0, 0, 2, 0, 3, 0, 0, 0, 0, 0, 1, 0, 0, 0,
     0, 0, 0, 0, 0, 0, 0, 0, 2, 0, 0, 0, 5, 0, 0, 0, 6,
 ];
 
 /// The value of 5.
-pub(crate) const VARIABLE_ANSWER: [u8; 56] = [
+const VARIABLE_ANSWER: [u8; 56] = [
     7, 1, 20, 5, 0, 0, 0, 0, 0, 56, 0, 0, 0, 2, 0, 3, 0, 0, 0, 1, 0, 1, 0, 0, 0, 0, 0, 1, 0, 0, 0,
     0, 0, 0, 0, 0, 0, 0, 0, 1, 0, 0, 0, 5, 0, 0, 0, 40, 72, 69, 76, 76, 79, 0, 0, 0,
 ];
 
+/// A request, and its answer.
+pub(crate) type Exchange = (&'static [u8], &'static [u8]);
+
+pub(crate) const FIXED: Exchange = (&FIXED_QUERY, &FIXED_ANSWER);
+
+pub(crate) const VARIABLE: Exchange = (&VARIABLE_QUERY, &VARIABLE_ANSWER);
+
+pub(crate) const CREATION: Exchange = (&CREATE, &ABLE);
+
 /// The fixed datums that the application holds.
-const FIXED: [FixedDatum; 2] = [
+const DATUMS: [FixedDatum; 2] = [
     FixedDatum { id: 10, value: 5 },
     FixedDatum { id: 11, value: 6 },
 ];
 
 /// The variable datum that the application holds.
 fn variable(alloc: Global) -> io::Result<Vec<VariableDatum>> {
+    let bytes = Vec::from_slice(alloc, b"HELLO")?;
+    let Ok(datum) = VariableDatum::new(5, 40, bytes) else {
+        return Err(unmade());
+    };
     let mut datums = Vec::new(alloc);
-    match VariableDatum::new(5, 40, Vec::from_slice(alloc, b"HELLO")?) {
-        Ok(datum) => datums.push(datum)?,
-        Err(_) => return Err(unmade()),
-    }
+    datums.push(datum)?;
     Ok(datums)
 }
 
 /// An application at 2:3.
 pub(crate) fn application(alloc: Global) -> io::Result<Application> {
     let station = station(alloc, 2, 3)?;
-    match Application::begin(alloc, 1, &station, &FIXED, variable(alloc)?, &[1]) {
+    match Application::begin(alloc, 1, &station, &DATUMS, variable(alloc)?, &[1]) {
         Ok(application) => Ok(application),
         Err(_) => Err(unmade()),
     }
@@ -70,22 +80,11 @@ fn is_begun(application: &Application) -> bool {
 }
 
 /// An application begins.
-#[derive(Drop)]
-pub(crate) struct Beginning {
-    station: Station,
-}
+pub(crate) struct Beginning;
 
-impl Beginning {
-    pub(crate) fn begin(alloc: Global) -> io::Result<Beginning> {
-        Ok(Beginning {
-            station: station(alloc, 2, 3)?,
-        })
-    }
-}
-
-impl Call for Beginning {
-    fn make(&mut self, alloc: Global) -> Said {
-        match Application::begin(alloc, 1, &self.station, &FIXED, Vec::new(alloc), &[1]) {
+impl Call<Station> for Beginning {
+    fn make(alloc: Global, station: &mut Station) -> Said {
+        match Application::begin(alloc, 1, station, &DATUMS, Vec::new(alloc), &[1]) {
             Ok(application) => usual(application.datum(11) == Some(6)),
             Err(fault) => refused(fault == AppFault::Memory),
         }
@@ -93,52 +92,34 @@ impl Call for Beginning {
 }
 
 /// An application takes a request.
+pub(crate) struct Taking;
+
+/// An application, a request to it, and the answer that it should give.
 #[derive(Drop)]
-pub(crate) struct Taking {
+pub(crate) struct Asked {
     application: Application,
     request: Pdu,
     answer: Pdu,
 }
 
-impl Taking {
-    fn begin(alloc: Global, request: &[u8], answer: &[u8]) -> io::Result<Taking> {
-        // The application last: what is alive where a call may refuse is dear to prove.
-        let (request, answer) = (read(alloc, request)?, read(alloc, answer)?);
-        Ok(Taking {
-            application: application(alloc)?,
-            request,
-            answer,
-        })
-    }
-
-    pub(crate) fn of_fixed(alloc: Global) -> io::Result<Taking> {
-        Taking::begin(alloc, &FIXED_QUERY, &FIXED_ANSWER)
-    }
-
-    pub(crate) fn of_variable(alloc: Global) -> io::Result<Taking> {
-        Taking::begin(alloc, &VARIABLE_QUERY, &VARIABLE_ANSWER)
-    }
-
-    pub(crate) fn of_creation(alloc: Global) -> io::Result<Taking> {
-        Taking::begin(alloc, &CREATE, &ABLE)
-    }
+/// An application at 2:3, and a request to it with its answer.
+pub(crate) fn to_take(alloc: Global, exchange: Exchange) -> io::Result<Asked> {
+    let (request, answer) = exchange;
+    // The application last: what is alive where a call may refuse is dear to prove.
+    let (request, answer) = (pdu_of(alloc, request)?, pdu_of(alloc, answer)?);
+    Ok(Asked {
+        application: application(alloc)?,
+        request,
+        answer,
+    })
 }
 
-/// Whether an application is asked and answers so; `None` where memory was refused.
-fn is_answered(application: &mut Application, request: &Pdu, answer: &Pdu) -> Option<bool> {
-    match application.take(request, 0) {
-        Ok(Some(given)) => Some(*given == *answer),
-        Ok(None) => Some(false),
-        Err(AppFault::Memory) => None,
-        Err(_) => Some(false),
-    }
-}
-
-impl Call for Taking {
-    fn make(&mut self, _alloc: Global) -> Said {
-        match is_answered(&mut self.application, &self.request, &self.answer) {
-            Some(is_right) => usual(is_right),
-            None => refused(is_begun(&self.application)),
+impl Call<Asked> for Taking {
+    fn make(_alloc: Global, asked: &mut Asked) -> Said {
+        match asked.application.take(&asked.request, 0) {
+            Ok(Some(given)) => usual(*given == asked.answer),
+            Err(AppFault::Memory) => refused(is_begun(&asked.application)),
+            _ => Said::Otherwise,
         }
     }
 }
@@ -163,39 +144,24 @@ pub(crate) fn creation_under(request: u32) -> Pdu {
             application: 1,
             entity: 0,
         },
-        target: EntityId {
-            site: 2,
-            application: 3,
-            entity: 7,
-        },
+        target: ENTITY,
         body: Body::CreateEntity { request },
     }
 }
 
-/// A manager makes an order.
-#[derive(Drop)]
-pub(crate) struct Ordering {
-    manager: Manager,
-}
+/// What is created: 2:3:7.
+const ENTITY: EntityId = EntityId {
+    site: 2,
+    application: 3,
+    entity: 7,
+};
 
-impl Ordering {
-    pub(crate) fn begin(alloc: Global) -> io::Result<Ordering> {
-        Ok(Ordering {
-            manager: manager(alloc)?,
-        })
-    }
-}
-
-/// The order of a Create Entity for 2:3:7.
+/// The order of a Create Entity for it.
 pub(crate) fn creation() -> Order
     ensures { IsTrue (is_request_body result.body) }
 {
     Order {
-        target: EntityId {
-            site: 2,
-            application: 3,
-            entity: 7,
-        },
+        target: ENTITY,
         body: Body::CreateEntity { request: 77 },
     }
 }
@@ -206,13 +172,14 @@ pub(crate) fn ordered(manager: &mut Manager) -> Result<u32, OrderFault> {
     Ok(id)
 }
 
-impl Call for Ordering {
-    fn make(&mut self, _alloc: Global) -> Said {
-        match ordered(&mut self.manager) {
-            Ok(id) => usual(id == 1 && self.manager.status(1).is_some()),
-            Err(fault) => {
-                refused(fault == OrderFault::Memory && self.manager.status(1).is_none())
-            }
+/// A manager makes an order.
+pub(crate) struct Ordering;
+
+impl Call<Manager> for Ordering {
+    fn make(_alloc: Global, manager: &mut Manager) -> Said {
+        match ordered(manager) {
+            Ok(id) => usual(id == 1 && manager.status(1).is_some()),
+            Err(fault) => refused(fault == OrderFault::Memory && manager.status(1).is_none()),
         }
     }
 }

@@ -1,13 +1,14 @@
-//! Recordings and certificates that are read, and judged.
+//! Recordings and certificates that are read, carried over and judged.
 
 use crate::call::{Call, Said, refused, usual};
 use dis_records::{Address, EntityState};
 use exercise_audit::{Audit, audit};
 use exercise_check::{
-    Certificate, CertificateFault, CheckFault, Checked, NO_LINK, Step, check, read_certificate,
+    Certificate, CertificateFault, CheckFault, Checked, NO_LINK, Step, check, fetch_certificate,
+    read_certificate,
 };
 use exercise_model::{EntryView, ExerciseLog, LogEntry, LogFault, Recording, Station};
-use exercise_recording::{RecordingFault, RecordingView, read_recording, write_recording};
+use exercise_recording::{ConvertFault, RecordingFault, RecordingView, convert, read_recording};
 use std::alloc::Global;
 use std::io;
 use std::io::ErrorKind;
@@ -23,13 +24,35 @@ pub(crate) const ABLE: [u8; 32] = [
     1,
 ];
 
+/// The file of the recording of that creation, at 1:1 and 2:3, in the order in which it happened.
+pub const RECORDING: [u8; 200] = [
+    68, 83, 82, 67, 48, 48, 48, 49, 1, 0, 2, 0, 1, 0, 1, 0, 0, 0, 2, 0, 3, 0, 0, 1, 0, 0, 0, 0, 0,
+    0, 0, 0, 0, 0, 0, 28, 7, 1, 11, 5, 0, 0, 0, 0, 0, 28, 0, 0, 0, 1, 0, 1, 0, 0, 0, 2, 0, 3, 0, 7,
+    0, 0, 0, 1, 2, 0, 1, 0, 0, 0, 0, 0, 0, 0, 0, 0, 28, 7, 1, 11, 5, 0, 0, 0, 0, 0, 28, 0, 0, 0, 1,
+    0, 1, 0, 0, 0, 2, 0, 3, 0, 7, 0, 0, 0, 1, 1, 0, 1, 0, 0, 0, 0, 0, 0, 0, 0, 0, 32, 7, 1, 15, 5,
+    0, 0, 0, 0, 0, 32, 0, 0, 0, 2, 0, 3, 0, 7, 0, 1, 0, 1, 0, 0, 0, 1, 0, 1, 0, 0, 0, 1, 2, 0, 0,
+    0, 0, 0, 0, 0, 0, 0, 0, 0, 32, 7, 1, 15, 5, 0, 0, 0, 0, 0, 32, 0, 0, 0, 2, 0, 3, 0, 7, 0, 1, 0,
+    1, 0, 0, 0, 1, 0, 1, 0, 0, 0, 1, 0, 0, 0, 0, 4,
+];
+
+/// The same with the log of 2:3 first.
+pub(crate) const APART: [u8; 200] = [
+    68, 83, 82, 67, 48, 48, 48, 49, 1, 0, 2, 0, 1, 0, 1, 0, 0, 0, 2, 0, 3, 0, 0, 2, 0, 1, 0, 0, 0,
+    0, 0, 0, 0, 0, 0, 28, 7, 1, 11, 5, 0, 0, 0, 0, 0, 28, 0, 0, 0, 1, 0, 1, 0, 0, 0, 2, 0, 3, 0, 7,
+    0, 0, 0, 1, 1, 0, 1, 0, 0, 0, 0, 0, 0, 0, 0, 0, 32, 7, 1, 15, 5, 0, 0, 0, 0, 0, 32, 0, 0, 0, 2,
+    0, 3, 0, 7, 0, 1, 0, 1, 0, 0, 0, 1, 0, 1, 0, 0, 0, 1, 1, 0, 0, 0, 0, 0, 0, 0, 0, 0, 0, 0, 28,
+    7, 1, 11, 5, 0, 0, 0, 0, 0, 28, 0, 0, 0, 1, 0, 1, 0, 0, 0, 2, 0, 3, 0, 7, 0, 0, 0, 1, 2, 0, 0,
+    0, 0, 0, 0, 0, 0, 0, 0, 0, 32, 7, 1, 15, 5, 0, 0, 0, 0, 0, 32, 0, 0, 0, 2, 0, 3, 0, 7, 0, 1, 0,
+    1, 0, 0, 0, 1, 0, 1, 0, 0, 0, 1, 0, 0, 0, 0, 4,
+];
+
 /// The certificate of what stands in the order of [`FOUND`].
-pub(crate) const STEPS: [u8; 44] = [
+const STEPS: [u8; 44] = [
     68, 83, 67, 84, 48, 48, 48, 49, 0, 0, 0, 4, 0, 0, 0, 2, 255, 255, 255, 255, 0, 0, 0, 0, 0, 0,
     0, 2, 0, 0, 0, 1, 0, 0, 0, 0, 0, 0, 0, 3, 0, 0, 0, 1,
 ];
 
-/// The only order of [`searched`].
+/// The only order of [`APART`].
 const FOUND: [Step; 4] = [
     Step {
         place: 2,
@@ -40,7 +63,7 @@ const FOUND: [Step; 4] = [
     Step { place: 3, link: 1 },
 ];
 
-/// The order of the file of [`made`].
+/// The order of [`RECORDING`].
 const TAKEN: [Step; 4] = [
     Step {
         place: 0,
@@ -67,70 +90,15 @@ pub fn station(alloc: Global, site: u16, application: u16) -> io::Result<Station
     }
 }
 
-/// A recording of 1:1 and 2:3 without entries.
-fn begun(alloc: Global) -> io::Result<Recording> {
-    let mut stations = Vec::new(alloc);
-    stations.push(station(alloc, 1, 1)?)?;
-    stations.push(station(alloc, 2, 3)?)?;
-    match Recording::start(alloc, 1, stations) {
+/// Room for what is written.
+pub fn room(alloc: Global) -> io::Result<Vec<u8>> {
+    Ok(Vec::with_capacity(alloc, 1024)?)
+}
+
+/// The recording of a file, to be lent.
+pub(crate) fn recording_of(alloc: Global, file: &[u8]) -> io::Result<Recording> {
+    match read_recording(alloc, file, 1000) {
         Ok(log) => Ok(log),
-        Err(_) => Err(unmade()),
-    }
-}
-
-fn add(log: &mut Recording, entry: LogEntry) -> io::Result<()> {
-    match log.push(entry) {
-        Ok(()) => Ok(()),
-        Err(_) => Err(unmade()),
-    }
-}
-
-fn add_sent(alloc: Global, log: &mut Recording, station: u16, bytes: &[u8]) -> io::Result<()> {
-    let bytes = Vec::from_slice(alloc, bytes)?;
-    let entry = LogEntry::Sent {
-        station,
-        stamp: 0,
-        bytes,
-    };
-    add(log, entry)
-}
-
-fn add_received(alloc: Global, log: &mut Recording, station: u16, bytes: &[u8]) -> io::Result<()> {
-    let bytes = Vec::from_slice(alloc, bytes)?;
-    let entry = LogEntry::Received {
-        station,
-        stamp: 0,
-        bytes,
-    };
-    add(log, entry)
-}
-
-/// The recording of a creation, in the order in which it happened.
-fn made(alloc: Global) -> io::Result<Recording> {
-    let mut log = begun(alloc)?;
-    add_sent(alloc, &mut log, 0, &CREATE)?;
-    add_received(alloc, &mut log, 1, &CREATE)?;
-    add_sent(alloc, &mut log, 1, &ABLE)?;
-    add_received(alloc, &mut log, 0, &ABLE)?;
-    Ok(log)
-}
-
-/// The same with the log of 2:3 first.
-fn searched(alloc: Global) -> io::Result<Recording> {
-    let mut log = begun(alloc)?;
-    add_received(alloc, &mut log, 1, &CREATE)?;
-    add_sent(alloc, &mut log, 1, &ABLE)?;
-    add_sent(alloc, &mut log, 0, &CREATE)?;
-    add_received(alloc, &mut log, 0, &ABLE)?;
-    Ok(log)
-}
-
-/// The file of the recording of a creation.
-pub fn recording_text(alloc: Global) -> io::Result<Vec<u8>> {
-    let log = made(alloc)?;
-    let mut text = Vec::new(alloc);
-    match write_recording(&log, &mut text) {
-        Ok(()) => Ok(text),
         Err(_) => Err(unmade()),
     }
 }
@@ -146,22 +114,11 @@ fn is_creation<L: ExerciseLog>(log: &L) -> bool {
 }
 
 /// A recording is read.
-#[derive(Drop)]
-pub(crate) struct Reading {
-    text: Vec<u8>,
-}
+pub(crate) struct Reading;
 
-impl Reading {
-    pub(crate) fn begin(alloc: Global) -> io::Result<Reading> {
-        Ok(Reading {
-            text: recording_text(alloc)?,
-        })
-    }
-}
-
-impl Call for Reading {
-    fn make(&mut self, alloc: Global) -> Said {
-        match read_recording(alloc, self.text.as_slice(), 1000) {
+impl Call<()> for Reading {
+    fn make(alloc: Global, _lent: &mut ()) -> Said {
+        match read_recording(alloc, RECORDING.as_slice(), 1000) {
             Ok(log) => usual(is_creation(&log)),
             Err(fault) => refused(fault == RecordingFault::Memory),
         }
@@ -169,22 +126,11 @@ impl Call for Reading {
 }
 
 /// A recording is seen in place.
-#[derive(Drop)]
-pub(crate) struct Seeing {
-    text: Vec<u8>,
-}
+pub(crate) struct Seeing;
 
-impl Seeing {
-    pub(crate) fn begin(alloc: Global) -> io::Result<Seeing> {
-        Ok(Seeing {
-            text: recording_text(alloc)?,
-        })
-    }
-}
-
-impl Call for Seeing {
-    fn make(&mut self, alloc: Global) -> Said {
-        match RecordingView::over(alloc, &self.text) {
+impl Call<()> for Seeing {
+    fn make(alloc: Global, _lent: &mut ()) -> Said {
+        match RecordingView::over(alloc, &RECORDING) {
             Ok(log) => usual(is_creation(&log)),
             Err(fault) => refused(fault == RecordingFault::Memory),
         }
@@ -192,46 +138,29 @@ impl Call for Seeing {
 }
 
 /// An entry more is kept.
-#[derive(Drop)]
-pub(crate) struct Pushing {
-    log: Recording,
-}
+pub(crate) struct Pushing;
 
-impl Pushing {
-    pub(crate) fn begin(alloc: Global) -> io::Result<Pushing> {
-        Ok(Pushing { log: made(alloc)? })
-    }
-}
-
-impl Call for Pushing {
-    fn make(&mut self, _alloc: Global) -> Said {
+impl Call<Recording> for Pushing {
+    fn make(_alloc: Global, log: &mut Recording) -> Said {
         let entry = LogEntry::Told {
             station: 1,
             entity: 7,
             state: EntityState::Stopped,
         };
-        match self.log.push(entry) {
-            Ok(()) => usual(self.log.entry_count() == 5),
-            Err(fault) => refused(fault == LogFault::Memory && is_creation(&self.log)),
+        match log.push(entry) {
+            Ok(()) => usual(log.entry_count() == 5),
+            Err(fault) => refused(fault == LogFault::Memory && is_creation(log)),
         }
     }
 }
 
 /// A certificate is judged.
-#[derive(Drop)]
-pub(crate) struct Checking {
-    log: Recording,
-    certificate: Certificate,
-}
+pub(crate) struct Checking;
 
-impl Checking {
-    pub(crate) fn begin(alloc: Global) -> io::Result<Checking> {
-        let steps = Vec::from_slice(alloc, &TAKEN)?;
-        Ok(Checking {
-            log: made(alloc)?,
-            certificate: Certificate { steps },
-        })
-    }
+/// The recording of a creation, and its certificate.
+pub(crate) fn to_check(alloc: Global) -> io::Result<(Recording, Certificate)> {
+    let steps = Vec::from_slice(alloc, &TAKEN)?;
+    Ok((recording_of(alloc, &RECORDING)?, Certificate { steps }))
 }
 
 /// Whether a yes holds what a creation says.
@@ -241,32 +170,22 @@ fn is_created(checked: &Checked) -> bool {
     states && entries && checked.others() == 0
 }
 
-impl Call for Checking {
-    fn make(&mut self, alloc: Global) -> Said {
-        match check(alloc, &self.log, &self.certificate) {
+impl Call<(Recording, Certificate)> for Checking {
+    fn make(alloc: Global, lent: &mut (Recording, Certificate)) -> Said {
+        let (log, certificate) = lent;
+        match check(alloc, log, certificate) {
             Ok(checked) => usual(is_created(&checked)),
-            Err(fault) => refused(fault == CheckFault::Memory && is_creation(&self.log)),
+            Err(fault) => refused(fault == CheckFault::Memory && is_creation(log)),
         }
     }
 }
 
 /// An order is searched for.
-#[derive(Drop)]
-pub(crate) struct Searching {
-    log: Recording,
-}
+pub(crate) struct Searching;
 
-impl Searching {
-    pub(crate) fn begin(alloc: Global) -> io::Result<Searching> {
-        Ok(Searching {
-            log: searched(alloc)?,
-        })
-    }
-}
-
-impl Call for Searching {
-    fn make(&mut self, alloc: Global) -> Said {
-        match audit(alloc, &self.log) {
+impl Call<Recording> for Searching {
+    fn make(alloc: Global, log: &mut Recording) -> Said {
+        match audit(alloc, log) {
             Ok(Audit::Explained(found)) => usual(found.steps.as_slice() == FOUND.as_slice()),
             Ok(Audit::Blocked(_)) => Said::Otherwise,
             Err(_) => Said::Memory,
@@ -275,14 +194,47 @@ impl Call for Searching {
 }
 
 /// A certificate is read.
-#[derive(Drop)]
 pub(crate) struct ReadingSteps;
 
-impl Call for ReadingSteps {
-    fn make(&mut self, alloc: Global) -> Said {
-        match read_certificate(alloc, STEPS.as_slice(), 4) {
-            Ok(read) => usual(read.steps.as_slice() == FOUND.as_slice()),
-            Err(fault) => refused(fault == CertificateFault::Memory),
+impl Call<()> for ReadingSteps {
+    fn make(alloc: Global, _lent: &mut ()) -> Said {
+        steps_said(read_certificate(alloc, STEPS.as_slice(), 4))
+    }
+}
+
+/// All that a reader has of a certificate is read, and then the certificate.
+pub(crate) struct FetchingSteps;
+
+impl Call<()> for FetchingSteps {
+    fn make(alloc: Global, _lent: &mut ()) -> Said {
+        steps_said(fetch_certificate(alloc, STEPS.as_slice(), 4))
+    }
+}
+
+/// What came of reading the certificate.
+fn steps_said(read: Result<Certificate, CertificateFault>) -> Said {
+    match read {
+        Ok(read) => usual(read.steps.as_slice() == FOUND.as_slice()),
+        Err(fault) => refused(fault == CertificateFault::Memory),
+    }
+}
+
+/// A recording is carried over to the second format, and written where there is room.
+pub(crate) struct Carrying;
+
+/// Whether a file is that of the recording in the second format, closed.
+fn is_carried(file: &[u8]) -> bool {
+    match file.strip_prefix(b"DSRC0002\x01\x00") {
+        Some(rest) => RECORDING.as_slice().strip_prefix(b"DSRC0001\x01") == Some(rest),
+        None => false,
+    }
+}
+
+impl Call<Vec<u8>> for Carrying {
+    fn make(alloc: Global, out: &mut Vec<u8>) -> Said {
+        match convert(alloc, RECORDING.as_slice(), 1000, out) {
+            Ok(entries) => usual(entries == 4 && is_carried(out)),
+            Err(fault) => refused(fault == ConvertFault::Memory && out.is_empty()),
         }
     }
 }

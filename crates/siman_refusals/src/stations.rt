@@ -1,75 +1,167 @@
 //! Stations that serve, issue and nudge at a line over memory.
 
-use crate::call::{Call, Said, failed, refused, usual};
+use crate::call::{Call, Said, refused, usual};
 use crate::machines::{creation, ordered};
-use crate::recordings::{ABLE, CREATE, station, unmade};
+use crate::recordings::{ABLE, CREATE, room, station, unmade};
 use dis_records::EntityState;
 use exercise_model::Station;
 use exercise_recording::RecordingWriter;
 use siman_application::Application;
 use siman_fixtures::entries_of;
-use siman_lines::{IssueFault, MemoryLine, Node, ServeFault, Served, issue, nudge, serve};
+use siman_lines::{IssueFault, MemoryLine, ServeFault, Served, issue, nudge, serve};
 use siman_manager::{Manager, OrderFault, OrderStatus};
+use siman_stations::Node;
 use std::alloc::Global;
-use std::io;
+use std::io::Write;
+use std::{io, slice};
+
+/// What a station is called for.
+#[derive(Clone, Copy)]
+pub(crate) enum Deed {
+    /// To serve its line for so many turns.
+    Serve(u32),
+    /// To issue a creation.
+    Issue,
+    /// To send the repeat that is due at a time.
+    Nudge(u64),
+}
+
+/// What came of it.
+#[derive(Drop)]
+pub(crate) enum Came {
+    /// It was done: how many datagrams were taken and answered, under which identifier the order
+    /// was issued, how many repeats were sent.
+    Done(u32),
+    /// Memory was refused to the order.
+    Unmade,
+    Memory,
+    Send,
+    Otherwise,
+}
+
+fn came_of(fault: IssueFault) -> Came {
+    match fault {
+        IssueFault::Order(OrderFault::Memory) => Came::Unmade,
+        IssueFault::Memory => Came::Memory,
+        IssueFault::Send => Came::Send,
+        _ => Came::Otherwise,
+    }
+}
+
+/// Has a station do something at its line.
+pub(crate) fn carry_out<W: Write>(
+    alloc: Global,
+    line: &mut MemoryLine,
+    node: &mut Node,
+    recorder: &mut RecordingWriter<'_, W>,
+    deed: Deed,
+) -> Came {
+    match deed {
+        Deed::Serve(turns) => match serve(alloc, line, node, recorder, 0, 0, turns) {
+            Ok(
+                Served {
+                    taken,
+                    sent,
+                    dropped: 0,
+                    idle: false,
+                },
+            ) if taken == sent => Came::Done(sent),
+            Err(ServeFault::Memory) => Came::Memory,
+            Err(ServeFault::Send) => Came::Send,
+            _ => Came::Otherwise,
+        },
+        Deed::Issue => match issue(alloc, line, node, recorder, 0, creation(), 0) {
+            Ok(id) => Came::Done(id),
+            Err(fault) => came_of(fault),
+        },
+        Deed::Nudge(now) => match nudge(alloc, line, node, recorder, 0, now) {
+            Ok(due) => Came::Done(u32::from(due)),
+            Err(fault) => came_of(fault),
+        },
+    }
+}
 
 /// A station at a line, and the text of its recording.
 #[derive(Drop)]
 pub(crate) struct RecordedStation {
-    pub(crate) stations: Vec<Station>,
+    pub(crate) station: Station,
     pub(crate) node: Node,
     pub(crate) line: MemoryLine,
     pub(crate) text: Vec<u8>,
+    /// The identifier of the next order, or the number of the next sending of the first.
+    next: u8,
 }
 
-/// Two copies of a creation.
-fn copies(alloc: Global) -> io::Result<Vec<Vec<u8>>> {
-    let mut coming = Vec::new(alloc);
-    coming.push(Vec::from_slice(alloc, &CREATE)?)?;
-    coming.push(Vec::from_slice(alloc, &CREATE)?)?;
-    Ok(coming)
-}
-
-fn stations_of(alloc: Global, site: u16, application: u16) -> io::Result<Vec<Station>> {
-    let mut stations = Vec::new(alloc);
-    stations.push(station(alloc, site, application)?)?;
-    Ok(stations)
-}
-
-/// A station without entities and datums, whose manager has made no order.
-fn node_of(alloc: Global, site: u16, application: u16) -> io::Result<Node> {
-    let station = station(alloc, site, application)?;
-    match Application::begin(alloc, 1, &station, &[], Vec::new(alloc), &[]) {
-        Ok(application) => Ok(Node {
-            application,
-            manager: Manager::begin(alloc, 1, station.address(), 1, 3, 10),
-        }),
-        Err(_) => Err(unmade()),
+/// So many creations as datagrams, under identifiers from `first` on, by steps.
+pub(crate) fn creations(
+    alloc: Global,
+    count: u32,
+    first: u32,
+    step: u32,
+) -> io::Result<Vec<Vec<u8>>> {
+    let mut creations = Vec::new(alloc);
+    let (mut id, mut bytes) = (first, CREATE);
+    for _ in 0..count {
+        let [a, b, c, d] = id.to_be_bytes();
+        bytes[24] = a;
+        bytes[25] = b;
+        bytes[26] = c;
+        bytes[27] = d;
+        creations.push(Vec::from_slice(alloc, &bytes)?)?;
+        id = id.wrapping_add(step);
     }
+    Ok(creations)
 }
 
 impl RecordedStation {
-    /// A station to whose line these come; there is room for a small recording.
+    /// A station without entities and datums to whose line these come, and whose manager has made no
+    /// order; there is room for a small recording.
     pub(crate) fn begin(
         alloc: Global,
         site: u16,
         application: u16,
         coming: Vec<Vec<u8>>,
     ) -> io::Result<RecordedStation> {
-        let text = Vec::with_capacity(alloc, 1024)?;
-        let stations = stations_of(alloc, site, application)?;
-        let node = node_of(alloc, site, application)?;
-        Ok(RecordedStation {
-            stations,
-            node,
-            line: MemoryLine::new(alloc, coming, None),
-            text,
-        })
+        let text = room(alloc)?;
+        let station = station(alloc, site, application)?;
+        match Application::begin(alloc, 1, &station, &[], Vec::new(alloc), &[]) {
+            Ok(application) => Ok(RecordedStation {
+                node: Node {
+                    application,
+                    manager: Manager::begin(alloc, 1, station.address(), 1, 3, 10),
+                },
+                station,
+                line: MemoryLine::new(alloc, coming, None),
+                text,
+                next: 1,
+            }),
+            Err(_) => Err(unmade()),
+        }
+    }
+
+    /// Has it do something, with a recording of that alone.
+    fn record(&mut self, alloc: Global, deed: Deed) -> Came {
+        self.text.clear();
+        match RecordingWriter::start(&mut self.text, 1, slice::from_ref(&self.station)) {
+            Ok(mut recorder) => {
+                carry_out(alloc, &mut self.line, &mut self.node, &mut recorder, deed)
+            }
+            Err(_) => Came::Otherwise,
+        }
     }
 
     /// Whether nothing is on the line, and so many entries are written.
     fn is_silent(&self, entries: usize) -> bool {
         self.line.sent().is_empty() && entries_of(&self.text).count() == entries
+    }
+
+    /// [`Said::Send`] where nothing is on the line, and so many entries are written.
+    fn failed(&self, entries: usize) -> Said {
+        if self.is_silent(entries) {
+            Said::Send
+        } else {
+            Said::Otherwise
+        }
     }
 
     /// Whether the last datagram on the line is this one, and its entry is written.
@@ -81,170 +173,94 @@ impl RecordedStation {
         }
     }
 
-    /// Whether the order of an identifier waits, and was sent so often.
-    fn waits(&self, id: u32, sends: u32) -> bool {
-        self.node.manager.status(id) == Some(OrderStatus::Waiting(sends))
+    /// Whether the order of an identifier waits, and was sent so often; the next one follows.
+    fn waits(&mut self, id: u8, sends: u8) -> bool {
+        self.next = self.next.saturating_add(1);
+        let status = self.node.manager.status(u32::from(id));
+        status == Some(OrderStatus::Waiting(u32::from(sends)))
     }
 }
 
 /// A station serves one datagram.
-#[derive(Drop)]
-pub(crate) struct Serving {
-    post: RecordedStation,
+pub(crate) struct Serving;
+
+/// A station to which two copies of a creation come.
+pub(crate) fn to_serve(alloc: Global) -> io::Result<RecordedStation> {
+    RecordedStation::begin(alloc, 2, 3, creations(alloc, 2, 1, 0)?)
 }
 
-impl Serving {
-    pub(crate) fn begin(alloc: Global) -> io::Result<Serving> {
-        Ok(Serving {
-            post: RecordedStation::begin(alloc, 2, 3, copies(alloc)?)?,
-        })
-    }
-
-    fn serve(&mut self, alloc: Global) -> Result<Served, ServeFault> {
-        let RecordedStation {
-            stations,
-            node,
-            line,
-            text,
-        } = &mut self.post;
-        text.clear();
-        let mut recorder = match RecordingWriter::start(text, 1, stations) {
-            Ok(recorder) => recorder,
-            Err(fault) => return Err(ServeFault::Record(fault)),
-        };
-        serve(alloc, line, node, &mut recorder, 0, 0, 1)
-    }
-}
-
-impl Call for Serving {
-    fn make(&mut self, alloc: Global) -> Said {
-        let served = self.serve(alloc);
-        let post = &self.post;
-        match served {
-            Ok(
-                Served {
-                    taken,
-                    sent,
-                    dropped,
-                    idle,
-                },
-            ) => {
-                let is_served = taken == 1 && sent == 1 && dropped == 0 && !idle;
-                let is_created = post.node.application.state(7) == EntityState::Stopped;
-                usual(is_served && is_created && post.has_sent(&ABLE))
+impl Call<RecordedStation> for Serving {
+    fn make(alloc: Global, recorded: &mut RecordedStation) -> Said {
+        match recorded.record(alloc, Deed::Serve(1)) {
+            Came::Done(sent) => {
+                let is_created = recorded.node.application.state(7) == EntityState::Stopped;
+                usual(sent == 1 && is_created && recorded.has_sent(&ABLE))
             }
-            Err(ServeFault::Memory) => refused(post.is_silent(0) || post.is_silent(1)),
-            Err(ServeFault::Send) => failed(post.is_silent(2)),
-            Err(_) => Said::Otherwise,
+            Came::Memory => refused(recorded.is_silent(0) || recorded.is_silent(1)),
+            Came::Send => recorded.failed(2),
+            _ => Said::Otherwise,
         }
     }
 }
 
 /// A station issues an order.
-#[derive(Drop)]
-pub(crate) struct Issuing {
-    post: RecordedStation,
-    /// The identifier of the next order.
-    next: u8,
+pub(crate) struct Issuing;
+
+/// A station to which nothing comes.
+pub(crate) fn to_issue(alloc: Global) -> io::Result<RecordedStation> {
+    RecordedStation::begin(alloc, 1, 1, Vec::new(alloc))
 }
 
-impl Issuing {
-    pub(crate) fn begin(alloc: Global) -> io::Result<Issuing> {
-        Ok(Issuing {
-            post: RecordedStation::begin(alloc, 1, 1, Vec::new(alloc))?,
-            next: 1,
-        })
-    }
-
-    fn issue(&mut self, alloc: Global) -> Result<u32, IssueFault> {
-        let RecordedStation {
-            stations,
-            node,
-            line,
-            text,
-        } = &mut self.post;
-        text.clear();
-        let mut recorder = match RecordingWriter::start(text, 1, stations) {
-            Ok(recorder) => recorder,
-            Err(fault) => return Err(IssueFault::Record(fault)),
-        };
-        issue(alloc, line, node, &mut recorder, 0, creation(), 0)
-    }
-
-    /// Whether the next order is made and waits; the one after it is the next then.
-    fn is_made(&mut self) -> bool {
-        let id = self.next;
-        self.next = id.saturating_add(1);
-        self.post.waits(u32::from(id), 1)
-    }
-}
-
-impl Call for Issuing {
-    fn make(&mut self, alloc: Global) -> Said {
-        let next = self.next;
+impl Call<RecordedStation> for Issuing {
+    fn make(alloc: Global, recorded: &mut RecordedStation) -> Said {
+        let next = recorded.next;
         let mut created = CREATE;
         created[27] = next;
-        match self.issue(alloc) {
-            Ok(id) => {
-                usual(id == u32::from(next) && self.is_made() && self.post.has_sent(&created))
+        match recorded.record(alloc, Deed::Issue) {
+            Came::Done(id) => {
+                usual(
+                    id == u32::from(next) && recorded.waits(next, 1) && recorded.has_sent(&created),
+                )
             }
-            Err(IssueFault::Order(OrderFault::Memory)) => {
-                let status = self.post.node.manager.status(u32::from(next));
-                refused(status.is_none() && self.post.is_silent(0))
+            Came::Unmade => {
+                let status = recorded.node.manager.status(u32::from(next));
+                refused(status.is_none() && recorded.is_silent(0))
             }
-            Err(IssueFault::Memory) => refused(self.is_made() && self.post.is_silent(0)),
-            Err(IssueFault::Send) => failed(self.is_made() && self.post.is_silent(1)),
-            Err(_) => Said::Otherwise,
+            Came::Memory => refused(recorded.waits(next, 1) && recorded.is_silent(0)),
+            Came::Send if recorded.waits(next, 1) => recorded.failed(1),
+            _ => Said::Otherwise,
         }
     }
 }
 
 /// A station nudges an order that is due.
-#[derive(Drop)]
-pub(crate) struct Nudging {
-    post: RecordedStation,
-    /// How often the order was sent so far.
-    sends: u8,
-}
+pub(crate) struct Nudging;
 
-impl Nudging {
-    pub(crate) fn begin(alloc: Global) -> io::Result<Nudging> {
-        let mut post = RecordedStation::begin(alloc, 1, 1, Vec::new(alloc))?;
-        match ordered(&mut post.node.manager) {
-            Ok(_) => Ok(Nudging { post, sends: 1 }),
-            Err(_) => Err(unmade()),
-        }
-    }
-
-    fn nudge(&mut self, alloc: Global, now: u64) -> Result<bool, IssueFault> {
-        let RecordedStation {
-            stations,
-            node,
-            line,
-            text,
-        } = &mut self.post;
-        text.clear();
-        let mut recorder = match RecordingWriter::start(text, 1, stations) {
-            Ok(recorder) => recorder,
-            Err(fault) => return Err(IssueFault::Record(fault)),
-        };
-        nudge(alloc, line, node, &mut recorder, 0, now)
+/// A station that has sent an order once.
+pub(crate) fn to_nudge(alloc: Global) -> io::Result<RecordedStation> {
+    let mut recorded = to_issue(alloc)?;
+    recorded.next = 2;
+    match ordered(&mut recorded.node.manager) {
+        Ok(_) => Ok(recorded),
+        Err(_) => Err(unmade()),
     }
 }
 
-impl Call for Nudging {
-    fn make(&mut self, alloc: Global) -> Said {
-        let now = self.sends.saturating_mul(10);
+impl Call<RecordedStation> for Nudging {
+    fn make(alloc: Global, recorded: &mut RecordedStation) -> Said {
+        let next = recorded.next;
+        let now = next.saturating_sub(1).saturating_mul(10);
         let mut repeated = CREATE;
         repeated[7] = now.saturating_mul(2);
-        self.sends = self.sends.saturating_add(1);
-        let nudged = self.nudge(alloc, u64::from(now));
-        let (post, waits) = (&self.post, self.post.waits(1, u32::from(self.sends)));
-        match nudged {
-            Ok(due) => usual(due && waits && post.has_sent(&repeated)),
-            Err(IssueFault::Memory) => refused(waits && post.is_silent(0)),
-            Err(IssueFault::Send) => failed(waits && post.is_silent(1)),
-            Err(_) => Said::Otherwise,
+        let came = recorded.record(alloc, Deed::Nudge(u64::from(now)));
+        if !recorded.waits(1, next) {
+            return Said::Otherwise;
+        }
+        match came {
+            Came::Done(sent) => usual(sent == 1 && recorded.has_sent(&repeated)),
+            Came::Memory => refused(recorded.is_silent(0)),
+            Came::Send => recorded.failed(1),
+            _ => Said::Otherwise,
         }
     }
 }

@@ -6,7 +6,7 @@ mod logs;
 use dis_records::{Address, VariableDatum};
 use exercise_model::Station;
 use siman_application::Application;
-use siman_pdus::{Pdu, decode, encode};
+use siman_pdus::{decode, encode};
 use std::alloc::Global;
 
 /// Data Query 1 from 1:1:0 to 2:3:0 for the variable datums 5 and 6.
@@ -57,12 +57,6 @@ fn begin(alloc: Global) -> Option<Application> {
     Application::begin(alloc, 1, &station, &[], variable, &[]).ok()
 }
 
-/// Whether a PDU is written as this datagram.
-fn is_written(alloc: Global, pdu: &Pdu, datagram: &[u8]) -> bool {
-    let mut out = Vec::new(alloc);
-    encode(pdu, &mut out).is_ok() && out.as_slice() == datagram
-}
-
 /// Whether a datagram, taken with a timestamp, is answered by this one.
 fn is_answered(
     alloc: Global,
@@ -74,8 +68,9 @@ fn is_answered(
     let Ok(pdu) = decode(alloc, datagram) else {
         return false;
     };
+    let mut out = Vec::new(alloc);
     match application.take(&pdu, stamp) {
-        Ok(Some(answer)) => is_written(alloc, answer, wanted),
+        Ok(Some(answer)) => encode(answer, &mut out).is_ok() && out.as_slice() == wanted,
         _ => false,
     }
 }
@@ -87,7 +82,11 @@ fn bits(application: &Application, id: u32) -> Option<u32> {
 
 /// Whether an application that holds the variable datum 5 answers a query for 5 and 6, sets 5, and
 /// answers a copy of the query as it did at first, with the timestamp of then.
-fn answers_copies(alloc: Global, application: &mut Application) -> bool {
+fn answers_copies(alloc: Global) -> bool {
+    let Some(mut application) = begin(alloc) else {
+        return false;
+    };
+    let application = &mut application;
     let asked = is_answered(alloc, application, &VARIABLE_QUERY, 0, &VARIABLE_DATA);
     let set = is_answered(alloc, application, &VARIABLE_SETTING, 0, &VARIABLE_SET);
     let held = (bits(application, 5), bits(application, 6)) == (Some(8), None);
@@ -95,15 +94,7 @@ fn answers_copies(alloc: Global, application: &mut Application) -> bool {
     asked && set && held && again
 }
 
-/// The same of an application that begins.
-fn begins_to_answer(alloc: Global) -> bool {
-    match begin(alloc) {
-        Some(mut application) => answers_copies(alloc, &mut application),
-        None => false,
-    }
-}
-
 #[test]
 fn a_query_that_comes_again_gets_its_first_answer(rt: HostRuntime) {
-    assert!(rt; begins_to_answer(rt.alloc()));
+    assert!(rt; answers_copies(rt.alloc()));
 }

@@ -11,12 +11,14 @@ use std::alloc::Global;
 
 /// Whether a line has this text and this JSON, each without its line end.
 fn is_told(alloc: Global, line: &Line<'_>, text: &str, json: &str) -> bool {
-    is_spelled(alloc, Spelling::Text, line, text) && is_spelled(alloc, Spelling::Json, line, json)
-}
-
-fn is_spelled(alloc: Global, spelling: Spelling, line: &Line<'_>, wanted: &str) -> bool {
-    let mut spelled = String::new(alloc);
-    put_line(&mut spelled, spelling, line).is_ok() && spelled.strip_suffix("\n") == Some(wanted)
+    for (spelling, wanted) in [(Spelling::Text, text), (Spelling::Json, json)] {
+        let mut spelled = String::new(alloc);
+        let is_put = put_line(&mut spelled, spelling, line).is_ok();
+        if !is_put || spelled.strip_suffix("\n") != Some(wanted) {
+            return false;
+        }
+    }
+    true
 }
 
 /// Whether a line that begins with its name is told so.
@@ -44,32 +46,22 @@ fn lines_have_two_spellings(rt: HostRuntime) {
     assert!(rt; is_entry_told(alloc));
 }
 
-/// Whether the line of an order is told, from one station to another.
-fn is_order_told(alloc: Global, maker: Address, party: Address) -> bool {
-    let mut fields = ORDER;
-    fields[1] = Field::Keyed("from", Value::Address(maker));
-    fields[5] = Field::Keyed("at", Value::Address(party));
-    is_told(
-        alloc,
-        &Line::named("order", &fields),
-        ORDER_TEXT,
-        ORDER_JSON,
-    )
-}
-
 /// Whether a ring of stations is told.
 fn is_ring_told(alloc: Global, ring: &[Address], text: &str, json: &str) -> bool {
     let fields = [Field::Bare("ring", Value::Ring(ring))];
     is_named(alloc, "cycle", &fields, text, json)
 }
 
-/// Whether lines with addresses are told.
+/// Whether lines with addresses are told: an order from one station to another, and rings.
 fn are_addresses_told(alloc: Global) -> Option<bool> {
     let (first, second) = (Address::new(1, 1)?, Address::new(2, 4)?);
+    let mut order = ORDER;
+    order[1] = Field::Keyed("from", Value::Address(first));
+    order[5] = Field::Keyed("at", Value::Address(second));
     let one = r#"{"line":"cycle","ring":["2:4"]}"#;
     let two = r#"{"line":"cycle","ring":["1:1","2:4"]}"#;
     Some(
-        is_order_told(alloc, first, second)
+        is_named(alloc, "order", &order, ORDER_TEXT, ORDER_JSON)
             && is_ring_told(alloc, &[second], "cycle 2:4", one)
             && is_ring_told(alloc, &[first, second], "cycle 1:1 2:4", two),
     )

@@ -54,23 +54,17 @@ fn acknowledge(exercise: u8, response: u16, request: u32) -> Pdu {
 /// An exercise, a response and a request identifier, and what an Acknowledge of them means.
 type Row = (u8, u16, u32, Taken);
 
-/// Whether a manager takes what comes so.
-fn is_taking(manager: &mut Manager, rows: &[Row]) -> bool {
-    for (exercise, response, request, taken) in rows {
-        if manager.take(&acknowledge(*exercise, *response, *request)) != *taken {
-            return false;
-        }
-    }
-    true
-}
-
-/// The same of a manager of exercise 3 that ordered a creation under 1.
+/// Whether a manager of exercise 3 that ordered a creation under 1 takes what comes so.
 fn takes(alloc: Global, rows: &[Row]) -> bool {
     let Some(address) = Address::new(2, 5) else {
         return false;
     };
     let mut manager = Manager::begin(alloc, 3, address, 1, 2, 10);
-    manager.request(creation(), 0, 70).is_ok() && is_taking(&mut manager, rows)
+    let mut good = manager.request(creation(), 0, 70).is_ok();
+    for (exercise, response, request, taken) in rows {
+        good = manager.take(&acknowledge(*exercise, *response, *request)) == *taken && good;
+    }
+    good
 }
 
 #[test]

@@ -1,29 +1,24 @@
 //! Texts of any bytes, read as scripts.
 
 use siman_scripts::{ScriptFault, read_script};
-use std::alloc::{AllocError, Global};
+use std::alloc::Global;
 
-/// A text of up to 63 bytes, by a number: most of them of what scripts are made of.
-fn random_text(alloc: Global, seed: u64) -> Result<Vec<u8>, AllocError> {
+/// Whether a text of up to 63 bytes is answered, made by a number: most of them of what scripts are
+/// made of.
+fn is_answered(alloc: Global, seed: u64) -> bool {
     let pieces = b"exercise 1\nstation 2:3\ntick at 0#\r\xE9 deliver";
-    let mut text = Vec::new(alloc);
-    let mut number = seed;
-    for _ in 0..seed % 64 {
+    let (mut text, mut number) = ([0; 64], seed);
+    let length = seed as usize % 64;
+    for place in 0..length {
         number = number
             .wrapping_mul(6_364_136_223_846_793_005)
             .wrapping_add(1_442_695_040_888_963_407);
-        let place = (number >> 33) as usize % pieces.len();
-        text.push(pieces[place])?;
+        text[place] = pieces[(number >> 33) as usize % pieces.len()];
     }
-    Ok(text)
-}
-
-/// Whether the random text of a number is answered.
-fn is_answered(alloc: Global, seed: u64) -> bool {
-    match random_text(alloc, seed) {
-        Ok(text) => !matches!(read_script(alloc, &text), Err(ScriptFault::Memory)),
-        Err(_) => false,
-    }
+    !matches!(
+        read_script(alloc, &text[..length]),
+        Err(ScriptFault::Memory)
+    )
 }
 
 #[test]

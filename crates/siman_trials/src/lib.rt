@@ -6,5 +6,5 @@ mod station_call;
 mod station_trial;
 mod wire;
 
-pub use station_trial::{compare, try_post};
+pub use station_trial::{compare, try_at_line};
 pub use wire::{WireLine, lines_of};

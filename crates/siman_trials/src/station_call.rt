@@ -1,13 +1,15 @@
 //! A call of a station at its line, and what is told of its answer.
 
-use dis_records::EntityState;
 use exercise_recording::RecordingWriter;
 use siman_fixtures::Call;
-use siman_lines::{IssueFault, MemoryLine, Node, ServeFault, Served, issue, nudge, serve};
+use siman_lines::{IssueFault, MemoryLine, ServeFault, Served, issue, nudge, serve};
 use siman_manager::OrderStatus;
 use siman_scripts::{Act, Move};
+use siman_stations::Node;
 use std::alloc::{AllocError, Global};
+use std::fmt::Display;
 use std::io::Write;
+use std::vec::IntoIter;
 
 fn tell_served(told: &mut String, served: Result<Served, ServeFault>) -> Result<(), AllocError> {
     match served {
@@ -26,60 +28,59 @@ fn tell_served(told: &mut String, served: Result<Served, ServeFault>) -> Result<
     }
 }
 
-fn tell_issued(told: &mut String, issued: Result<u32, IssueFault>) -> Result<(), AllocError> {
-    match issued {
-        Ok(id) => writeln!(told, "issue: {id}"),
-        Err(fault) => writeln!(told, "issue: {fault}"),
-    }
-}
-
-fn tell_nudged(told: &mut String, nudged: Result<bool, IssueFault>) -> Result<(), AllocError> {
-    match nudged {
-        Ok(due) => writeln!(told, "nudge: {due}"),
-        Err(fault) => writeln!(told, "nudge: {fault}"),
+/// Tells what `issue` or `nudge` answers.
+fn tell<T: Display + Drop>(
+    told: &mut String,
+    name: &str,
+    answer: Result<T, IssueFault>,
+) -> Result<(), AllocError> {
+    match answer {
+        Ok(answer) => writeln!(told, "{name}: {answer}"),
+        Err(fault) => writeln!(told, "{name}: {fault}"),
     }
 }
 
 fn tell_order(told: &mut String, status: Option<OrderStatus>) -> Result<(), AllocError> {
     match status {
-        None => writeln!(told, "order: none"),
+        None => told.push_str("order: none\n"),
         Some(OrderStatus::Waiting(sends)) => writeln!(told, "order: waiting, sent {sends}"),
-        Some(OrderStatus::Answered) => writeln!(told, "order: answered"),
-        Some(OrderStatus::GivenUp) => writeln!(told, "order: given up"),
+        Some(OrderStatus::Answered) => told.push_str("order: answered\n"),
+        Some(OrderStatus::GivenUp) => told.push_str("order: given up\n"),
     }
 }
 
 fn tell_datum(told: &mut String, value: Option<u32>) -> Result<(), AllocError> {
     match value {
-        None => writeln!(told, "datum: none"),
+        None => told.push_str("datum: none\n"),
         Some(value) => writeln!(told, "datum: {value}"),
     }
 }
 
-/// Issues the order of a move.
-fn issue_move<W: Write>(
+/// Issues the order of the next move.
+fn issue_next<W: Write>(
     alloc: Global,
     station: u16,
     line: &mut MemoryLine,
     node: &mut Node,
     recorder: &mut RecordingWriter<'_, W>,
-    step: Option<Move>,
+    moves: &mut IntoIter<Move, Global>,
     now: u64,
     told: &mut String,
 ) -> Result<(), AllocError> {
-    let Some(Move { act, .. }) = step else {
-        return writeln!(told, "issue: no move is left");
+    let Some(Move { act, .. }) = moves.next() else {
+        return told.push_str("issue: no move is left\n");
     };
     match act {
-        Act::Command(order) if order.body.is_request() => tell_issued(
+        Act::Command(order) if order.body.is_request() => tell(
             told,
+            "issue",
             issue(alloc, line, node, recorder, station, order, now),
         ),
-        _ => writeln!(told, "issue: the move is no order"),
+        _ => told.push_str("issue: the move is no order\n"),
     }
 }
 
-/// Makes a call, and tells what it answers.
+/// Makes a call, and tells what it answers; orders are issued as the moves come.
 pub fn make_call<W: Write>(
     alloc: Global,
     call: Call,
@@ -87,7 +88,7 @@ pub fn make_call<W: Write>(
     line: &mut MemoryLine,
     node: &mut Node,
     recorder: &mut RecordingWriter<'_, W>,
-    step: Option<Move>,
+    moves: &mut IntoIter<Move, Global>,
     told: &mut String,
 ) -> Result<(), AllocError> {
     match call {
@@ -95,8 +96,12 @@ pub fn make_call<W: Write>(
             told,
             serve(alloc, line, node, recorder, station, now, turns),
         ),
-        Call::Issue(now) => issue_move(alloc, station, line, node, recorder, step, now, told),
-        Call::Nudge(now) => { tell_nudged(told, nudge(alloc, line, node, recorder, station, now)) }
+        Call::Issue(now) => issue_next(alloc, station, line, node, recorder, moves, now, told),
+        Call::Nudge(now) => tell(
+            told,
+            "nudge",
+            nudge(alloc, line, node, recorder, station, now),
+        ),
         Call::Order(id) => tell_order(told, node.manager.status(id)),
         Call::Entity(number) => { writeln!(told, "entity: {}", node.application.state(number)) }
         Call::Datum(id) => tell_datum(told, node.application.datum(id)),

@@ -1,23 +1,16 @@
 //! Runs the calls of a station at its line, and tells what it left.
 
 use crate::station_call::make_call;
-use exercise_model::Recording;
 use exercise_recording::RecordingWriter;
-use siman_fixtures::{Call, Calls, Case, Entries, WELL, Written, entries_of, found, write_to};
-use siman_lines::{MemoryLine, Node};
+use siman_fixtures::{Calls, Case, Entries, WELL, Written, entries_of, found, write_to};
+use siman_lines::MemoryLine;
 use siman_scripts::{Move, Script, read_script};
+use siman_stations::Node;
 use siman_worlds::{Beginning, begin_world};
 use std::alloc::{AllocError, Global};
 use std::io;
 use std::io::{ErrorKind, Write};
-
-/// The stations of a script as they are begun, and its moves.
-#[derive(Drop)]
-struct Begun {
-    recording: Recording,
-    nodes: Vec<Node>,
-    moves: Vec<Move>,
-}
+use std::vec::IntoIter;
 
 /// What the calls of a station left.
 #[derive(Drop)]
@@ -28,25 +21,13 @@ pub struct Left {
     pub told: String,
 }
 
-/// Begins the stations of the file `script`.
-fn begin(alloc: Global, case: &Case) -> io::Result<Begun> {
+/// What the file `script` says.
+fn script_of(alloc: Global, case: &Case) -> io::Result<Script> {
     let Some(file) = found(&case.files, "script") else {
         return Err(io::Error::from(ErrorKind::NotFound));
     };
-    let Ok(script) = read_script(alloc, &file.bytes) else {
-        return Err(io::Error::from(ErrorKind::InvalidData));
-    };
-    let Script {
-        exercise,
-        stations,
-        moves,
-    } = script;
-    match begin_world(alloc, exercise, stations) {
-        Ok(Beginning { recording, nodes }) => Ok(Begun {
-            recording,
-            nodes,
-            moves,
-        }),
+    match read_script(alloc, &file.bytes) {
+        Ok(script) => Ok(script),
         Err(_) => Err(io::Error::from(ErrorKind::InvalidData)),
     }
 }
@@ -72,64 +53,55 @@ fn make_calls<W: Write>(
     line: &mut MemoryLine,
     node: &mut Node,
     recorder: &mut RecordingWriter<'_, W>,
-    moves: Vec<Move>,
+    moves: &mut IntoIter<Move, Global>,
     told: &mut String,
 ) -> io::Result<()> {
-    let mut moves = moves.into_iter();
-    for call in &case.post.calls {
-        let step = match call {
-            Call::Issue(_) => moves.next(),
-            _ => None,
-        };
-        make_call(alloc, *call, station, line, node, recorder, step, told)?;
+    for call in &case.at_line.calls {
+        make_call(alloc, *call, station, line, node, recorder, moves, told)?;
     }
     Ok(())
 }
 
-/// Records the calls of a case at a station with these halves.
+/// Records the calls of a case at its station of these.
 fn record_calls(
     alloc: Global,
     case: &Case,
     station: u16,
-    head: &Recording,
-    node: &mut Node,
-    moves: Vec<Move>,
+    begun: &mut Beginning,
+    moves: &mut IntoIter<Move, Global>,
     left: &mut Left,
 ) -> io::Result<()> {
-    let setting = head.setting();
+    let setting = begun.recording.setting();
+    let Some(node) = begun.nodes.get_mut(usize::from(station)) else {
+        return Err(io::Error::from(ErrorKind::NotFound));
+    };
     let Left { line, file, told } = left;
     match RecordingWriter::start(file, setting.exercise(), setting.stations()) {
         Ok(mut recorder) => {
             make_calls(alloc, case, station, line, node, &mut recorder, moves, told)
         }
-        Err(fault) => {
-            writeln!(told, "start: {fault}")?;
-            Ok(())
-        }
+        Err(fault) => Ok(writeln!(told, "start: {fault}")?),
     }
 }
 
-/// Records the calls of a case at its station of these.
-fn record_begun(
-    alloc: Global,
-    case: &Case,
-    station: u16,
-    begun: Begun,
-    left: &mut Left,
-) -> io::Result<()> {
-    let Begun {
-        recording,
-        mut nodes,
+/// Records the calls of a case at its station of its script.
+fn record(alloc: Global, case: &Case, station: u16, left: &mut Left) -> io::Result<()> {
+    let Script {
+        exercise,
+        stations,
         moves,
-    } = begun;
-    match nodes.get_mut(usize::from(station)) {
-        Some(node) => record_calls(alloc, case, station, &recording, node, moves, left),
-        None => Err(io::Error::from(ErrorKind::NotFound)),
+    } = script_of(alloc, case)?;
+    match begin_world(alloc, exercise, stations) {
+        Ok(mut begun) => {
+            let moves = &mut moves.into_iter();
+            record_calls(alloc, case, station, &mut begun, moves, left)
+        }
+        Err(_) => Err(io::Error::from(ErrorKind::InvalidData)),
     }
 }
 
 /// What the calls of a case leave, where this call of the line fails, and what is written goes so.
-fn run_post(
+fn run_at_line(
     alloc: Global,
     case: &Case,
     station: u16,
@@ -137,12 +109,11 @@ fn run_post(
     calls: Calls,
 ) -> io::Result<Left> {
     let mut left = Left {
-        line: line_with(alloc, &case.post.coming, fails_at)?,
+        line: line_with(alloc, &case.at_line.coming, fails_at)?,
         file: write_to(alloc, calls),
         told: String::new(alloc),
     };
-    let begun = begin(alloc, case)?;
-    record_begun(alloc, case, station, begun, &mut left)?;
+    record(alloc, case, station, &mut left)?;
     Ok(left)
 }
 
@@ -157,30 +128,32 @@ fn sent_text(alloc: Global, sent: &[Vec<u8>]) -> Result<String, AllocError> {
     Ok(text)
 }
 
-/// Tells how many datagrams are on a line and how many entries are written whole, and whether each
-/// datagram is that of a sent entry of its own among these.
-fn tell_recorded(
+/// Tells what was answered, how many datagrams are on a line and how many entries are written whole,
+/// and whether each datagram is that of a sent entry of its own among these.
+fn tell_left(
     told: &mut String,
+    answers: &str,
     station: u16,
     sent: &[Vec<u8>],
     written: Entries<'_>,
 ) -> Result<(), AllocError> {
+    told.push_str(answers)?;
     let (count, whole) = (sent.len(), written.count());
-    if written.have_all(station, sent) {
-        writeln!(told, "sent {count}, all recorded, entries {whole}")
+    let are_all = if written.have_all(station, sent) {
+        "all"
     } else {
-        writeln!(told, "sent {count}, not all recorded, entries {whole}")
-    }
+        "not all"
+    };
+    writeln!(told, "sent {count}, {are_all} recorded, entries {whole}")
 }
 
 /// Lets each call of the line fail in turn, and tells what that leaves.
 fn fail_each_call(alloc: Global, case: &Case, station: u16, told: &mut String) -> io::Result<()> {
-    for number in 1..=case.post.each_call {
-        let left = run_post(alloc, case, station, Some(number), WELL)?;
+    for number in 1..=case.at_line.each_call {
         writeln!(told, "call {number} fails")?;
-        told.push_str(&left.told)?;
+        let left = run_at_line(alloc, case, station, Some(number), WELL)?;
         let written = entries_of(&left.file.bytes);
-        tell_recorded(told, station, left.line.sent(), written)?;
+        tell_left(told, &left.told, station, left.line.sent(), written)?;
     }
     Ok(())
 }
@@ -193,7 +166,7 @@ fn stands_before(alloc: Global, case: &Case, station: u16, byte: usize) -> io::R
         fails_at: (byte as u64).saturating_add(1),
         kind: Some(ErrorKind::Other),
     };
-    let left = run_post(alloc, case, station, None, calls)?;
+    let left = run_at_line(alloc, case, station, None, calls)?;
     let written = &left.file.bytes;
     let sent = left.line.sent();
     Ok(
@@ -204,7 +177,7 @@ fn stands_before(alloc: Global, case: &Case, station: u16, byte: usize) -> io::R
 
 /// Lets each byte that is written fail in turn, and tells how often all stands as it must.
 fn fail_each_byte(alloc: Global, case: &Case, station: u16, told: &mut String) -> io::Result<()> {
-    if !case.post.each_byte {
+    if !case.at_line.each_byte {
         return Ok(());
     }
     let (mut stands, bytes) = (0usize, case.left.bytes.len());
@@ -233,25 +206,41 @@ pub fn compare<W: Write>(
     Ok(false)
 }
 
+/// Tells what was left, and what is left where calls of the line or bytes fail.
+fn tell_all(alloc: Global, case: &Case, station: u16, left: &mut Left) -> io::Result<()> {
+    let Left { line, file, told } = left;
+    tell_left(told, "", station, line.sent(), entries_of(&file.bytes))?;
+    fail_each_call(alloc, case, station, told)?;
+    fail_each_byte(alloc, case, station, told)
+}
+
+/// Prints what was left otherwise; whether nothing is.
+fn compare_left<W: Write>(
+    alloc: Global,
+    case: &Case,
+    left: &Left,
+    out: &mut W,
+) -> io::Result<bool> {
+    let name = &case.name;
+    let is_told = compare(name, "out", left.told.as_bytes(), &case.out.bytes, out)?;
+    let sent = sent_text(alloc, left.line.sent())?;
+    let is_sent = compare(name, "sent", sent.as_bytes(), &case.at_line.sent, out)?;
+    let is_left = if case.is_left {
+        compare(name, "left", &left.file.bytes, &case.left.bytes, out)?
+    } else {
+        true
+    };
+    Ok(is_told && is_sent && is_left)
+}
+
 /// Runs a case of a station at its line, and prints what is otherwise; whether nothing is.
-pub fn try_post<W: Write>(
+pub fn try_at_line<W: Write>(
     alloc: Global,
     case: &Case,
     station: u16,
     out: &mut W,
 ) -> io::Result<bool> {
-    let (name, fails_at) = (&case.name, case.post.fails_at);
-    let mut left = run_post(alloc, case, station, fails_at, case.left.calls)?;
-    let written = entries_of(&left.file.bytes);
-    tell_recorded(&mut left.told, station, left.line.sent(), written)?;
-    fail_each_call(alloc, case, station, &mut left.told)?;
-    fail_each_byte(alloc, case, station, &mut left.told)?;
-    let sent = sent_text(alloc, left.line.sent())?;
-    let is_told = compare(name, "out", left.told.as_bytes(), &case.out.bytes, out)?;
-    let is_sent = compare(name, "sent", sent.as_bytes(), &case.post.sent, out)?;
-    if !case.is_left {
-        return Ok(is_told && is_sent);
-    }
-    let is_left = compare(name, "left", &left.file.bytes, &case.left.bytes, out)?;
-    Ok(is_told && is_sent && is_left)
+    let mut left = run_at_line(alloc, case, station, case.at_line.fails_at, case.left.calls)?;
+    tell_all(alloc, case, station, &mut left)?;
+    compare_left(alloc, case, &left, out)
 }

@@ -3,7 +3,7 @@
 use crate::inputs::Answer;
 use crate::ran::{Files, Ran, run_words};
 use siman_fixtures::Random;
-use std::alloc::Global;
+use std::alloc::{AllocError, Global};
 use std::io;
 
 /// The words of which a command line is made.
@@ -71,17 +71,6 @@ const FILES: Files<'static> = &[
     ("script", SCRIPT),
 ];
 
-/// Words that are made up.
-fn made(alloc: Global, random: &mut Random) -> io::Result<Vec<&'static str>> {
-    let mut words = Vec::new(alloc);
-    for _ in 0..random.below(5) {
-        if let Some(word) = WORDS.get(random.below(WORDS.len())) {
-            words.push(*word)?;
-        }
-    }
-    Ok(words)
-}
-
 /// Whether an end is one that the pages name: an answer with something out and no fault told, or a
 /// fault that is told. Only `pdus` puts out and tells, or answers nothing to no lines.
 fn is_named(ended: &Ran, words: &[&str]) -> bool {
@@ -93,27 +82,31 @@ fn is_named(ended: &Ran, words: &[&str]) -> bool {
     }
 }
 
-/// The words of a command line, a line each.
-fn lines(alloc: Global, words: &[&str]) -> io::Result<Vec<u8>> {
-    let mut lines = Vec::new(alloc);
+/// Puts the words of a command line, a line each.
+fn put_lines(lines: &mut Vec<u8>, words: &[&str]) -> Result<(), AllocError> {
     for word in words {
         lines.extend_from_slice(word.as_bytes())?;
         lines.push(b'\n')?;
     }
-    Ok(lines)
+    Ok(())
 }
 
 /// Tries a command line: it ends with a status that the pages name.
-pub(crate) fn try_command_line(alloc: Global, random: &mut Random) -> io::Result<Answer> {
-    let words = made(alloc, random)?;
-    let input: &[u8] = match INPUTS.get(random.below(INPUTS.len())) {
-        Some(input) => *input,
-        None => b"",
-    };
-    let ended = run_words(alloc, &words, FILES, input);
+pub(crate) fn try_command_line(
+    alloc: Global,
+    random: &mut Random,
+    given: &mut Vec<u8>,
+) -> io::Result<Answer> {
+    let (mut words, count) = ([""; 4], random.below(5).min(4));
+    for place in 0..count {
+        words[place] = WORDS[random.below(42) % 42];
+    }
+    let words = &words[..count];
+    put_lines(given, words)?;
+    let input = INPUTS[random.below(5) % 5];
+    let ended = run_words(alloc, words, FILES, input);
     Ok(Answer {
         status: ended.status,
-        good: is_named(&ended, &words),
-        given: lines(alloc, &words)?,
+        good: is_named(&ended, words),
     })
 }

@@ -3,37 +3,30 @@
 use crate::inputs::Answer;
 use crate::inputs::spoiling::spoil_bytes;
 use crate::ran::{Ran, run_words};
-use exercise_model::{EntryView, ExerciseLog, Form, Recording, Station};
-use exercise_recording::{RecordingFault, RecordingView, read_recording, write_recording};
+use exercise_model::{EntryView, ExerciseLog, Form, Station};
+use exercise_recording::{RecordingView, read_recording, write_recording};
 use siman_agreement::recording;
 use siman_fixtures::Random;
 use std::alloc::Global;
 use std::io;
 use std::io::ErrorKind;
 
-/// A form: every second one is the first.
-fn form_of(random: &mut Random) -> Form {
-    match random.below(4) {
-        0 => Form::Closed,
-        1 => Form::Open,
-        _ => Form::First,
-    }
-}
+/// The forms by the throw of a die: every second one is the first.
+const FORMS: [Form; 4] = [Form::Closed, Form::Open, Form::First, Form::First];
 
-/// The file of a recording that is made up.
-fn made(alloc: Global, random: &mut Random) -> io::Result<Vec<u8>> {
-    let mut bytes = Vec::new(alloc);
-    let form = form_of(random);
+/// Puts the file of a recording that is made up and spoilt.
+fn put_recording(alloc: Global, random: &mut Random, bytes: &mut Vec<u8>) -> io::Result<()> {
+    let form = FORMS[random.below(4) % 4];
     let written = match recording(alloc, form, *random) {
-        Ok(log) => write_recording(&log, &mut bytes).is_ok(),
+        Ok(log) => write_recording(&log, bytes).is_ok(),
         Err(_) => false,
     };
-    let _next = random.below(2);
-    if written {
-        Ok(bytes)
-    } else {
-        Err(io::Error::from(ErrorKind::Other))
+    if !written {
+        return Err(io::Error::from(ErrorKind::Other));
     }
+    let _next = random.below(2);
+    let ways = random.below(3);
+    Ok(spoil_bytes(random, bytes, ways)?)
 }
 
 /// Whether two stations have the same address and the same entities.
@@ -58,27 +51,13 @@ fn are_alike<L: ExerciseLog, M: ExerciseLog>(one: &L, other: &M) -> bool {
     counts && heads && one.entry_count() == other.entry_count()
 }
 
-/// Whether a file is seen in place as this recording.
-fn is_seen(alloc: Global, bytes: &[u8], read: &Recording) -> bool {
-    match RecordingView::over(alloc, bytes) {
-        Ok(seen) => are_alike(read, &seen),
-        Err(_) => false,
-    }
-}
-
-/// Whether a file is refused in place for this fault.
-fn is_refused(alloc: Global, bytes: &[u8], fault: RecordingFault) -> bool {
-    match RecordingView::over(alloc, bytes) {
-        Ok(_) => false,
-        Err(seen) => fault == seen,
-    }
-}
-
 /// Whether both ways to read a file agree, and whether it is a recording.
 fn wanted(alloc: Global, bytes: &[u8]) -> (bool, bool) {
-    match read_recording(alloc, bytes, u64::MAX) {
-        Ok(read) => (is_seen(alloc, bytes, &read), true),
-        Err(fault) => (is_refused(alloc, bytes, fault), false),
+    let read = read_recording(alloc, bytes, u64::MAX);
+    match (&read, &RecordingView::over(alloc, bytes)) {
+        (Ok(read), Ok(seen)) => (are_alike(read, seen), true),
+        (Err(fault), Err(seen)) => (fault == seen, false),
+        _ => (false, read.is_ok()),
     }
 }
 
@@ -206,10 +185,16 @@ fn is_judged(
     recording: &[u8],
     certificate: &[u8],
 ) -> io::Result<bool> {
-    let said = checked(alloc, recording, certificate);
-    let report = said.out.as_slice();
-    let yes = said.ends(0) && report.starts_with(b"yes records=");
-    let spoilt = is_spoilt_judged(alloc, random, recording, certificate, report)?;
+    let (yes, spoilt) = {
+        let said = checked(alloc, recording, certificate);
+        let report = said.out.as_slice();
+        let yes = said.ends(0) && report.starts_with(b"yes records=");
+        (
+            yes,
+            is_spoilt_judged(alloc, random, recording, certificate, report),
+        )
+    };
+    let spoilt = spoilt?;
     let damaged = match with_other_state(alloc, random, recording)? {
         Some(copy) => checked(alloc, &copy, certificate).ends(1),
         None => true,
@@ -217,22 +202,30 @@ fn is_judged(
     Ok(yes && spoilt && damaged)
 }
 
-/// Whether a search ended as it should, of a recording or of what is none.
-fn is_searched(
+/// What `audit` answers to a file, and whether it ended as it should, of a recording or of what is
+/// none.
+fn search(
     alloc: Global,
     random: &mut Random,
     recording: &[u8],
     is_read: bool,
-    found: &Ran,
-) -> io::Result<bool> {
-    match (&found.left, found.status) {
-        (Some(certificate), 0) if is_read && found.is_answer() => {
-            is_judged(alloc, random, recording, certificate)
-        }
-        (None, 1) => Ok(is_read && found.is_answer() && found.out.starts_with(b"blocked ")),
-        (None, 2) => Ok(!is_read && found.is_fault()),
-        _ => Ok(false),
-    }
+) -> io::Result<Answer> {
+    let (status, good) = {
+        let found = run_words(alloc, &["audit", "rec", "cert"], &[("rec", recording)], &[]);
+        let good = match (&found.left, found.status) {
+            (Some(certificate), 0) if is_read && found.is_answer() => {
+                is_judged(alloc, random, recording, certificate)
+            }
+            (None, 1) => Ok(is_read && found.is_answer() && found.out.starts_with(b"blocked ")),
+            (None, 2) => Ok(!is_read && found.is_fault()),
+            _ => Ok(false),
+        };
+        (found.status, good)
+    };
+    Ok(Answer {
+        status,
+        good: good?,
+    })
 }
 
 /// Whether `convert` carried a file over as it should: a recording of the first format byte by byte,
@@ -258,21 +251,22 @@ fn is_carried(bytes: &[u8], is_read: bool, carried: &Ran) -> bool {
 
 /// Tries a recording: it is read and seen in place alike, `show` and `audit` refuse it where it is
 /// none, what `audit` finds `check` takes, and `convert` carries over what is of the first format.
-pub(crate) fn try_recording(alloc: Global, random: &mut Random) -> io::Result<Answer> {
-    let mut bytes = made(alloc, random)?;
-    let ways = random.below(3);
-    spoil_bytes(random, &mut bytes, ways)?;
-    let files = [("rec", bytes.as_slice())];
-    let shown = run_words(alloc, &["show", "rec"], &files, &[]);
-    let found = run_words(alloc, &["audit", "rec", "cert"], &files, &[]);
-    let carried = run_words(alloc, &["convert", "rec", "new"], &files, &[]);
-    let (agrees, is_read) = wanted(alloc, &bytes);
+pub(crate) fn try_recording(
+    alloc: Global,
+    random: &mut Random,
+    given: &mut Vec<u8>,
+) -> io::Result<Answer> {
+    put_recording(alloc, random, given)?;
+    let recording = given.as_slice();
+    let (agrees, is_read) = wanted(alloc, recording);
+    let searched = search(alloc, random, recording, is_read)?;
+    let files = [("rec", recording)];
     let status = if is_read { 0 } else { 2 };
-    let searched = is_searched(alloc, random, &bytes, is_read, &found)?;
-    let is_carried = is_carried(&bytes, is_read, &carried);
+    let is_shown = run_words(alloc, &["show", "rec"], &files, &[]).ends(status);
+    let carried = run_words(alloc, &["convert", "rec", "new"], &files, &[]);
+    let is_carried = is_carried(recording, is_read, &carried);
     Ok(Answer {
-        status: found.status,
-        good: agrees && shown.ends(status) && searched && is_carried,
-        given: bytes,
+        status: searched.status,
+        good: agrees && searched.good && is_shown && is_carried,
     })
 }

@@ -1,11 +1,10 @@
 //! Files that are judged.
 
 use siman_console::{FilesFault, check_files};
-use siman_refusals::{Call, Said, recording_text, refused, usual};
+use siman_refusals::{Call, RECORDING, Said, refused, usual};
 use std::alloc::Global;
-use std::io;
 
-/// The certificate of the order in which [`recording_text`] has its entries.
+/// The certificate of the order in which [`RECORDING`] has its entries.
 const STEPS: [u8; 44] = [
     68, 83, 67, 84, 48, 48, 48, 49, 0, 0, 0, 4, 0, 0, 0, 0, 255, 255, 255, 255, 0, 0, 0, 1, 0, 0,
     0, 0, 0, 0, 0, 2, 0, 0, 0, 1, 0, 0, 0, 3, 0, 0, 0, 2,
@@ -19,27 +18,13 @@ entity 2:3:7 stopped
 ";
 
 /// A recording and its certificate are judged, and the report is written where there is room.
-#[derive(Drop)]
-pub(crate) struct Judging {
-    text: Vec<u8>,
-    out: Vec<u8>,
-}
+pub(crate) struct Judging;
 
-impl Judging {
-    pub(crate) fn begin(alloc: Global) -> io::Result<Judging> {
-        Ok(Judging {
-            text: recording_text(alloc)?,
-            out: Vec::with_capacity(alloc, 1024)?,
-        })
-    }
-}
-
-impl Call for Judging {
-    fn make(&mut self, alloc: Global) -> Said {
-        let (text, out) = (self.text.as_slice(), &mut self.out);
-        match check_files(alloc, text, STEPS.as_slice(), out) {
-            Ok(yes) => usual(yes && self.out.as_slice() == REPORT.as_bytes()),
-            Err(fault) => refused(fault == FilesFault::Memory && self.out.is_empty()),
+impl Call<Vec<u8>> for Judging {
+    fn make(alloc: Global, out: &mut Vec<u8>) -> Said {
+        match check_files(alloc, RECORDING.as_slice(), STEPS.as_slice(), out) {
+            Ok(yes) => usual(yes && out.as_slice() == REPORT.as_bytes()),
+            Err(fault) => refused(fault == FilesFault::Memory && out.is_empty()),
         }
     }
 }

@@ -4,9 +4,8 @@ use exercise_model::ExerciseLog;
 use siman_console::{
     Script, ScriptFault, TrialFault, WorldFault, perform, read_script, run_world, trial,
 };
-use siman_refusals::{Call, Said, refused, unmade, usual};
+use siman_refusals::{Call, Said, refused, usual};
 use std::alloc::Global;
-use std::io;
 
 /// A loss, a copy and a swap.
 const SCRIPT: &str = "exercise 1
@@ -42,11 +41,10 @@ entity 2:3:7 running
 ";
 
 /// A script is read.
-#[derive(Drop)]
 pub(crate) struct ReadingScript;
 
-impl Call for ReadingScript {
-    fn make(&mut self, alloc: Global) -> Said {
+impl Call<()> for ReadingScript {
+    fn make(alloc: Global, _lent: &mut ()) -> Said {
         match read_script(alloc, SCRIPT.as_bytes()) {
             Ok(script) => usual(script.stations.len() == 2 && script.moves.len() == 12),
             Err(fault) => refused(fault == ScriptFault::Memory),
@@ -54,21 +52,12 @@ impl Call for ReadingScript {
     }
 }
 
-/// The script, to be handed over; `None` where memory was refused.
-fn read(alloc: Global) -> Option<Script> {
-    match read_script(alloc, SCRIPT.as_bytes()) {
-        Ok(script) => Some(script),
-        Err(_) => None,
-    }
-}
-
 /// A world is run.
-#[derive(Drop)]
 pub(crate) struct RunningWorld;
 
-impl Call for RunningWorld {
-    fn make(&mut self, alloc: Global) -> Said {
-        let Some(script) = read(alloc) else {
+impl Call<()> for RunningWorld {
+    fn make(alloc: Global, _lent: &mut ()) -> Said {
+        let Ok(script) = read_script(alloc, SCRIPT.as_bytes()) else {
             return Said::Memory;
         };
         let Script {
@@ -83,14 +72,6 @@ impl Call for RunningWorld {
     }
 }
 
-/// Room for what is told.
-fn room(alloc: Global) -> io::Result<Vec<u8>> {
-    match Vec::with_capacity(alloc, 1024) {
-        Ok(room) => Ok(room),
-        Err(_) => Err(unmade()),
-    }
-}
-
 /// What a trial said: whether all is told that is to be told, or, after want of memory, nothing.
 fn said(ended: Result<bool, TrialFault>, out: &[u8]) -> Said {
     match ended {
@@ -100,48 +81,26 @@ fn said(ended: Result<bool, TrialFault>, out: &[u8]) -> Said {
 }
 
 /// A script that was read is performed.
-#[derive(Drop)]
-pub(crate) struct Performing {
-    out: Vec<u8>,
-}
+pub(crate) struct Performing;
 
-impl Performing {
-    pub(crate) fn begin(alloc: Global) -> io::Result<Performing> {
-        Ok(Performing { out: room(alloc)? })
-    }
-}
-
-impl Call for Performing {
-    fn make(&mut self, alloc: Global) -> Said {
-        match read(alloc) {
-            Some(script) => {
-                let ended = perform(alloc, script, &mut self.out);
-                said(ended, &self.out)
-            }
-            None => Said::Memory,
+impl Call<Vec<u8>> for Performing {
+    fn make(alloc: Global, out: &mut Vec<u8>) -> Said {
+        match read_script(alloc, SCRIPT.as_bytes()) {
+            Ok(script) => said(perform(alloc, script, out), out),
+            Err(_) => Said::Memory,
         }
     }
 }
 
 /// A script is tried.
-#[derive(Drop)]
-pub(crate) struct Trying {
-    out: Vec<u8>,
-}
+pub(crate) struct Trying;
 
-impl Trying {
-    pub(crate) fn begin(alloc: Global) -> io::Result<Trying> {
-        Ok(Trying { out: room(alloc)? })
-    }
-}
-
-impl Call for Trying {
-    fn make(&mut self, alloc: Global) -> Said {
+impl Call<Vec<u8>> for Trying {
+    fn make(alloc: Global, out: &mut Vec<u8>) -> Said {
         let mut input = SCRIPT.as_bytes();
-        let ended = trial(alloc, &mut input, &mut self.out);
-        let is_read = input.is_empty() || ended.is_err();
-        if is_read {
-            said(ended, &self.out)
+        let ended = trial(alloc, &mut input, out);
+        if input.is_empty() || ended.is_err() {
+            said(ended, out)
         } else {
             Said::Otherwise
         }

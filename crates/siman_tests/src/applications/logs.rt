@@ -43,26 +43,18 @@ fn begin_to_answer(
     Application::begin(alloc, exercise, station, &[], Vec::new(alloc), &[])
 }
 
-/// The state of entity 7 in an application that begins to answer a request, once an order is sent.
-fn state_of_seven(alloc: Global, station: &Station, order: &Pdu) -> Option<EntityState> {
-    match begin_to_answer(alloc, 1, station, order, &CREATE, 0) {
-        Ok(application) => Some(application.state(7)),
-        Err(_) => None,
-    }
-}
-
-/// The same at a station without entities, of the order of [`START`].
-fn state_at_start(alloc: Global, station: &Station) -> Option<EntityState> {
-    match decode(alloc, &START) {
-        Ok(order) => state_of_seven(alloc, station, &order),
-        Err(_) => None,
-    }
-}
-
+/// Whether entity 7 is absent in an application at a station without entities that begins to answer
+/// its creation, once the order of [`START`] is sent.
 fn is_absent(alloc: Global) -> bool {
-    match station(alloc) {
-        Some(station) => state_at_start(alloc, &station) == Some(EntityState::Absent),
-        None => false,
+    let Some(station) = station(alloc) else {
+        return false;
+    };
+    let Ok(order) = decode(alloc, &START) else {
+        return false;
+    };
+    match begin_to_answer(alloc, 1, &station, &order, &CREATE, 0) {
+        Ok(application) => application.state(7) == EntityState::Absent,
+        Err(_) => false,
     }
 }
 

@@ -46,6 +46,7 @@
 //! checker and the search and by the plain ones.
 #![tactic(auto)]
 
+mod done;
 mod shelf;
 mod trial;
 
@@ -59,26 +60,22 @@ use std::{env, fs, io};
 
 /// Tries the cases of a file, and prints how many they were.
 fn try_file(rt: &HostRuntime, alloc: Global, name: &str) -> io::Result<bool> {
-    let text = fs::read_to_string(rt, name)?;
     let mut out = rt.stdout();
-    let tally = try_cases(alloc, &text, &mut out)?;
     let Tally {
         tried,
         otherwise,
         compared,
-        ..
-    } = tally;
-    match tally.unread {
-        None if compared > 0 => {
-            writeln!(
-                out,
-                "{name}: {tried} tried, {otherwise} otherwise, {compared} compared"
-            )?;
-        }
+        unread,
+    } = try_cases(alloc, &fs::read_to_string(rt, name)?, &mut out)?;
+    match unread {
+        None if compared > 0 => writeln!(
+            out,
+            "{name}: {tried} tried, {otherwise} otherwise, {compared} compared"
+        )?,
         None => writeln!(out, "{name}: {tried} tried, {otherwise} otherwise")?,
         Some(line) => writeln!(out, "{name}: line {line} can't be read")?,
     }
-    Ok(otherwise == 0 && tally.unread.is_none())
+    Ok(otherwise == 0 && unread.is_none())
 }
 
 /// Tries recordings that are made up, and then as many open ones, of the same scenes without what
@@ -94,19 +91,15 @@ fn try_made_up(rt: &HostRuntime, alloc: Global, count: u32) -> io::Result<bool> 
     Ok(closed.are_good(Form::First) && open.are_good(Form::Open))
 }
 
-/// Tries what a word of the command line names: so many recordings that are made up, or a file.
-fn try_word(rt: &HostRuntime, alloc: Global, word: &str) -> io::Result<bool> {
-    match word.parse::<u32>() {
-        Ok(count) => try_made_up(rt, alloc, count),
-        Err(_) => try_file(rt, alloc, word),
-    }
-}
-
-/// Tries what the words of the command line name.
+/// Tries what the words of the command line name: so many recordings that are made up, or a file.
 fn try_words(rt: &HostRuntime, alloc: Global) -> io::Result<bool> {
     let mut good = true;
     for word in env::args(rt)?.skip(1) {
-        good = try_word(rt, alloc, &word)? && good;
+        let tried = match word.parse::<u32>() {
+            Ok(count) => try_made_up(rt, alloc, count)?,
+            Err(_) => try_file(rt, alloc, &word)?,
+        };
+        good = tried && good;
     }
     Ok(good)
 }

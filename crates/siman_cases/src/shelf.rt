@@ -1,5 +1,10 @@
 //! Files in memory, and what was asked for.
 
+ghost use Rattle.std.specs.Prelude.{◌≡◌, ◌∷◌, [], ◌++◌};
+ghost use Rattle.siman_cases.specs.Done.{deed_of, deeds_of};
+
+use crate::done::{Done, failure, letters};
+use http_server::Log;
 use siman_console::Outside;
 use siman_fixtures::{Calls, File, Given, Written, found, read_from, write_to};
 use siman_trials::{WireLine, lines_of};
@@ -20,6 +25,8 @@ pub(crate) struct Shelf<'a> {
     /// The file that was opened last.
     opened: Option<&'a File>,
     pub(crate) asked: String,
+    /// What was done, for contracts alone.
+    pub(crate) done: Log<Done, ()>,
     pub(crate) left: Option<Vec<u8>>,
     /// What the file held that was discarded.
     pub(crate) discarded: Option<Vec<u8>>,
@@ -31,7 +38,9 @@ pub(crate) fn filled(
     files: &[File],
     makes: Calls,
     line_fails: Option<u64>,
-) -> Shelf<'_> {
+) -> Shelf<'_>
+    ensures { deeds_of result.done ≡ [] }
+{
     Shelf {
         alloc,
         files,
@@ -39,14 +48,42 @@ pub(crate) fn filled(
         line_fails,
         opened: None,
         asked: String::new(alloc),
+        done: Log::new(),
         left: None,
         discarded: None,
     }
 }
 
-impl Shelf<'_> {
+impl<'a> Shelf<'a> {
+    /// One more thing was done.
+    fn note(&mut self, done: Done)
+        ensures { deeds_of self.new.done ≡ deeds_of self.old.done ++ deed_of done ∷ [] }
+    {
+        self.done = self.done.and(&done, &());
+    }
+
+    /// The file of a name, where it can be opened.
+    fn look_up(&mut self, name: &str) -> io::Result<&'a File>
+        ensures { deeds_of self.new.done ≡ deeds_of self.old.done }
+    {
+        self.asked.push_str(name)?;
+        self.asked.push('\n')?;
+        let Some(file) = found(self.files, name) else {
+            return Err(io::Error::from(ErrorKind::NotFound));
+        };
+        match file.shut {
+            None => {
+                self.opened = Some(file);
+                Ok(file)
+            }
+            Some(kind) => Err(io::Error::from(kind)),
+        }
+    }
+
     /// A file that is made or created under a name.
-    fn begin(&mut self, name: &str) -> io::Result<Written> {
+    fn begin(&mut self, name: &str) -> io::Result<Written>
+        ensures { deeds_of self.new.done ≡ deeds_of self.old.done }
+    {
         self.asked.push_str("make ")?;
         self.asked.push_str(name)?;
         self.asked.push('\n')?;
@@ -63,60 +100,74 @@ impl Shelf<'_> {
 }
 
 impl<'a> Outside for Shelf<'a> {
+    ghost use Rattle.std.specs.Prelude.{Some};
+    ghost use Rattle.siman_cases.specs.Done.{deeds_of};
+
+    type Opened = &'a File;
+
     type File = Given<'a>;
 
     type Made = Written;
 
     type Line = WireLine;
 
-    fn open(&mut self, name: &str) -> io::Result<Given<'a>> {
-        self.asked.push_str(name)?;
-        self.asked.push('\n')?;
-        let Some(file) = found(self.files, name) else {
-            return Err(io::Error::from(ErrorKind::NotFound));
-        };
-        match file.shut {
-            None => {
-                self.opened = Some(file);
-                Ok(read_from(&file.bytes, file.calls))
-            }
-            Some(kind) => Err(io::Error::from(kind)),
-        }
+    ghost deeds = { λ shelf. Some (deeds_of shelf.done) };
+
+    fn open(&mut self, name: &str) -> io::Result<&'a File> {
+        let answer = self.look_up(name);
+        self.note(Done::Opened(letters(name), failure(&answer)));
+        answer
     }
 
-    fn is_opened(&mut self, _file: &Given<'a>, name: &str) -> bool {
-        match self.opened {
+    fn is_opened(&mut self, _file: &&'a File, name: &str) -> bool {
+        let same = match self.opened {
             Some(opened) => opened.name.as_str() == name,
             None => false,
-        }
+        };
+        self.note(Done::Compared(letters(name), same));
+        same
+    }
+
+    fn read(&mut self, file: &'a File) -> Given<'a> {
+        self.note(Done::Read);
+        read_from(&file.bytes, file.calls)
     }
 
     fn make(&mut self, name: &str) -> io::Result<Written> {
-        self.begin(name)
+        let answer = self.begin(name);
+        self.note(Done::Made(letters(name), failure(&answer)));
+        answer
     }
 
     fn save(&mut self, file: Written) -> io::Result<()> {
         self.left = Some(file.bytes);
+        self.note(Done::Saved);
         Ok(())
     }
 
     fn discard(&mut self, file: Written) {
         self.discarded = Some(file.bytes);
+        self.note(Done::Discarded);
     }
 
     fn is_taken(&mut self, name: &str) -> bool {
-        match found(self.files, name) {
+        let taken = match found(self.files, name) {
             Some(file) => file.shut.is_none(),
             None => false,
-        }
+        };
+        self.note(Done::LookedFor(letters(name), taken));
+        taken
     }
 
     fn create(&mut self, name: &str) -> io::Result<Written> {
-        self.begin(name)
+        let answer = self.begin(name);
+        self.note(Done::Created(letters(name), failure(&answer)));
+        answer
     }
 
     fn close(&mut self, file: Written) {
         self.left = Some(file.bytes);
+        self.note(Done::Left);
     }
 
     fn lines(&mut self, alloc: Global, stations: usize) -> io::Result<Vec<WireLine>> {

@@ -1,17 +1,22 @@
 //! Runs cases, and tells what is otherwise.
 
+ghost use Rattle.std.specs.Prelude.{ℕ, List, Result, None};
+ghost use Rattle.std.specs.declared.io.ErrorKind.{ErrorKind};
+ghost use Rattle.siman_console.specs.Program.{EndsProgram};
+ghost use Rattle.siman_cases.specs.Done.{deeds_of, untold};
+
 use crate::shelf::{Shelf, filled};
 use siman_agreement::compare_case;
 use siman_console::{Ended, run};
-use siman_fixtures::{Case, Line, Stream, Written, first, read_from, read_line, write_to};
-use siman_trials::{compare, try_post};
+use siman_fixtures::{Case, Line, Stream, Written, begin_case, read_from, read_line, write_to};
+use siman_trials::{compare, try_at_line};
 use std::alloc::Global;
 use std::io;
 use std::io::Write;
 
 /// How many cases of a file were tried, how many went otherwise, how many were compared with the
 /// plain checker or search, and the first line that can't be read, from 1.
-#[derive(Clone, Copy)]
+#[derive(Drop)]
 pub(crate) struct Tally {
     pub(crate) tried: u32,
     pub(crate) otherwise: u32,
@@ -41,9 +46,12 @@ struct Outcome<'a> {
     errors: Written,
 }
 
-/// Runs the program on a case.
-fn run_case(alloc: Global, case: &Case) -> Outcome<'_> {
-    let mut shelf = filled(alloc, &case.files, case.left.calls, case.post.fails_at);
+/// Runs the program on a case. What was done on the shelf is what the program does on some words, in
+/// that order, and nothing else.
+fn run_case(alloc: Global, case: &Case) -> Outcome<'_>
+    ensures { (words : Result (List (List ℕ)) ErrorKind) × EndsProgram words (deeds_of result.shelf.done) None (record { ended = result.ended; out = untold; errors = untold }) }
+{
+    let mut shelf = filled(alloc, &case.files, case.left.calls, case.at_line.fails_at);
     let mut out = write_to(alloc, case.out.calls);
     let mut errors = write_to(alloc, case.errors.calls);
     let input = read_from(&case.input.bytes, case.input.calls);
@@ -55,16 +63,6 @@ fn run_case(alloc: Global, case: &Case) -> Outcome<'_> {
         out,
         errors,
     }
-}
-
-/// Prints the status where it is otherwise.
-fn compare_ended<W: Write>(case: &Case, ended: Ended, out: &mut W) -> io::Result<bool> {
-    let (name, status, half) = (&case.name, ended.status, ended.written.is_err());
-    if status == case.status && half == case.half_told {
-        return Ok(true);
-    }
-    writeln!(out, "{name}: status {status}, half-told {half}")?;
-    Ok(false)
 }
 
 /// Prints what a file that was made holds, where it is otherwise.
@@ -110,8 +108,11 @@ fn compare_files<W: Write>(case: &Case, shelf: &Shelf<'_>, out: &mut W) -> io::R
 
 /// Prints what a run left otherwise than its case wants; whether nothing is otherwise.
 fn compare_all<W: Write>(case: &Case, left: &Outcome<'_>, out: &mut W) -> io::Result<bool> {
-    let name = &case.name;
-    let ended = compare_ended(case, left.ended, out)?;
+    let (name, status, half) = (&case.name, left.ended.status, left.ended.written.is_err());
+    let ended = status == case.status && half == case.half_told;
+    if !ended {
+        writeln!(out, "{name}: status {status}, half-told {half}")?;
+    }
     let answered = compare(name, "out", &left.out.bytes, &case.out.bytes, out)?;
     let told = compare(name, "errors", &left.errors.bytes, &case.errors.bytes, out)?;
     let files = compare_files(case, &left.shelf, out)?;
@@ -125,14 +126,14 @@ fn try_case<W: Write>(
     case: &Case,
     out: &mut W,
 ) -> io::Result<(bool, Option<Vec<u8>>)> {
-    if let Some(station) = case.post.station {
-        return Ok((try_post(alloc, case, station, out)?, None));
+    if let Some(station) = case.at_line.station {
+        return Ok((try_at_line(alloc, case, station, out)?, None));
     }
     let left = run_case(alloc, case);
-    let good = compare_all(case, &left, out)?;
+    let good = compare_all(case, &left, out);
     let Outcome { shelf, .. } = left;
     let Shelf { left, .. } = shelf;
-    Ok((good, left))
+    Ok((good?, left))
 }
 
 impl Tally {
@@ -181,21 +182,31 @@ impl Tally {
     }
 }
 
-/// Tries the cases of a text, and prints what is otherwise.
-pub(crate) fn try_cases<W: Write>(alloc: Global, text: &str, out: &mut W) -> io::Result<Tally> {
+/// Takes the lines of a text, and tries the cases that they make.
+fn try_lines<W: Write>(
+    alloc: Global,
+    case: &mut Case,
+    text: &str,
+    out: &mut W,
+) -> io::Result<Tally> {
     let mut tally = Tally {
         tried: 0,
         otherwise: 0,
         compared: 0,
         unread: None,
     };
-    let mut case = first(alloc);
     for (i, line) in text.lines().enumerate() {
-        if !tally.take(alloc, &mut case, line, out)? {
+        if !tally.take(alloc, case, line, out)? {
             tally.unread = Some(i.saturating_add(1));
             return Ok(tally);
         }
     }
-    tally.add(alloc, &mut case, out)?;
+    tally.add(alloc, case, out)?;
     Ok(tally)
+}
+
+/// Tries the cases of a text, and prints what is otherwise.
+pub(crate) fn try_cases<W: Write>(alloc: Global, text: &str, out: &mut W) -> io::Result<Tally> {
+    let mut case = begin_case(alloc, String::new(alloc), Vec::new(alloc));
+    try_lines(alloc, &mut case, text, out)
 }

@@ -1,0 +1,40 @@
+-- What was done outside, one after the other (profile). Of the files in memory no contract tells the bytes.
+use Rattle.std.specs.Prelude.{ℕ, List, map, Option, Some, None, Result, Ok, Err}
+use Rattle.std.specs.IoError.{error_kind}
+use Rattle.std.specs.declared.io.Error.{Error}
+use Rattle.std.specs.declared.io.ErrorKind.{ErrorKind}
+use Rattle.http_server.specs.declared.log.Log.{Log}
+use Rattle.siman_console.specs.Outcome.{Stream}
+use Rattle.siman_console.specs.Outside.{Found, Deed, Opens, Compares, Reads, Makes, Saves, Discards, LooksFor, Creates, Leaves}
+use Rattle.siman_cases.specs.declared.done.Done.{Done}
+use Rattle.siman_cases.specs.declared.done.Done.TheVariants as done
+
+abbrev pub letters_of : Log ℕ (Unit {0}) → List ℕ
+letters_of l = map (λ p. p.0) l.items
+
+-- what was found, where it failed for a reason or for none
+abbrev pub found_of : Option ErrorKind → Found
+found_of None = Ok None
+found_of (Some kind) = Err kind
+
+abbrev pub found_as : {F : Type 0} → Result F Error → Found
+found_as (Ok file) = Ok None
+found_as (Err error) = Err (error_kind error)
+
+abbrev pub deed_of : Done → Deed
+deed_of (done.Opened name failed) = Opens (letters_of name) (found_of failed)
+deed_of (done.Compared name same) = Compares (letters_of name) same
+deed_of done.Read = Reads None
+deed_of (done.Made name failed) = Makes (letters_of name) (found_of failed)
+deed_of done.Saved = Saves None (Ok tt)
+deed_of done.Discarded = Discards None
+deed_of (done.LookedFor name taken) = LooksFor (letters_of name) taken
+deed_of (done.Created name failed) = Creates (letters_of name) (found_of failed)
+deed_of done.Left = Leaves None
+
+abbrev pub deeds_of : Log Done (Unit {0}) → List Deed
+deeds_of l = map (λ p. deed_of p.0) l.items
+
+-- a writer that tells no contract what stands on it
+abbrev pub untold : Stream
+untold = record { old = None; new = None }

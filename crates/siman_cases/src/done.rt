@@ -1,0 +1,46 @@
+//! What was done outside, as contracts alone see it: none of it takes memory.
+
+ghost use Rattle.std.specs.Prelude.{◌≡◌};
+ghost use Rattle.siman_cases.specs.Done.{letters_of, found_of, found_as};
+
+use http_server::Log;
+use std::io;
+use std::io::ErrorKind;
+
+/// A name, letter by letter.
+pub(crate) type Letters = Log<u8, ()>;
+
+/// Something that was done outside, with the names that were given, and why it failed where it did.
+#[derive(Drop)]
+pub(crate) enum Done {
+    Opened(Letters, Option<ErrorKind>),
+    Compared(Letters, bool),
+    Read,
+    Made(Letters, Option<ErrorKind>),
+    Saved,
+    Discarded,
+    LookedFor(Letters, bool),
+    Created(Letters, Option<ErrorKind>),
+    Left,
+}
+
+/// The letters of a name.
+pub(crate) fn letters(name: &str) -> Letters
+    ensures { letters_of result ≡ name.now }
+{
+    let mut letters = Log::new();
+    for letter in name.as_bytes() {
+        letters = letters.and(letter, &());
+    }
+    letters
+}
+
+/// Why an answer is none, if it is none.
+pub(crate) fn failure<T>(answer: &io::Result<T>) -> Option<ErrorKind>
+    ensures { found_of result ≡ found_as answer.now }
+{
+    match answer {
+        Ok(_) => None,
+        Err(error) => Some(error.kind()),
+    }
+}

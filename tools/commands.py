@@ -1,0 +1,45 @@
+#!/usr/bin/env python3
+"""Compares the table of commands in the README with that of the program, `ROWS` in siman_words.
+
+Each command of the program needs its row in the README, with the words that usage gives it, in the order of the help;
+and each row of the README that is a command by its name has to be one of the program. Its last line is `N commands, M
+wrong`, with status 1 where something is.
+"""
+import itertools
+import re
+import sys
+from pathlib import Path
+
+TOP = Path(__file__).resolve().parent.parent
+TABLE = TOP / "crates" / "siman_words" / "src" / "commands.rt"
+
+
+def rows_of_program():
+    """Each command of the program as usage has it: its name and its words."""
+    rows = TABLE.read_text(encoding="utf-8").partition("const ROWS")[2].partition("\n];")[0]
+    found = []
+    for row in re.split(r"^    Row \{$", rows, flags=re.M)[1:]:
+        name = re.search(r'name: "([^"]+)"', row)[1]
+        words = re.findall(r'\(\s*"([A-Z]+)",', row.partition("words:")[2])
+        found.append(" ".join([name, *words]))
+    return found
+
+
+def rows_of_readme():
+    """Each command of the README's table; what is only an option is none."""
+    section = (TOP / "README.md").read_text(encoding="utf-8").partition("## The commands")[2].partition("\n## ")[0]
+    return re.findall(r"^\| `\./siman ([a-z][^`]*)` \|", section, flags=re.M)
+
+
+def main():
+    program, readme, wrong = rows_of_program(), rows_of_readme(), 0
+    for own, other in itertools.zip_longest(program, readme):
+        if own != other:
+            print(f"the program has `{own}` where the README has `{other}`")
+            wrong += 1
+    print(f"{len(program)} commands, {wrong} wrong")
+    return 1 if wrong or not program else 0
+
+
+if __name__ == "__main__":
+    sys.exit(main())

@@ -159,9 +159,9 @@ pub acks_turns : (a : Outfit) (s : ℕ) (ts : List OwnTurn) → AreMeant a true 
     → was_acknowledged a.exercise n k (log_in a s ts) ≡ acked_as a n k (first_under r (distinct a (taken_in ts)))
 acks_turns a s [] are r p to n k key = ack_start a.exercise n k ∙ sym (ap (acked_as a n k) (none_under r))
 acks_turns a s (Tells e y ∷ ts) are r p to n k key = ack_tell a.exercise n k s e y (log_in a s ts) ∙ acks_turns a s ts are r p to n k key
-acks_turns a s (Orders o ∷ ts) are r p to n k key =
-    ack_send a.exercise n k s (pdu_text o) (carried o) (log_in a s ts) are.0.means ∙ ap (λ (v : Bool). v || was_acknowledged a.exercise n k (log_in a s ts))
-    (silent (carried o) n k are.0.request) ∙ acks_turns a s ts are.1 r p to n k key
+acks_turns a s (Orders b o ∷ ts) are r p to n k key =
+    ack_send a.exercise n k s b o (log_in a s ts) are.0.means ∙ ap (λ (v : Bool). v || was_acknowledged a.exercise n k (log_in a s ts))
+    (silent o n k are.0.request) ∙ acks_turns a s ts are.1 r p to n k key
 acks_turns a s (Passes b ∷ ts) are r p to n k key = ack_get a.exercise n k s b (log_in a s ts) ∙ acks_turns a s ts are r p to n k key
 acks_turns a s (Takes b q stamp ∷ ts) are r p to n k key =
     acks_taken a r p q s stamp n k b (taken_in ts) (log_in a s ts) to key are.1 (course a (distinct a (taken_in ts)) q stamp)

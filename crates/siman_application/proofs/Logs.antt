@@ -27,7 +27,7 @@ unread x b e = ap (option_and_then (meant x)) e
 all_alike : (a : Outfit) (q : Pdu) (ts : List OwnTurn) → TakesAll ts → PassedAlike a q ts
 all_alike a q [] all = tt
 all_alike a q (Tells e y ∷ ts) all = all_alike a q ts all
-all_alike a q (Orders o ∷ ts) all = all_alike a q ts all
+all_alike a q (Orders b o ∷ ts) all = all_alike a q ts all
 all_alike a q (Passes b ∷ ts) all =
     (λ p m own under. let none : meaning a.exercise b ≡ None = unread a.exercise b all.0 in absurd cc, all_alike a q ts all.1)
 all_alike a q (takes b p stamp ∷ ts) all = all_alike a q ts all
@@ -36,7 +36,7 @@ all_alike a q (Loses b p stamp ∷ ts) all = all_alike a q ts all
 all_settled : (a : Outfit) (ts : List OwnTurn) → TakesAll ts → AreSettled a ts
 all_settled a [] all = tt
 all_settled a (Tells e y ∷ ts) all = all_settled a ts all
-all_settled a (Orders o ∷ ts) all = all_settled a ts all
+all_settled a (Orders b o ∷ ts) all = all_settled a ts all
 all_settled a (Passes b ∷ ts) all = all_settled a ts all.1
 all_settled a (takes b q stamp ∷ ts) all = (λ own. all_alike a q ts all, all_settled a ts all)
 all_settled a (Loses b q stamp ∷ ts) all = (λ own. all_alike a q ts all, all_settled a ts all)
@@ -50,7 +50,7 @@ one_alike : (a : Outfit) (s : ℕ) (h : History) → AreOneOrder a h → (b : Li
     → (ts : List OwnTurn) → ((c : List ℕ) → HasGet (log_in a s ts) c → HasGet h c) → PassedAlike a q ts
 one_alike a s h one b q got m own [] within = tt
 one_alike a s h one b q got m own (Tells e y ∷ ts) within = one_alike a s h one b q got m own ts within
-one_alike a s h one b q got m own (Orders c ∷ ts) within = one_alike a s h one b q got m own ts within
+one_alike a s h one b q got m own (Orders d c ∷ ts) within = one_alike a s h one b q got m own ts within
 one_alike a s h one b q got m own (Passes c ∷ ts) within = (
   λ p n mine under. one c b p q (within c (inl refl)) got n m (for_parts a p mine).request
       (for_parts a q own).request under,
@@ -64,7 +64,7 @@ one_settled : (a : Outfit) (s : ℕ) (h : History) → AreOneOrder a h → (late
     → ((c : List ℕ) → HasGet (log_in a s ts) c → HasGet h c) → AreSettled a ts
 one_settled a s h one later [] are within = tt
 one_settled a s h one later (Tells e y ∷ ts) are within = one_settled a s h one later ts are within
-one_settled a s h one later (Orders o ∷ ts) are within = one_settled a s h one later ts are.1 within
+one_settled a s h one later (Orders b o ∷ ts) are within = one_settled a s h one later ts are.1 within
 one_settled a s h one later (Passes b ∷ ts) are within = one_settled a s h one later ts are (λ d g. within d (inr g))
 one_settled a s h one later (takes b q stamp ∷ ts) are within =
     let after = get_sent s (reply a (taken_in ts) q stamp) (Get s b ∷ log_in a s ts) in (
@@ -90,7 +90,7 @@ answers_stand a s ts h qs own clear =
 miss_none : (a : Outfit) (later : Bool) (ts : List OwnTurn) → MissNone ts → AreMeant a later ts → AreMeant a true ts
 miss_none a later [] none are = tt
 miss_none a later (Tells e y ∷ ts) none are = miss_none a later ts none are
-miss_none a later (Orders o ∷ ts) none are = (are.0, miss_none a later ts none are.1)
+miss_none a later (Orders b o ∷ ts) none are = (are.0, miss_none a later ts none are.1)
 miss_none a later (Passes b ∷ ts) none are = miss_none a later ts none are
 miss_none a later (takes b q stamp ∷ ts) none are = (are.0, are.1, miss_none a (later || is_due a ts q stamp) ts none are.2)
 miss_none a later (Loses b q stamp ∷ ts) none are = absurd none

@@ -5,8 +5,8 @@ use Rattle.siman_pdus.specs.declared.pdu.Pdu.{Pdu}
 use Rattle.siman_pdus.specs.Ranges.{IsInRange}
 use Rattle.siman_pdus.specs.Reading.{reading}
 use Rattle.siman_pdus.specs.Role.{is_request_body}
-use Rattle.siman_pdus.specs.Spelling.{carried, pdu_text}
-use Rattle.siman_pdus.proofs.Offered.{text_is_carried, read_in_range}
+use Rattle.siman_pdus.specs.Spelling.{pdu_text}
+use Rattle.siman_pdus.proofs.Offered.{read_in_range}
 use Rattle.exercise_model.specs.Meaning.{meaning}
 use Rattle.siman_application.specs.Outfit.{Outfit}
 use Rattle.siman_application.specs.Ranges.{IsOutfitInRange}
@@ -25,16 +25,16 @@ pub record IsTaken (b : List ℕ) (q : Pdu) : Type 0 where
   pub read : reading b ≡ Some q
   pub ranges : IsInRange q
 
--- the text of an order means what is carried of it, and it is a request
-pub record IsOrdered (a : Outfit) (p : Pdu) : Type 0 where
-  pub means : meaning a.exercise (pdu_text p) ≡ Some (carried p)
+-- the datagram of an order means it, and it is a request
+pub record IsOrdered (a : Outfit) (b : List ℕ) (p : Pdu) : Type 0 where
+  pub means : meaning a.exercise b ≡ Some p
   pub request : is_request_body p.body ≡ true
 
 -- the turns, where `later` says that a reply is due later on
 abbrev pub AreMeant : Outfit → Bool → List OwnTurn → Type 0
 AreMeant a later [] = Unit {0}
 AreMeant a later (Tells e y ∷ ts) = AreMeant a later ts
-AreMeant a later (Orders p ∷ ts) = IsOrdered a p × AreMeant a later ts
+AreMeant a later (Orders b p ∷ ts) = IsOrdered a b p × AreMeant a later ts
 AreMeant a later (Passes b ∷ ts) = AreMeant a later ts
 AreMeant a later (Takes b q stamp ∷ ts) = IsTaken b q × IsReplyText (reply a (taken_in ts) q stamp) × AreMeant a (later || is_due a ts q stamp) ts
 AreMeant a later (Loses b q stamp ∷ ts) = IsTaken b q × (later ≡ false) × AreMeant a true ts
@@ -42,16 +42,16 @@ AreMeant a later (Loses b q stamp ∷ ts) = IsTaken b q × (later ≡ false) × 
 taken : (b : List ℕ) (q : Pdu) → IsRead b q → IsTaken b q
 taken b q is = record { read = is.read; ranges = read_in_range b q is.bytes is.read }
 
-ordered : (a : Outfit) (p : Pdu) → IsOrder a p → IsOrdered a p
-ordered a p is = record {
-  means = request_means a.exercise (pdu_text p) (carried p) (text_is_carried p is.ranges is.size) (ap (λ (n : ℕ). n == a.exercise) is.exercise ∙ equal_self a.exercise) is.request;
+ordered : (a : Outfit) (b : List ℕ) (p : Pdu) → IsOrder a b p → IsOrdered a b p
+ordered a b p is = record {
+  means = request_means a.exercise b p is.read.read (ap (λ (n : ℕ). n == a.exercise) is.exercise ∙ equal_self a.exercise) is.request;
   request = is.request;
 }
 
 pub taken_in_range : (a : Outfit) (later : Bool) (ts : List OwnTurn) → AreTurns a later ts → Each IsInRange (taken_in ts)
 taken_in_range a later [] are = tt
 taken_in_range a later (Tells e y ∷ ts) are = taken_in_range a later ts are
-taken_in_range a later (Orders p ∷ ts) are = taken_in_range a later ts are.1
+taken_in_range a later (Orders b p ∷ ts) are = taken_in_range a later ts are.1
 taken_in_range a later (Passes b ∷ ts) are = taken_in_range a later ts are
 taken_in_range a later (Takes b q stamp ∷ ts) are = ((taken b q are.0).ranges, taken_in_range a (later || is_due a ts q stamp) ts are.2)
 taken_in_range a later (Loses b q stamp ∷ ts) are = ((taken b q are.0).ranges, taken_in_range a true ts are.4)
@@ -60,7 +60,7 @@ taken_in_range a later (Loses b q stamp ∷ ts) are = ((taken b q are.0).ranges,
 pub meant_turns : (a : Outfit) → IsOutfitInRange a → (later : Bool) (ts : List OwnTurn) → AreTurns a later ts → AreMeant a later ts
 meant_turns a own later [] are = tt
 meant_turns a own later (Tells e y ∷ ts) are = meant_turns a own later ts are
-meant_turns a own later (Orders p ∷ ts) are = (ordered a p are.0, meant_turns a own later ts are.1)
+meant_turns a own later (Orders b p ∷ ts) are = (ordered a b p are.0, meant_turns a own later ts are.1)
 meant_turns a own later (Passes b ∷ ts) are = meant_turns a own later ts are
 meant_turns a own later (Takes b q stamp ∷ ts) are =
     let is = taken b q are.0 in (

@@ -262,8 +262,8 @@ pub stands_turns : (a : Outfit) → IsOutfitInRange a → (s : ℕ) (later : Boo
     → AnswersStand a (log_in a s ts)
 stands_turns a station s later [] are settled = tt
 stands_turns a station s later (Tells e y ∷ ts) are settled = stands_turns a station s later ts are settled
-stands_turns a station s later (Orders o ∷ ts) are settled = (
-  λ r e body. let is : carried o ≡ r = one_of (carried o) r (meaning a.exercise (pdu_text o)) are.0.means e in
+stands_turns a station s later (Orders b o ∷ ts) are settled = (
+  λ r e body. let is : o ≡ r = one_of o r (meaning a.exercise b) are.0.means e in
       let no : is_request_body r.body ≡ false = no_request_by (role_of r.body) body in
       let yes : is_request_body r.body ≡ true = ap (λ (w : Pdu). is_request_body w.body) (sym is) ∙ are.0.request in absurd cc,
   stands_turns a station s later ts are.1 settled,

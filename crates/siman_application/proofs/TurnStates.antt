@@ -56,7 +56,7 @@ whole_taken a q stamp ds station range (Fresh own none reply_is same) whole =
 pub whole_turns : (a : Outfit) → IsOutfitInRange a → (later : Bool) (ts : List OwnTurn) → AreMeant a later ts → AreWhole a (distinct a (taken_in ts))
 whole_turns a station later [] are = record { own = tt; spelled = tt }
 whole_turns a station later (Tells e y ∷ ts) are = whole_turns a station later ts are
-whole_turns a station later (Orders o ∷ ts) are = whole_turns a station later ts are.1
+whole_turns a station later (Orders b o ∷ ts) are = whole_turns a station later ts are.1
 whole_turns a station later (Passes b ∷ ts) are = whole_turns a station later ts are
 whole_turns a station later (Takes b q stamp ∷ ts) are =
     whole_taken a q stamp (distinct a (taken_in ts)) station are.0.ranges (course a (distinct a (taken_in ts)) q stamp)
@@ -258,8 +258,8 @@ pub states_turns : (a : Outfit) → IsOutfitInRange a → (s : ℕ) (ts : List O
 states_turns a station s [] are settled e = state_start a s e
 states_turns a station s (Tells n y ∷ ts) are settled e =
     told_keeps a.exercise a.station (log_in a s ts) s n y e ∙ states_turns a station s ts are settled e
-states_turns a station s (Orders o ∷ ts) are settled e =
-    others_keep a.exercise a.station (log_in a s ts) s (pdu_text o) (carried o) are.0.means (silent_by o.body able are.0.request) e
+states_turns a station s (Orders b o ∷ ts) are settled e =
+    others_keep a.exercise a.station (log_in a s ts) s b o are.0.means (silent_by o.body able are.0.request) e
     ∙ states_turns a station s ts are.1 settled e
 states_turns a station s (Passes b ∷ ts) are settled e =
     received_keeps a.exercise a.station (log_in a s ts) s b e ∙ states_turns a station s ts are settled e

@@ -197,7 +197,7 @@ course a ds q stamp = course_by a ds q stamp (is_for a q) refl (first_under q ds
 abbrev pub PassedAlike : Outfit → Pdu → List OwnTurn → Type 0
 PassedAlike a q [] = Unit {0}
 PassedAlike a q (Tells e y ∷ ts) = PassedAlike a q ts
-PassedAlike a q (Orders o ∷ ts) = PassedAlike a q ts
+PassedAlike a q (Orders b o ∷ ts) = PassedAlike a q ts
 PassedAlike a q (Passes b ∷ ts) =
     ((p : Pdu) → meaning a.exercise b ≡ Some p → is_for a p ≡ true → is_under_key q p ≡ true → IsSameOrder p q) × PassedAlike a q ts
 PassedAlike a q (Takes b p stamp ∷ ts) = PassedAlike a q ts
@@ -207,7 +207,7 @@ PassedAlike a q (Loses b p stamp ∷ ts) = PassedAlike a q ts
 abbrev pub AreSettled : Outfit → List OwnTurn → Type 0
 AreSettled a [] = Unit {0}
 AreSettled a (Tells e y ∷ ts) = AreSettled a ts
-AreSettled a (Orders o ∷ ts) = AreSettled a ts
+AreSettled a (Orders b o ∷ ts) = AreSettled a ts
 AreSettled a (Passes b ∷ ts) = AreSettled a ts
 AreSettled a (Takes b q stamp ∷ ts) = (is_for a q ≡ true → PassedAlike a q ts) × AreSettled a ts
 AreSettled a (Loses b q stamp ∷ ts) = (is_for a q ≡ true → PassedAlike a q ts) × AreSettled a ts
@@ -369,9 +369,9 @@ up_turns a s later (Tells e y ∷ ts) are settled r p goes =
     subst (TakesUp a r (Tells e y ∷ ts) (first_under r (distinct a (taken_in ts)))) (sym (up_tell a p s e y (log_in a s ts)))
     (up_later a r ts (Tells e y ∷ ts) (λ q alike. alike) (first_under r (distinct a (taken_in ts)))
     (request_taken_up a.exercise a.station.address p (log_in a s ts)) (up_turns a s later ts are settled r p goes))
-up_turns a s later (Orders o ∷ ts) are settled r p goes =
-    subst (TakesUp a r (Orders o ∷ ts) (first_under r (distinct a (taken_in ts)))) (sym (up_send a p s (pdu_text o) (log_in a s ts)))
-    (up_later a r ts (Orders o ∷ ts) (λ q alike. alike) (first_under r (distinct a (taken_in ts)))
+up_turns a s later (Orders b o ∷ ts) are settled r p goes =
+    subst (TakesUp a r (Orders b o ∷ ts) (first_under r (distinct a (taken_in ts)))) (sym (up_send a p s b (log_in a s ts)))
+    (up_later a r ts (Orders b o ∷ ts) (λ q alike. alike) (first_under r (distinct a (taken_in ts)))
     (request_taken_up a.exercise a.station.address p (log_in a s ts)) (up_turns a s later ts are.1 settled r p goes))
 up_turns a s later (Passes b ∷ ts) are settled r p goes =
     subst (TakesUp a r (Passes b ∷ ts) (first_under r (distinct a (taken_in ts)))) (sym (up_get a p s b (log_in a s ts)))

@@ -1,13 +1,11 @@
 -- The log of a station whose application answers, THE LAST EVENT FIRST (profile).
 use Rattle.std.specs.Prelude.{◌≡◌, ℕ, ◌^◌, ◌<◌, ◌≤◌, List, [], ◌∷◌, slice_index, Bool, ◌||◌, true, false, Option, Some, None, is_some, ◌⊎◌}
-use Rattle.dis_records.specs.declared.header.TheConstants.{LARGEST_DATAGRAM}
 use Rattle.dis_records.specs.declared.entity_state.EntityState.{EntityState}
 use Rattle.siman_pdus.specs.declared.pdu.Pdu.{Pdu}
-use Rattle.siman_pdus.specs.Ranges.{IsInRange}
 use Rattle.siman_pdus.specs.Reading.{reading}
 use Rattle.siman_pdus.specs.Role.{is_request_body}
 use Rattle.siman_pdus.specs.Same.{IsSameOrder}
-use Rattle.siman_pdus.specs.Spelling.{pdu_size, pdu_text}
+use Rattle.siman_pdus.specs.Spelling.{pdu_text}
 use Rattle.exercise_model.specs.History.{History, Send, Get, Tell}
 use Rattle.exercise_model.specs.Meaning.{meaning}
 use Rattle.exercise_model.specs.Exchange.{is_answer_body}
@@ -21,8 +19,8 @@ use Rattle.siman_application.specs.Ranges.{IsOutfitInRange}
 pub data OwnTurn : Type 0 where
   -- it tells the state of an entity
   Tells : (entity : ℕ) (state : EntityState) → OwnTurn
-  -- its manager half sends an order
-  Orders : (order : Pdu) → OwnTurn
+  -- its manager half sends an order, in one of its spellings
+  Orders : (bytes : List ℕ) (order : Pdu) → OwnTurn
   -- it gets a datagram that its application does not take
   Passes : (bytes : List ℕ) → OwnTurn
   -- it gets a datagram whose PDU its application takes, and sends the reply at once with this timestamp, if one is due
@@ -34,7 +32,7 @@ pub data OwnTurn : Type 0 where
 abbrev pub taken_in : List OwnTurn → List Pdu
 taken_in [] = []
 taken_in (Tells e y ∷ ts) = taken_in ts
-taken_in (Orders p ∷ ts) = taken_in ts
+taken_in (Orders b p ∷ ts) = taken_in ts
 taken_in (Passes b ∷ ts) = taken_in ts
 taken_in (Takes b q stamp ∷ ts) = q ∷ taken_in ts
 taken_in (Loses b q stamp ∷ ts) = q ∷ taken_in ts
@@ -48,22 +46,21 @@ sent_after s (Some p) log = Send s (pdu_text p) ∷ log
 abbrev pub log_in : Outfit → ℕ → List OwnTurn → History
 log_in a s [] = []
 log_in a s (Tells e y ∷ ts) = Tell s e y ∷ log_in a s ts
-log_in a s (Orders p ∷ ts) = Send s (pdu_text p) ∷ log_in a s ts
+log_in a s (Orders b p ∷ ts) = Send s b ∷ log_in a s ts
 log_in a s (Passes b ∷ ts) = Get s b ∷ log_in a s ts
 log_in a s (Takes b q stamp ∷ ts) = sent_after s (reply a (taken_in ts) q stamp) (Get s b ∷ log_in a s ts)
 log_in a s (Loses b q stamp ∷ ts) = Get s b ∷ log_in a s ts
-
--- an order of the station: a request of the exercise, its numbers in their ranges, of at most 8192 bytes
-pub record IsOrder (a : Outfit) (p : Pdu) : Type 0 where
-  pub exercise : p.exercise ≡ a.exercise
-  pub request : is_request_body p.body ≡ true
-  pub ranges : IsInRange p
-  pub size : pdu_size p ≤ LARGEST_DATAGRAM
 
 -- the datagram consists of bytes, and is read as the PDU
 pub record IsRead (b : List ℕ) (q : Pdu) : Type 0 where
   pub bytes : (i : ℕ) → slice_index b i < 256
   pub read : reading b ≡ Some q
+
+-- an order of the station: a datagram that is read as a request of the exercise, whichever of its spellings it is
+pub record IsOrder (a : Outfit) (b : List ℕ) (p : Pdu) : Type 0 where
+  pub exercise : p.exercise ≡ a.exercise
+  pub request : is_request_body p.body ≡ true
+  pub read : IsRead b p
 
 -- a reply is due to a PDU that is taken after these turns
 abbrev pub is_due : Outfit → List OwnTurn → Pdu → ℕ → Bool
@@ -73,7 +70,7 @@ is_due a ts q stamp = is_some (reply a (taken_in ts) q stamp)
 abbrev pub AreTurns : Outfit → Bool → List OwnTurn → Type 0
 AreTurns a later [] = Unit {0}
 AreTurns a later (Tells e y ∷ ts) = AreTurns a later ts
-AreTurns a later (Orders p ∷ ts) = IsOrder a p × AreTurns a later ts
+AreTurns a later (Orders b p ∷ ts) = IsOrder a b p × AreTurns a later ts
 AreTurns a later (Passes b ∷ ts) = AreTurns a later ts
 AreTurns a later (Takes b q stamp ∷ ts) = IsRead b q × (stamp < 2 ^ 32) × AreTurns a (later || is_due a ts q stamp) ts
 AreTurns a later (Loses b q stamp ∷ ts) = IsRead b q × (stamp < 2 ^ 32) × (is_due a ts q stamp ≡ true) × (later ≡ false) × AreTurns a true ts
@@ -89,7 +86,7 @@ pub record IsOwnLog (a : Outfit) (s : ℕ) (ts : List OwnTurn) (h : History) (qs
 abbrev pub MissNone : List OwnTurn → Type 0
 MissNone [] = Unit {0}
 MissNone (Tells e y ∷ ts) = MissNone ts
-MissNone (Orders p ∷ ts) = MissNone ts
+MissNone (Orders b p ∷ ts) = MissNone ts
 MissNone (Passes b ∷ ts) = MissNone ts
 MissNone (Takes b q stamp ∷ ts) = MissNone ts
 MissNone (Loses b q stamp ∷ ts) = ⊥
@@ -98,7 +95,7 @@ MissNone (Loses b q stamp ∷ ts) = ⊥
 abbrev pub TakesAll : List OwnTurn → Type 0
 TakesAll [] = Unit {0}
 TakesAll (Tells e y ∷ ts) = TakesAll ts
-TakesAll (Orders p ∷ ts) = TakesAll ts
+TakesAll (Orders b p ∷ ts) = TakesAll ts
 TakesAll (Passes b ∷ ts) = (reading b ≡ None) × TakesAll ts
 TakesAll (Takes b q stamp ∷ ts) = TakesAll ts
 TakesAll (Loses b q stamp ∷ ts) = TakesAll ts

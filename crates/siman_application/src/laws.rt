@@ -29,8 +29,8 @@ pub fn requests_are_told_once()
 /// the events before it, and where no reply is missing, the states are those of the play. It holds
 /// in two cases: the application took every PDU that came, or no site and application used one
 /// request identifier for two orders. Of the replies that are due only the last may be missing. What
-/// the law asks of numbers is what their types say ([`Application::begin`](crate::Application::begin),
-/// [`siman_pdus::numbers_are_in_range`]).
+/// the station itself orders may be sent in any spelling. What the law asks of numbers is what their
+/// types say ([`Application::begin`](crate::Application::begin)).
 pub fn own_logs_stand()
     ensures answers { (a : Outfit) (s : ℕ) (ts : List OwnTurn) (h : History) (qs : List Pdu) → IsOwnLog a s ts h qs → IsClear a ts h → AnswersStand a h }
     ensures states { (a : Outfit) (s : ℕ) (ts : List OwnTurn) (h : History) (qs : List Pdu) → IsOwnLog a s ts h qs → IsClear a ts h → MissNone ts

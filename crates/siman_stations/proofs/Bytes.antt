@@ -33,7 +33,7 @@ reply_bytes a s qs b q stamp log own came range h all (Some p) e =
 turns_bytes : (a : Outfit) (s : ℕ) (later : Bool) (ts : List OwnTurn) → IsOutfitInRange a → AreTurns a later ts → SendsBytes (log_in a s ts)
 turns_bytes a s later [] own are = tt
 turns_bytes a s later (Tells e y ∷ ts) own are = turns_bytes a s later ts own are
-turns_bytes a s later (Orders p ∷ ts) own are = (text_is_bytes p are.0.ranges are.0.size, turns_bytes a s later ts own are.1)
+turns_bytes a s later (Orders b p ∷ ts) own are = (are.0.read.bytes, turns_bytes a s later ts own are.1)
 turns_bytes a s later (Passes b ∷ ts) own are = turns_bytes a s later ts own are
 turns_bytes a s later (Takes b q stamp ∷ ts) own are =
     reply_bytes a s (taken_in ts) b q stamp (log_in a s ts) own (taken_in_range a (later || is_due a ts q stamp) ts are.2)

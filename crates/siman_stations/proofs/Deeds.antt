@@ -12,8 +12,8 @@ use Rattle.siman_pdus.specs.Answers.{is_answer_to}
 use Rattle.siman_pdus.specs.Ranges.{IsInRange}
 use Rattle.siman_pdus.specs.Reading.{reading}
 use Rattle.siman_pdus.specs.Role.{is_request_body}
-use Rattle.siman_pdus.specs.Spelling.{carried, pdu_text}
-use Rattle.siman_pdus.proofs.Offered.{text_is_carried, read_in_range}
+use Rattle.siman_pdus.specs.Spelling.{pdu_text}
+use Rattle.siman_pdus.proofs.Offered.{read_in_range}
 use Rattle.exercise_model.specs.declared.cause.Cause.TheVariants.{WrongSender, ReusedIdentifier, NoRequest, WrongAnswer, ChangedAnswer, Impossible}
 use Rattle.exercise_model.specs.Cause.{first_cause, is_reused, is_changed_answer, is_impossible, send_cause, same_state}
 use Rattle.exercise_model.specs.Exchange.{is_answer_body, request_taken_up}
@@ -60,9 +60,8 @@ ours_reply a s qs b q stamp log own came range h ours (Some p) e = (
 ours_turns : (a : Outfit) (s : ℕ) (later : Bool) (ts : List OwnTurn) → IsOutfitInRange a → AreTurns a later ts → AreOurs a.exercise (log_in a s ts)
 ours_turns a s later [] own are = tt
 ours_turns a s later (Tells e y ∷ ts) own are = ours_turns a s later ts own are
-ours_turns a s later (Orders p ∷ ts) own are = (
-  λ q e. inl (subst (λ (x : Pdu). is_request_body x.body ≡ true) (read_meant a.exercise (pdu_text p) (carried p) q
-      (text_is_carried p are.0.ranges are.0.size) e) are.0.request),
+ours_turns a s later (Orders b p ∷ ts) own are = (
+  λ q e. inl (subst (λ (x : Pdu). is_request_body x.body ≡ true) (read_meant a.exercise b p q are.0.read.read e) are.0.request),
   ours_turns a s later ts own are.1,
 )
 ours_turns a s later (Passes b ∷ ts) own are = ours_turns a s later ts own are
@@ -153,7 +152,7 @@ told_turns a s h own later (Tells e y ∷ ts) are told clear on = (
   same = states_stand a s ts (log_in a s ts) (taken_in ts)
       (record { outfit = own; turns = any_later a later false ts told.1 are; log_is = refl; taken_is = refl })
       (clear_tail a ts h (log_in a s ts) on clear) told.1 e
-told_turns a s h own later (Orders p ∷ ts) are told clear on = told_turns a s h own later ts are.1 told clear on
+told_turns a s h own later (Orders b p ∷ ts) are told clear on = told_turns a s h own later ts are.1 told clear on
 told_turns a s h own later (Passes b ∷ ts) are told clear on =
     told_turns a s h own later ts are told (clear_passed a b ts h clear) (λ c g. on c (inr g))
 told_turns a s h own later (Takes b q stamp ∷ ts) are told clear on =

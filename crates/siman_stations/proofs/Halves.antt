@@ -11,7 +11,7 @@ use Rattle.siman_pdus.proofs.Offered.{text_is_read, zero_is_carried, read_in_ran
 use Rattle.exercise_model.specs.History.{History, Send, Get, Tell}
 use Rattle.siman_application.specs.Distinct.{with_request}
 use Rattle.siman_application.specs.Outfit.{Outfit}
-use Rattle.siman_application.specs.OwnLog.{OwnTurn, Tells, Orders, Passes, Takes, Loses, taken_in, sent_after, AreTurns, IsRead, IsOrder, MissNone, TakesAll}
+use Rattle.siman_application.specs.OwnLog.{OwnTurn, Tells, Orders, Passes, Takes, Loses, taken_in, sent_after, AreTurns, IsRead, MissNone, TakesAll}
 use Rattle.siman_application.specs.Play.{reply, reply_after, state_over}
 use Rattle.siman_application.specs.Ranges.{IsOutfitInRange}
 use Rattle.siman_application.proofs.Offered.{Each, taken_in_range}
@@ -26,7 +26,7 @@ use Rattle.siman_stations.specs.StationTurn.{stamp_of}
 use Rattle.siman_stations.specs.Sending.{IsOrderInRange, next_repeat}
 use Rattle.siman_stations.specs.Orders.{AreFit, IsOfLife, SendOwnOrders, ready_after}
 use Rattle.siman_stations.specs.Halves.{came_in, HalvesFollow}
-use Rattle.siman_stations.proofs.Orders.{stamp_within, fit_requests, IsOwnOrder, made_own, IsRepeat, repeat_is, repeat_own}
+use Rattle.siman_stations.proofs.Orders.{stamp_within, fit_requests, IsOwnRequest, text_is_order, IsOwnOrder, made_own, IsRepeat, repeat_is, repeat_own}
 use Rattle.siman_stations.proofs.Requests.{reply_answering, reply_own, reply_read, of_life_on, kept_on, made_life, repeated_life, sent_kept, answer_kept}
 use Rattle.siman_stations.proofs.Repeats.{repeat_told}
 
@@ -36,7 +36,7 @@ use Rattle.siman_stations.proofs.Repeats.{repeat_told}
 pub any_later : (a : Outfit) (one other : Bool) (ts : List OwnTurn) → MissNone ts → AreTurns a one ts → AreTurns a other ts
 any_later a one other [] none are = tt
 any_later a one other (Tells e y ∷ ts) none are = any_later a one other ts none are
-any_later a one other (Orders p ∷ ts) none are = (are.0, any_later a one other ts none are.1)
+any_later a one other (Orders b p ∷ ts) none are = (are.0, any_later a one other ts none are.1)
 any_later a one other (Passes b ∷ ts) none are = any_later a one other ts none are
 any_later a one other (Takes b q stamp ∷ ts) none are = (are.0, are.1, any_later a (one || _) (other || _) ts none are.2)
 any_later a one other (Loses b q stamp ∷ ts) none are = absurd none
@@ -187,13 +187,13 @@ halves_call s a ds k new log closed call is goes = record {
 -- an order is sent
 halves_send : {wants : Type 0} (s : ℕ) (a : Outfit) (ds : List Pdu) (k new : Book) (log : History) (closed : Type 0) (call : Call) (p : Pdu)
     → (is : HalvesFollow wants s a ds k log closed)
-    → Goes k is.calls call new → IsOrder a p → HasCarriedStatus p → IsOfLife k.settings (call ∷ is.calls) p → HalvesFollow wants s a ds new (Send s (pdu_text p) ∷ log) closed
+    → Goes k is.calls call new → IsOwnRequest a p → HasCarriedStatus p → IsOfLife k.settings (call ∷ is.calls) p → HalvesFollow wants s a ds new (Send s (pdu_text p) ∷ log) closed
 halves_send s a ds k new log closed call p is goes order status of = record {
-  turns = Orders p ∷ is.turns;
+  turns = Orders (pdu_text p) p ∷ is.turns;
   calls = call ∷ is.calls;
   own_log = record {
     outfit = is.own_log.outfit;
-    turns = (order, is.own_log.turns);
+    turns = (text_is_order a p order status, is.own_log.turns);
     log_is = ap (λ (l : History). Send s (pdu_text p) ∷ l) is.own_log.log_is;
     taken_is = refl;
   };

@@ -1,5 +1,5 @@
 -- The orders of a station: as they are made, over every list of calls, and as they are sent once more.
-use Rattle.std.proofs.Common.{◌≡◌, ℕ, ◌^◌, ◌<◌, List, [], ◌∷◌, refl, ap, sym, ◌∙◌, subst, arith}
+use Rattle.std.proofs.Common.{◌≡◌, ℕ, ◌^◌, ◌<◌, ◌≤◌, List, [], ◌∷◌, refl, ap, sym, ◌∙◌, subst, arith}
 use Rattle.std.specs.Prelude.{Bool, true, false, ◌==◌, nat_lt, nat_le, Option, Some, None, option_map, option_and_then, if◌then◌else◌}
 use Rattle.std.proofs.lemmas.Bool.{leb-true, ltb-true, eqb-true}
 use Rattle.dis_records.specs.declared.header.TheConstants.{LARGEST_DATAGRAM}
@@ -8,7 +8,8 @@ use Rattle.siman_pdus.specs.declared.pdu.Body.TheVariants.{CreateEntity, RemoveE
 use Rattle.siman_pdus.specs.declared.pdu.Pdu.{Pdu}
 use Rattle.siman_pdus.specs.Ranges.{IsBodyInRange, IsInRange}
 use Rattle.siman_pdus.specs.Role.{is_request_body}
-use Rattle.siman_pdus.specs.Spelling.{pdu_size}
+use Rattle.siman_pdus.specs.Spelling.{HasCarriedStatus, pdu_size, pdu_text}
+use Rattle.siman_pdus.proofs.Offered.{text_is_bytes, text_is_read}
 use Rattle.dis_records.specs.Address.{Pair}
 use Rattle.exercise_model.specs.Place.{first_below}
 use Rattle.siman_application.specs.Outfit.{Outfit}
@@ -58,9 +59,24 @@ numbered_in_range m n body h r = r
 pub order_range : (settings : Settings) (id : ℕ) (order : Order) (stamp : ℕ) → IsInRange (order_pdu settings id order stamp) → IsOrderInRange order
 order_range settings id order stamp is = record { target = is.target; body = numbered_in_range id 0 order.body (omega arith) is.body }
 
+-- a request of the exercise, its numbers in their ranges, of at most 8192 bytes
+pub record IsOwnRequest (a : Outfit) (p : Pdu) : Type 0 where
+  pub exercise : p.exercise ≡ a.exercise
+  pub request : is_request_body p.body ≡ true
+  pub ranges : IsInRange p
+  pub size : pdu_size p ≤ LARGEST_DATAGRAM
+
+-- its text is an order
+pub text_is_order : (a : Outfit) (p : Pdu) → IsOwnRequest a p → HasCarriedStatus p → IsOrder a (pdu_text p) p
+text_is_order a p is status = record {
+  exercise = is.exercise;
+  request = is.request;
+  read = record { bytes = text_is_bytes p is.ranges is.size; read = text_is_read p is.ranges status is.size };
+}
+
 -- an order of a station comes from its manager half
 pub record IsOwnOrder (a : Outfit) (st : Settings) (p : Pdu) : Type 0 where
-  pub order : IsOrder a p
+  pub order : IsOwnRequest a p
   pub origin : p.origin ≡ manager_id st
   pub status : p.status ≡ 0
 

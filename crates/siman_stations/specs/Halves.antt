@@ -21,7 +21,7 @@ came_in (Ticked now stamp ∷ calls) = came_in calls
 abbrev pub heard_in : List OwnTurn → List Pdu
 heard_in [] = []
 heard_in (Tells e y ∷ ts) = heard_in ts
-heard_in (Orders p ∷ ts) = heard_in ts
+heard_in (Orders b p ∷ ts) = heard_in ts
 heard_in (Passes b ∷ ts) = heard_in ts
 heard_in (Takes b q stamp ∷ ts) = q ∷ heard_in ts
 heard_in (Loses b q stamp ∷ ts) = heard_in ts
@@ -30,7 +30,7 @@ heard_in (Loses b q stamp ∷ ts) = heard_in ts
 abbrev pub TellsOwn : Outfit → List OwnTurn → Type 0
 TellsOwn a [] = Unit {0}
 TellsOwn a (Tells e y ∷ ts) = (y ≡ state_over a (distinct a (taken_in ts)) e) × MissNone ts × TellsOwn a ts
-TellsOwn a (Orders p ∷ ts) = TellsOwn a ts
+TellsOwn a (Orders b p ∷ ts) = TellsOwn a ts
 TellsOwn a (Passes b ∷ ts) = TellsOwn a ts
 TellsOwn a (Takes b q stamp ∷ ts) = TellsOwn a ts
 TellsOwn a (Loses b q stamp ∷ ts) = TellsOwn a ts

@@ -1,22 +1,20 @@
 //! What the law of own logs asks of a caller is there without a look at anything.
 
-ghost use Rattle.std.specs.Prelude.{◌≡◌, ◌≤◌, ◌∷◌, [], true, Some, IfOk};
+ghost use Rattle.std.specs.Prelude.{◌≡◌, ◌∷◌, [], true, Some, IfOk};
 ghost use Rattle.siman_pdus.specs.declared.pdu.Pdu.{Pdu};
 ghost use Rattle.siman_pdus.specs.Reading.{reading};
 ghost use Rattle.siman_pdus.specs.Role.{is_request_body};
-ghost use Rattle.siman_pdus.specs.Spelling.{pdu_size};
 ghost use Rattle.siman_application.specs.OwnLog.{Orders, Takes, log_in, AnswersStand};
 
 use crate::applications::station;
 use dis_records::EntityState;
 use exercise_model::Station;
 use siman_application::{AppFault, Application, own_logs_stand};
-use siman_pdus::{Pdu, decode, numbers_are_in_range};
 use std::alloc::Global;
 
-/// A Start/Resume of exercise 1 from 1:1:0 to 2:3:7, under 1.
+/// A Start/Resume of exercise 1 from 1:1:0 to 2:3:7, under 1, in a spelling whose padding is not zero.
 const START: [u8; 44] = [
-    7, 1, 13, 5, 0, 0, 0, 0, 0, 44, 0, 0, 0, 1, 0, 1, 0, 0, 0, 2, 0, 3, 0, 7, 0, 0, 0, 0, 0, 0, 0,
+    7, 1, 13, 5, 0, 0, 0, 0, 0, 44, 0, 9, 0, 1, 0, 1, 0, 0, 0, 2, 0, 3, 0, 7, 0, 0, 0, 0, 0, 0, 0,
     0, 0, 0, 0, 0, 0, 0, 0, 0, 0, 0, 0, 1,
 ];
 
@@ -25,20 +23,19 @@ const CREATE: [u8; 28] = [
     7, 1, 11, 5, 0, 0, 0, 0, 0, 28, 0, 0, 0, 1, 0, 1, 0, 0, 0, 2, 0, 3, 0, 7, 0, 0, 0, 1,
 ];
 
-/// An application in whose log of two turns each answer stands: an order is sent, and a request is
-/// taken and answered at once.
+/// An application in whose log of two turns each answer stands: an order is sent, in whichever of its
+/// spellings, and a request is taken and answered at once.
 fn begin_to_answer(
     alloc: Global,
     exercise: u8,
     station: &Station,
-    order: &Pdu,
+    order: &[u8],
     request: &[u8],
     stamp: u32,
 ) -> Result<Application, AppFault>
-    ensures { IfOk result (λ app. order.now.exercise ≡ exercise → is_request_body order.now.body ≡ true → pdu_size order.now ≤ 8192
-        → (q : Pdu) → reading request.now ≡ Some q → AnswersStand app.outfit (log_in app.outfit 0 (Takes request.now q stamp ∷ Orders order.now ∷ []))) }
+    ensures { IfOk result (λ app. (o : Pdu) → reading order.now ≡ Some o → o.exercise ≡ exercise → is_request_body o.body ≡ true
+        → (q : Pdu) → reading request.now ≡ Some q → AnswersStand app.outfit (log_in app.outfit 0 (Takes request.now q stamp ∷ Orders order.now o ∷ []))) }
 {
-    numbers_are_in_range(order);
     own_logs_stand();
     Application::begin(alloc, exercise, station, &[], Vec::new(alloc), &[])
 }
@@ -49,10 +46,7 @@ fn is_absent(alloc: Global) -> bool {
     let Some(station) = station(alloc) else {
         return false;
     };
-    let Ok(order) = decode(alloc, &START) else {
-        return false;
-    };
-    match begin_to_answer(alloc, 1, &station, &order, &CREATE, 0) {
+    match begin_to_answer(alloc, 1, &station, &START, &CREATE, 0) {
         Ok(application) => application.state(7) == EntityState::Absent,
         Err(_) => false,
     }

@@ -11,6 +11,11 @@ the peak memory in MiB, and how each grows: the exponent from the size before, s
 some 16 MiB is not seen: so much this script has itself; and times of a few milliseconds are rough. A command that takes
 longer than --seconds is not timed at the sizes above. The built program is taken as it is: `./siman --build` proves
 and builds it first. It is no part of the gate.
+
+With --judge, `check` and `audit` may grow with an exponent of 1.4 at most, in time and in memory; they may take 5 times
+what the plain program takes, where that is there; and no longer than --seconds. What is more is told on standard error,
+and the status is 1. All of it is judged from 0.05 seconds and 32 MiB on, which small sizes do not come to: below that
+a measure says little.
 """
 import argparse
 import math
@@ -29,6 +34,9 @@ PROGRAM = TOP / "crates" / "siman" / "out" / "siman"
 PLAIN = TOP / "tools" / "plain" / "plain.rs"
 # What the datagrams leave room for in 268,435,456 bytes.
 MOST = {"large": 15}
+# What is judged: the largest exponent and how many times the plain program's time, from so many seconds and MiB on.
+MOST_GROWTH, MOST_TIMES, LEAST_JUDGED = 1.4, 5, (0.05, 32)
+JUDGED = ("check", "audit")
 
 
 def find_rustc():
@@ -77,11 +85,38 @@ def timed(words, out, given):
     return runs[0][0], min(used[1] for used in runs), min(used[2] for used in runs)
 
 
+def exponent(now, before, doublings, least=0.005):
+    """The exponent of a growth over so many doublings of the entries, or None where the first is too small to tell."""
+    if now is None or before is None or before < least:
+        return None
+    return math.log2(now / before) / doublings
+
+
 def growth(now, before, doublings):
-    """The exponent of a growth over so many doublings of the entries, where both times are large enough to tell."""
-    if now is None or before is None or before < 0.005:
-        return "   "
-    return f"{math.log2(now / before) / doublings:.1f}"
+    """The same, as it is printed."""
+    found = exponent(now, before, doublings)
+    return "   " if found is None else f"{found:.1f}"
+
+
+def excesses(name, taken, before, step):
+    """What of a command is more than it may be: what it is, and how much."""
+    for what, now, last, least in zip(("time", "memory"), taken[name], before.get(name, (None, None)), LEAST_JUDGED):
+        found = exponent(now, last, step, least)
+        if found is not None and found > MOST_GROWTH:
+            yield f"the {what} of {name} grows by {found:.2f}"
+    own, (plain, _) = taken[name][0], taken.get("plain " + name, (0, 0))
+    if plain >= LEAST_JUDGED[0] and own > MOST_TIMES * plain:
+        yield f"{name} takes {own / plain:.1f} times the plain program's time"
+
+
+def judge(kind, power, taken, before, given, slow):
+    """Tells what of siman's own commands is more than it may be."""
+    told = [f"{name} takes more than {given.seconds} seconds" for name in JUDGED if name in slow]
+    for name in set(JUDGED) - slow:
+        told += excesses(name, taken, before, given.step)
+    for line in told:
+        print(f"growth: {kind} 2^{power}: {line}", file=sys.stderr)
+    given.wrong += len(told)
 
 
 def commands_of(plain, folder, given):
@@ -170,6 +205,7 @@ def words_given():
     ]:
         parser.add_argument(f"--{word}", metavar="N", type=int, default=usual, help=f"{what}; {usual} without the word")
     parser.add_argument("--program", metavar="FILE", default=PROGRAM, help="another built program in place of siman's")
+    parser.add_argument("--judge", action="store_true", help=f"status 1 where it grows by more than {MOST_GROWTH}")
     given = parser.parse_args()
     unknown = [kind for kind in given.kinds if kind not in kinds.KINDS]
     if unknown:
@@ -194,6 +230,8 @@ def main():
             for power in range(given.least, min(given.most, MOST.get(kind, 20)) + 1, given.step):
                 taken = measure(kind, power, plain, folder, given, slow)
                 print(line_of(kind, power, taken, before, given.step, columns), flush=True)
+                if given.judge:
+                    judge(kind, power, taken, before, given, slow)
                 before = taken
     sys.exit(1 if given.wrong else 0)
 

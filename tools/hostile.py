@@ -53,7 +53,9 @@ FULL = b"""push of one entry more: count
 told of one entry more: count
 finish: 6291478 bytes
 read: 1048576 entries
-read with one entry more: count at 6291473
+seen: 1048576 entries
+read: count at 6291473
+seen: count at 6291473
 recording: read
 certificate: read
 output: write

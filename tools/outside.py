@@ -19,7 +19,9 @@ from pathlib import Path
 
 sys.dont_write_bytecode = True
 
-from cases import audits, converts, datagrams, files, histories, lives, memory, saving, scripts, streams, words, worlds
+from cases import (
+    audits, converts, datagrams, files, histories, lives, memory, saving, scripts, sizes, sockets, streams, words, worlds,
+)  # fmt: skip
 from cases.examples import TOP, made_examples
 from cases.trials import Trials, described
 
@@ -41,7 +43,10 @@ def try_program(program, folder):
     tried = wrong = 0
     trials = Trials(str(program), folder)
     examples = made_examples(folder)
-    for part in (words, datagrams, files, histories, audits, converts, scripts, worlds, lives, saving, streams, memory):
+    parts = (
+        words, datagrams, files, histories, audits, converts, scripts, worlds, lives, sockets, sizes, saving, streams, memory,
+    )  # fmt: skip
+    for part in parts:
         part.try_all(trials, examples)
     for verdict in trials.verdicts():
         tried += 1

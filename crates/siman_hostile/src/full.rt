@@ -3,7 +3,9 @@
 use dis_records::EntityState;
 use exercise_check::CertificateFault;
 use exercise_model::{ExerciseLog, LogEntry, LogFault, MOST_ENTRIES, Recording, Station};
-use exercise_recording::{RecordingFault, RecordingWriter, WriterFault, read_recording};
+use exercise_recording::{
+    RecordingFault, RecordingView, RecordingWriter, WriterFault, read_recording,
+};
 use siman_console::FilesFault;
 use siman_refusals::{station, unmade};
 use std::alloc::{AllocError, Global};
@@ -73,6 +75,23 @@ fn read(alloc: Global, file: &[u8]) -> Result<usize, RecordingFault> {
     Ok(log.entry_count())
 }
 
+/// The same of a file that is seen in place.
+fn see(alloc: Global, file: &[u8]) -> Result<usize, RecordingFault> {
+    let log = RecordingView::over(alloc, file)?;
+    Ok(log.entry_count())
+}
+
+/// Prints what is read of a file, and seen of it in place: how many entries, or its fault.
+fn put_count<W: Write>(alloc: Global, file: &[u8], out: &mut W) -> io::Result<()> {
+    for (how, count) in [("read", read(alloc, file)), ("seen", see(alloc, file))] {
+        match count {
+            Ok(count) => writeln!(out, "{how}: {count} entries")?,
+            Err(fault) => writeln!(out, "{how}: {fault}")?,
+        }
+    }
+    Ok(())
+}
+
 /// One entry more before the end of the file, and the end behind it.
 fn add_entry(file: &mut Vec<u8>) -> Result<(), AllocError> {
     let end = file.len().saturating_sub(5);
@@ -80,7 +99,8 @@ fn add_entry(file: &mut Vec<u8>) -> Result<(), AllocError> {
     file.extend_from_slice(&[3, 0, 0, 0, 7, 0, 0, 0, 16, 0, 1])
 }
 
-/// Fills a file by a writer, and prints what is answered to one entry more, and what is read of it.
+/// Fills a file by a writer, and prints what is answered to one entry more, and what is read of it, as
+/// it is and with one entry more.
 fn put_file<W: Write>(alloc: Global, file: &mut Vec<u8>, out: &mut W) -> io::Result<()> {
     let (more, end) = told(&stations(alloc)?, file)?;
     if let Err(fault) = more {
@@ -89,14 +109,9 @@ fn put_file<W: Write>(alloc: Global, file: &mut Vec<u8>, out: &mut W) -> io::Res
     if end.is_ok() {
         writeln!(out, "finish: {} bytes", file.len())?;
     }
-    if let Ok(count) = read(alloc, file) {
-        writeln!(out, "read: {count} entries")?;
-    }
+    put_count(alloc, file, out)?;
     add_entry(file)?;
-    if let Err(fault) = read(alloc, file) {
-        writeln!(out, "read with one entry more: {fault}")?;
-    }
-    Ok(())
+    put_count(alloc, file, out)
 }
 
 /// Fills a recording, and prints what is answered to one entry more, and the texts of what

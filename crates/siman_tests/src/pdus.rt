@@ -1,7 +1,9 @@
-//! Roles, request identifiers and answers, of literal datagrams. What else they say stands in the
-//! cases of `siman_cases`.
+//! Roles, request identifiers and answers, of literal datagrams, and one that is written. What else
+//! they say stands in the cases of `siman_cases`.
 
-use siman_pdus::{Role, answers, request_id, role, view};
+use dis_records::Version;
+use siman_pdus::{Role, answers, decode, encode, request_id, role, view};
+use std::alloc::Global;
 
 /// Site, application and entity number.
 type Id = [u8; 6];
@@ -92,4 +94,31 @@ fn an_answer_fits_its_request(rt: HostRuntime) {
         assert!(rt; is_answered(&answer, &removal(target)) == Some(fits));
     }
     assert!(rt; is_answered(&removal(ENTITY), &removal(ENTITY)) == Some(false));
+}
+
+/// The removal of entity 7 in protocol version 6, with a status, as it is written.
+fn written(alloc: Global, status: u8) -> Option<Vec<u8>> {
+    let mut pdu = decode(alloc, &removal(ENTITY)).ok()?;
+    pdu.version = Version::V6;
+    pdu.status = status;
+    let mut out = Vec::new(alloc);
+    encode(&pdu, &mut out).ok()?;
+    Some(out)
+}
+
+/// Whether it is written as these bytes.
+fn is_written(alloc: Global, status: u8, bytes: &[u8]) -> bool {
+    match written(alloc, status) {
+        Some(out) => out.as_slice() == bytes,
+        None => false,
+    }
+}
+
+#[test]
+fn version_6_is_written_without_a_status(rt: HostRuntime) {
+    let bytes = [
+        6, 1, 12, 5, 0, 0, 0, 0, 0, 28, 0, 0, 0, 1, 0, 1, 0, 0, 0, 2, 0, 3, 0, 7, 0, 0, 0, 1,
+    ];
+    assert!(rt; is_written(rt.alloc(), 0, &bytes));
+    assert!(rt; is_written(rt.alloc(), 9, &bytes));
 }

@@ -1,0 +1,144 @@
+"""The sockets of `live`: where they are bound, how many there are, that none waits, and calls of them that fail."""
+import os
+import subprocess
+import sys
+import threading
+import time
+
+import pages
+from cases import texts
+from cases.examples import TOP, WORKED_SCRIPT
+from cases.lived import Create, Exchanges, script_of, station_at
+from cases.trials import PATIENCE, Verdict
+from pages import Outcome, Recording, Station
+
+LOOPBACK = "0100007F"  # 127.0.0.1, as /proc/net/udp writes it
+NO_WAITING = 0o4000  # O_NONBLOCK among the flags of a descriptor
+TWO = [Station(1, 1, []), Station(2, 3, [])]
+FAILING = TOP / "tools" / "failing_calls.py"
+NO_FILTER = 125
+# The first exchange of the worked script, and what its manager sends if nothing ever comes.
+ORDER = texts.pdu(11, (1, 1, 0), (2, 3, 7), request=1)
+ABLE = texts.pdu(15, (2, 3, 7), (1, 1, 0), flag=1, response=1, request=1)
+AGAIN = texts.pdu(11, (1, 1, 0), (2, 3, 7), stamp=20, request=1)
+START = texts.pdu(13, (1, 1, 0), (2, 3, 7), stamp=20, request=2)
+STOP = texts.pdu(14, (1, 1, 0), (2, 3, 7), stamp=20, request=3)
+
+
+def waits_for_file(process):
+    """Waits until a program is asleep for a while: at the pipe that it is to write, which nobody reads so far."""
+    asleep, ends = 0, time.monotonic() + PATIENCE
+    while asleep < 10 and process.poll() is None and time.monotonic() < ends:
+        with open(f"/proc/{process.pid}/stat", encoding="ascii", errors="replace") as file:
+            state = file.read().rpartition(")")[2].split()[0]
+        asleep = asleep + 1 if state == "S" else 0
+        time.sleep(0.02)
+
+
+def sockets_of(process):
+    """The sockets of a program by their inodes, each with whether its calls return at once."""
+    found, folder = {}, f"/proc/{process.pid}"
+    for number in os.listdir(f"{folder}/fd"):
+        leads = os.readlink(f"{folder}/fd/{number}")
+        if leads.startswith("socket:["):
+            with open(f"{folder}/fdinfo/{number}", encoding="ascii") as file:
+                flags = next(int(line.split()[1], 8) for line in file if line.startswith("flags:"))
+            found[leads[8:-1]] = bool(flags & NO_WAITING)
+    return found
+
+
+def bound(process):
+    """How many sockets a program has; at which addresses of UDP, at how many ports; and whether none of them waits."""
+    sockets = sockets_of(process)
+    with open(f"/proc/{process.pid}/net/udp", encoding="ascii") as file:
+        rows = [line.split() for line in file.readlines()[1:]]
+    places = [row[1].split(":") for row in rows if row[9] in sockets]
+    return len(sockets), {address for address, _ in places}, len({port for _, port in places}), all(sockets.values())
+
+
+def look(trials, script, name):
+    """What `live` has while it waits for a reader of its file, which is a pipe; its outcome; and what it wrote."""
+    pipe = trials.folder / name
+    os.mkfifo(pipe)
+    words = [trials.program, "live", script, name]
+    process = subprocess.Popen(words, cwd=trials.folder, stdout=subprocess.PIPE, stderr=subprocess.PIPE)
+    waits_for_file(process)
+    seen = bound(process) if process.poll() is None else None
+    wrote = []
+    reads = threading.Thread(target=lambda: wrote.append(pipe.read_bytes()), daemon=True)
+    reads.start()
+    try:
+        out, errors = process.communicate(timeout=PATIENCE)
+        status = process.returncode
+    except subprocess.TimeoutExpired:
+        process.kill()
+        process.communicate()
+        status, out, errors = f"none in {PATIENCE} seconds", b"", b""
+    reads.join(PATIENCE)
+    return seen, Outcome(status, out, errors), b"".join(wrote)
+
+
+def try_bound(trials):
+    """Each station has one socket of the loopback, at a port of its own, whose calls do not wait."""
+    if not os.path.exists("/proc/self/net/udp"):
+        trials.skipped.append("where sockets are bound: no /proc/self/net/udp")
+        return
+    for count in (2, 3, 100):
+        moves = [Create(0, station_at(count - 1), 7)]
+        script, lived = trials.file(script_of(count, moves)), Exchanges(count).over_lines(moves)
+        usual = Outcome(0, b"live records=%d\n" % (2 * count), b"")
+
+        def tried(count=count, script=script, lived=lived, usual=usual):
+            seen, came, wrote = look(trials, script, f"pipe.{count}")
+            return [
+                Verdict(f"the sockets of {count} stations", ((count, {LOOPBACK}, count, True),), seen),
+                Verdict(f"live of {count} stations into a pipe", (usual,), came),
+                Verdict(f"what live of {count} stations wrote into a pipe", (True,), wrote == lived),
+            ]
+
+        trials.tasks.append(tried)
+
+
+def recording(entries, is_whole=False):
+    """What is left of the recording of two stations with these entries."""
+    text = texts.recording_text(Recording(1, TWO, entries))
+    return text if is_whole else text[:-5]
+
+
+def try_call(trials, call, accepted, left):
+    """The worked script, where calls of the sockets fail; and what is left of its recording."""
+    name = f"failing.{'.'.join(call)}.dsrc"
+    words = [str(FAILING), *call, trials.program, "live", WORKED_SCRIPT, name]
+
+    def tried():
+        how = {"cwd": trials.folder, "capture_output": True, "timeout": PATIENCE}
+        done = subprocess.run([sys.executable, *words], check=False, **how)
+        if done.returncode == NO_FILTER:
+            trials.skipped.append(f"calls of sockets that fail ({' '.join(call)}): no filter of calls")
+            return []
+        path, told = trials.folder / name, f"live where {' '.join(call)}"
+        came = Outcome(done.returncode, done.stdout, done.stderr)
+        same = path.exists() and path.read_bytes() == left
+        return [Verdict(told, (accepted,), came), Verdict(f"{told}, what it left", (True,), same)]
+
+    trials.tasks.append(tried)
+
+
+def try_calls(trials):
+    """Sends and receives that fail end it, after what was recorded before; a send of no byte is one that failed."""
+    failed = pages.fault("live: line")
+    order, answer = [texts.sent(0, ORDER)], [texts.received(1, ORDER), texts.sent(1, ABLE)]
+    for error in ("EPERM", "ENOBUFS", "none"):
+        try_call(trials, ("sendto", "28", error), failed, recording(order))
+        try_call(trials, ("sendto", "32", error), failed, recording(order + answer))
+    for error in ("ENOMEM", "EBADF"):
+        try_call(trials, ("recvfrom", "-", error), failed, recording(order))
+    # What nothing comes of is repeated, and entity 7 is never created.
+    alone = [*order, *(texts.sent(0, datagram, 10) for datagram in (AGAIN, START, STOP))]
+    alone = recording([*alone, texts.told(1, 7, pages.ABSENT)], is_whole=True)
+    try_call(trials, ("recvfrom", "-", "EAGAIN"), Outcome(0, b"live records=5\n", b""), alone)
+
+
+def try_all(trials, _):
+    try_bound(trials)
+    try_calls(trials)

@@ -1,5 +1,5 @@
--- What was fetched of a reader, and that what is made of it depends on no more.
-use Rattle.std.proofs.Common.{◌≡◌, ℕ, ◌+◌, ◌<◌, List, [], Option, Some, None, Err, nat_lt, length, IfSome, if◌then◌else◌, arith, refl, sym, ap, subst, ◌∙◌, inl, inr, take_all}
+-- What was fetched of a reader, that what is made of it depends on no more, and what is said where there was a fault.
+use Rattle.std.proofs.Common.{◌≡◌, ℕ, ◌+◌, ◌<◌, List, [], Option, Some, None, Err, nat_lt, length, IfSome, if◌then◌else◌, arith, refl, sym, ap, subst, ◌∙◌, inl, inr, take_all, ◌⊎◌, Result, Ok}
 use Rattle.std.proofs.lemmas.Bool.{cases_lt}
 use Rattle.std.proofs.lemmas.Bool.Decides.{nat_tests}
 use Rattle.std.proofs.lemmas.List.{length-take-le}
@@ -7,12 +7,13 @@ use Rattle.siman_scripts.specs.declared.script.TheConstants.{LARGEST_SCRIPT}
 use Rattle.siman_scripts.specs.declared.script_fault.ScriptFault.TheVariants.{BadLine}
 use Rattle.siman_scripts.specs.Script.{script_at}
 use Rattle.byte_files.specs.Fetching.{fetched}
-use Rattle.siman_console.specs.Input.{Has}
+use Rattle.siman_console.specs.Outside.{Has}
 use Rattle.siman_console.specs.World.{Scripted}
 use Rattle.siman_console.specs.Check.{Recorded}
 use Rattle.byte_files.specs.Fields.{Fails}
 use Rattle.exercise_recording.specs.declared.format_fault.RecordingFault.{RecordingFault}
 use Rattle.exercise_recording.specs.Reading.{recording_at, format_of}
+use Rattle.std.specs.Result.{IsErrAnd}
 
 pub over : {X : Type 0} (m n : ℕ) (x y : X) → m < n → (if nat_lt m n then x else y) ≡ x
 over m n x y h = grind (arith, nat_tests)
@@ -55,3 +56,12 @@ so P Q known follows said = (said.0, said.1, follows said.0 said.2)
 -- Where nothing was fetched, no fault of the format is told.
 pub unfetched_recording : (fault : RecordingFault) (recorded : Recorded) → format_of fault ≡ None → Fails (format_of fault) recorded
 unfetched_recording fault recorded none = rw none tt
+
+pub at_fault : {X E : Type 0} (P : Result X E → Type 0) (fault : E) (result : Result X E) → IsErrAnd result (λ e. e ≡ fault) → P (Err fault) → P result
+at_fault P fault (Ok x) passed holds = absurd passed
+at_fault P fault (Err e) passed holds = subst (λ e. P (Err e)) (sym passed) holds
+
+-- and what holds of two faults, of one that is either
+pub at_either : {E : Type 0} (P : E → Type 0) (fault one two : E) → (fault ≡ one) ⊎ (fault ≡ two) → P one → P two → P fault
+at_either P fault one two (inl same) first second = subst P (sym same) first
+at_either P fault one two (inr same) first second = subst P (sym same) second

@@ -1,5 +1,5 @@
 -- No line has a key twice, whatever the kind of its PDU.
-use Rattle.std.proofs.Common.{◌≡◌, ℕ, true, List, ◌∷◌, ◌++◌, codes, Option, Some, None, refl}
+use Rattle.std.proofs.Common.{◌≡◌, ℕ, true, List, [], ◌∷◌, ◌++◌, codes, Option, Some, None, refl}
 use Rattle.siman_pdus.specs.declared.pdu.Body.{Body}
 use Rattle.siman_pdus.specs.declared.pdu.Body.TheVariants.{CreateEntity, RemoveEntity, StartResume, StopFreeze, Acknowledge, ActionRequest, ActionResponse, DataQuery, SetData, DataPdu, EventReport, Comment}
 use Rattle.siman_pdus.specs.declared.pdu.Pdu.{Pdu}
@@ -14,46 +14,33 @@ use Rattle.siman_console.specs.Show.{done_fields, meant_fields, entry_line}
 abbrev fields_with : Pdu → Body → List Field
 fields_with pdu body = header_fields pdu ++ identifier_field (codes "from") pdu.origin ∷ identifier_field (codes "to") pdu.target ∷ body_fields body
 
--- behind a head, a body brings no key that is there
-head_of : (pdu : Pdu) (body : Body) → has_no_key_twice (opened_line (codes "pdu") (kind_field pdu) (fields_with pdu body)) ≡ true
-head_of pdu (CreateEntity request) = refl
-head_of pdu (RemoveEntity request) = refl
-head_of pdu (StartResume real sim request) = refl
-head_of pdu (StopFreeze real reason behaviour request) = refl
-head_of pdu (Acknowledge flag response request) = refl
-head_of pdu (ActionRequest request action datums) = refl
-head_of pdu (ActionResponse request status datums) = refl
-head_of pdu (DataQuery request interval ids) = refl
-head_of pdu (SetData request datums) = refl
-head_of pdu (DataPdu request datums) = refl
-head_of pdu (EventReport event datums) = refl
-head_of pdu (Comment datums) = refl
-
-pub head_apart : (pdu : Pdu) → has_no_key_twice (head_line pdu) ≡ true
-head_apart pdu = head_of pdu pdu.body
-
 -- the line of an entry with these fields of a datagram
 abbrev meant_line : ℕ → List ℕ → ℕ → ℕ → List Field → Line
 meant_line i did s stamp meant = opened_line (codes "entry") (Bare (codes "entry") (Number i)) (done_fields did s stamp ++ meant)
 
-pdu_of : (i : ℕ) (did : List ℕ) (s stamp : ℕ) (pdu : Pdu) (body : Body)
-    → has_no_key_twice (meant_line i did s stamp (kind_field pdu ∷ (fields_with pdu body))) ≡ true
-pdu_of i did s stamp pdu (CreateEntity request) = refl
-pdu_of i did s stamp pdu (RemoveEntity request) = refl
-pdu_of i did s stamp pdu (StartResume real sim request) = refl
-pdu_of i did s stamp pdu (StopFreeze real reason behaviour request) = refl
-pdu_of i did s stamp pdu (Acknowledge flag response request) = refl
-pdu_of i did s stamp pdu (ActionRequest request action datums) = refl
-pdu_of i did s stamp pdu (ActionResponse request status datums) = refl
-pdu_of i did s stamp pdu (DataQuery request interval ids) = refl
-pdu_of i did s stamp pdu (SetData request datums) = refl
-pdu_of i did s stamp pdu (DataPdu request datums) = refl
-pdu_of i did s stamp pdu (EventReport event datums) = refl
-pdu_of i did s stamp pdu (Comment datums) = refl
+-- a body brings no key that is there, behind a head and behind what was done with the datagram
+body_apart : (i : ℕ) (did : List ℕ) (s stamp : ℕ) (pdu : Pdu) (body : Body)
+    → (has_no_key_twice (opened_line (codes "pdu") (kind_field pdu) (fields_with pdu body)) ≡ true)
+    × (has_no_key_twice (meant_line i did s stamp (kind_field pdu ∷ (fields_with pdu body))) ≡ true)
+body_apart i did s stamp pdu (CreateEntity request) = (refl, refl)
+body_apart i did s stamp pdu (RemoveEntity request) = (refl, refl)
+body_apart i did s stamp pdu (StartResume real sim request) = (refl, refl)
+body_apart i did s stamp pdu (StopFreeze real reason behaviour request) = (refl, refl)
+body_apart i did s stamp pdu (Acknowledge flag response request) = (refl, refl)
+body_apart i did s stamp pdu (ActionRequest request action datums) = (refl, refl)
+body_apart i did s stamp pdu (ActionResponse request status datums) = (refl, refl)
+body_apart i did s stamp pdu (DataQuery request interval ids) = (refl, refl)
+body_apart i did s stamp pdu (SetData request datums) = (refl, refl)
+body_apart i did s stamp pdu (DataPdu request datums) = (refl, refl)
+body_apart i did s stamp pdu (EventReport event datums) = (refl, refl)
+body_apart i did s stamp pdu (Comment datums) = (refl, refl)
+
+pub head_apart : (pdu : Pdu) → has_no_key_twice (head_line pdu) ≡ true
+head_apart pdu = (body_apart 0 [] 0 0 pdu pdu.body).0
 
 meant_apart : (i : ℕ) (did : List ℕ) (s stamp : ℕ) (b : List ℕ) (meant : Option Pdu) → has_no_key_twice (meant_line i did s stamp (meant_fields b meant)) ≡ true
 meant_apart i did s stamp b None = refl
-meant_apart i did s stamp b (Some pdu) = pdu_of i did s stamp pdu pdu.body
+meant_apart i did s stamp b (Some pdu) = (body_apart i did s stamp pdu pdu.body).1
 
 pub entry_apart : (x i : ℕ) (entry : Entry) → has_no_key_twice (entry_line x i entry) ≡ true
 entry_apart x i (Sent s stamp b) = meant_apart i (codes "sent") s stamp b (meaning x b)

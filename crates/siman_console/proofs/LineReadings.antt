@@ -1,8 +1,8 @@
 -- How a line is read, byte by byte.
-use Rattle.std.proofs.Common.{◌≡◌, ◌≢◌, ℕ, ◌+◌, ◌<◌, ◌≤◌, ◌==◌, min, List, [], ◌∷◌, ◌++◌, length, take, set, get_or, if◌then◌else◌, Option, Some, None, refl, sym, ap, ◌∙◌, subst, arith, append-nil, length-append, length-set, length-take-le, take_all}
+use Rattle.std.proofs.Common.{◌≡◌, ◌≢◌, ℕ, ◌+◌, ◌<◌, ◌≤◌, ◌==◌, min, List, [], ◌∷◌, ◌++◌, length, take, set, get_or, if◌then◌else◌, Option, Some, None, refl, sym, ap, ◌∙◌, arith, append-nil, length-append, length-set, length-take-le, take_all}
 use Rattle.std.specs.List.{onto_first}
 use Rattle.std.specs.Io.KnownBytes.{Consumes, IsAtEnd}
-use Rattle.std.proofs.KnownBytes.{Consumes-trans, Consumes-nil}
+use Rattle.std.proofs.KnownBytes.{Consumes-trans}
 use Rattle.std.proofs.lemmas.Bool.Decides.{nat_tests}
 use Rattle.std.proofs.lemmas.List.{length-take, take_more_set, take-append-le}
 use Rattle.siman_scripts.specs.Text.{lines_of}
@@ -33,20 +33,16 @@ pub record SoFar (old now : Option (List ℕ)) (buffer : List ℕ) (held : ℕ) 
   pub within : held ≤ length buffer
   pub front : take held buffer ≡ take (length buffer) line
 
-pub so_far-none : (a : Option (List ℕ)) (buffer : List ℕ) → SoFar a a buffer 0
-so_far-none a buffer = record { line = []; none = tt; taken = Consumes-nil a; within = omega arith; front = sym (take_all (length buffer) [] (omega arith)) }
-
 -- how much is held
 held_is : (held : ℕ) (buffer line : List ℕ) → held ≤ length buffer → take held buffer ≡ take (length buffer) line → held ≡ min (length buffer) (length line)
 held_is held buffer line within front = sym (length-take-le held buffer within) ∙ ap length front ∙ length-take (length buffer) line
 
 -- one more byte, that is held
-pub so_far-held : (a b c : Option (List ℕ)) (buffer : List ℕ) (held byte : ℕ) → SoFar a b buffer held → Consumes b c (byte ∷ []) → byte ≢ 10
+pub so_far-held : {a b c : Option (List ℕ)} {buffer : List ℕ} {held byte : ℕ} → SoFar a b buffer held → Consumes b c (byte ∷ []) → byte ≢ 10
     → held < length buffer → SoFar a c (set buffer held byte) (held + 1)
-so_far-held a b c buffer held byte before next other room =
+so_far-held {a} {b} {c} {buffer} {held} {byte} before next other room =
     let line = before.line in
     let size = held_is held buffer line before.within before.front in
-    let short : length line ≡ held = omega arith in
     let same : length (set buffer held byte) ≡ length buffer = length-set buffer held byte in
     let longer = length-append line (byte ∷ []) in
     let whole : take held buffer ≡ line = before.front ∙ take_all (length buffer) line (omega arith) in
@@ -59,9 +55,9 @@ so_far-held a b c buffer held byte before next other room =
     }
 
 -- one more byte, for which there is no room
-pub so_far-past : (a b c : Option (List ℕ)) (buffer : List ℕ) (held byte : ℕ) → SoFar a b buffer held → Consumes b c (byte ∷ []) → byte ≢ 10
+pub so_far-past : {a b c : Option (List ℕ)} {buffer : List ℕ} {held byte : ℕ} → SoFar a b buffer held → Consumes b c (byte ∷ []) → byte ≢ 10
     → length buffer ≤ held → SoFar a c buffer held
-so_far-past a b c buffer held byte before next other full =
+so_far-past {a} {b} {c} {buffer} {held} {byte} before next other full =
     let line = before.line in
     let size = held_is held buffer line before.within before.front in
     record {
@@ -86,8 +82,8 @@ reads-last (Some x) (Some y) (b ∷ bs) none some taken end =
     ap lines_of (taken ∙ ap (λ l. (b ∷ bs) ++ l) end ∙ append-nil (b ∷ bs)) ∙ line_whole b bs none ∙ ap (λ l. (b ∷ bs) ∷ lines_of l) (sym end)
 
 -- a line feed ends it
-pub line-ended : (a b c : Option (List ℕ)) (buffer : List ℕ) (held : ℕ) → SoFar a b buffer held → Consumes b c (10 ∷ []) → HoldsLine a c buffer held
-line-ended a b c buffer held before next = record {
+pub line-ended : {a b c : Option (List ℕ)} {buffer : List ℕ} {held : ℕ} → SoFar a b buffer held → Consumes b c (10 ∷ []) → HoldsLine a c buffer held
+line-ended {a} {b} {c} before next = record {
   line = before.line;
   one = before.none;
   read = reads-cut a b c before.line before.none before.taken next;
@@ -96,8 +92,8 @@ line-ended a b c buffer held before next = record {
 }
 
 -- the end of the input ends it
-pub line-last : (a b : Option (List ℕ)) (buffer : List ℕ) (held : ℕ) → SoFar a b buffer held → IsAtEnd b → 0 < held → HoldsLine a b buffer held
-line-last a b buffer held before end some =
+pub line-last : {a b : Option (List ℕ)} {buffer : List ℕ} {held : ℕ} → SoFar a b buffer held → IsAtEnd b → 0 < held → HoldsLine a b buffer held
+line-last {a} {b} {buffer} {held} before end some =
     let size = held_is held buffer before.line before.within before.front in
     record {
       line = before.line;
@@ -107,56 +103,35 @@ line-last a b buffer held before end some =
       front = before.front;
     }
 
+nothing : (line : List ℕ) → length line ≡ 0 → line ≡ []
+nothing [] e = refl
+nothing (b ∷ bs) e = absurd (omega arith)
+
 at_end-back : (a b : Option (List ℕ)) (line : List ℕ) → line ≡ [] → Consumes a b line → IsAtEnd b → IsAtEnd a
 at_end-back None b line none taken end = tt
 at_end-back (Some x) None line none taken end = absurd taken
 at_end-back (Some x) (Some y) line none taken end = taken ∙ ap (λ l. l ++ y) none ∙ end
 
-nothing : (line : List ℕ) → length line ≡ 0 → line ≡ []
-nothing [] e = refl
-nothing (b ∷ bs) e = absurd (omega arith)
-
 -- there is none
-pub no-line : (a b : Option (List ℕ)) (buffer : List ℕ) (held : ℕ) → held ≡ 0 → 0 < length buffer → SoFar a b buffer held → IsAtEnd b → IsAtEnd a
-no-line a b buffer held none room before end =
+pub no-line : {a b : Option (List ℕ)} {buffer : List ℕ} {held : ℕ} → held ≡ 0 → 0 < length buffer → SoFar a b buffer held → IsAtEnd b → IsAtEnd a
+no-line {a} {b} {buffer} {held} none room before end =
     let size = held_is held buffer before.line before.within before.front in
     at_end-back a b before.line (nothing before.line (omega arith)) before.taken end
 
 -- nothing more was read
-pub so_far-same : (a b c : Option (List ℕ)) (buffer buf : List ℕ) (held n : ℕ) → n ≡ 0 → SoFar a b buffer held → Consumes b c (take n buf) → SoFar a c buffer held
-so_far-same a b c buffer buf held n none before next = record {
+pub so_far-same : {a b : Option (List ℕ)} {buffer : List ℕ} {held : ℕ} (c : Option (List ℕ)) (buf : List ℕ) (n : ℕ) → n ≡ 0 → SoFar a b buffer held
+    → Consumes b c (take n buf) → SoFar a c buffer held
+so_far-same {a} {b} c buf n none before next = record {
   line = before.line;
   none = before.none;
-  taken =
-      (let both = Consumes-trans a b c before.line (take n buf) before.taken next in
-      let nil : before.line ++ take n buf ≡ before.line = ap (λ k. before.line ++ take k buf) none ∙ append-nil before.line in
-      subst (Consumes a c) nil both);
+  taken = rw (none, append-nil) at (Consumes-trans a b c before.line (take n buf) before.taken next);
   within = before.within;
   front = before.front;
 }
 
-one_of : (buf : List ℕ) (n : ℕ) → length buf ≡ 1 → n ≡ 1 → take n buf ≡ get_or buf 0 0 ∷ []
-one_of [] n size one = absurd (omega arith)
-one_of (x ∷ []) n size one = rw one refl
-one_of (x ∷ y ∷ ys) n size one = absurd (omega arith)
-
 -- one byte was read
-pub one_byte : (b c : Option (List ℕ)) (buf : List ℕ) (n byte : ℕ) → length buf ≡ 1 → n ≤ length buf → 0 < n → get_or buf 0 0 ≡ byte → Consumes b c (take n buf)
-    → Consumes b c (byte ∷ [])
-one_byte b c buf n byte size within some at next =
-    subst (Consumes b c) (one_of buf n size (omega arith) ∙ ap (λ x. x ∷ []) at) next
-
-pub byte-held : (a b c : Option (List ℕ)) (buffer after : List ℕ) (held more byte : ℕ) → after ≡ set buffer held byte → more ≡ held + 1 → 0 < length buffer
-    → SoFar a b buffer held → Consumes b c (byte ∷ []) → byte ≢ 10 → held < length buffer → (0 < length after) × SoFar a c after more
-byte-held a b c buffer after held more byte stored next room before taken other within =
-    let same : length (set buffer held byte) ≡ length buffer = length-set buffer held byte in
-    let size = ap length stored in
-    let held_more = so_far-held a b c buffer held byte before taken other within in
-    (omega arith, subst (λ n. SoFar a c after n) (sym next) (subst (λ l. SoFar a c l (held + 1)) (sym stored) held_more))
-
-pub byte-past : (a b c : Option (List ℕ)) (buffer after : List ℕ) (held more byte : ℕ) → after ≡ buffer → more ≡ held → 0 < length buffer
-    → SoFar a b buffer held → Consumes b c (byte ∷ []) → byte ≢ 10 → length buffer ≤ held → (0 < length after) × SoFar a c after more
-byte-past a b c buffer after held more byte stays next room before taken other full =
-    let size = ap length stays in
-    let past = so_far-past a b c buffer held byte before taken other full in
-    (omega arith, subst (λ n. SoFar a c after n) (sym next) (subst (λ l. SoFar a c l held) (sym stays) past))
+pub one_byte : (b c : Option (List ℕ)) (buf : List ℕ) (n : ℕ) → length buf ≡ 1 → n ≤ length buf → 0 < n → Consumes b c (take n buf)
+    → Consumes b c (get_or buf 0 0 ∷ [])
+one_byte b c [] n size within some next = absurd (omega arith)
+one_byte b c (x ∷ []) n size within some next = let one : n ≡ 1 = omega arith in rw one at next
+one_byte b c (x ∷ y ∷ ys) n size within some next = absurd (omega arith)

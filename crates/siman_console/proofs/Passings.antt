@@ -1,48 +1,29 @@
--- Lines that are passed on while others are still held.
-use Rattle.std.proofs.Common.{◌≡◌, ℕ, zero, suc, ◌+◌, ◌<◌, ◌≤◌, List, [], ◌∷◌, ◌++◌, length, take, OnOk, Option, Some, None, Result, Ok, Err, refl, sym, ap, ◌∙◌, subst, arith, inr, ⊎_elim, append_assoc, append-nil, take_all}
+-- Texts that are passed on while more is still held, and the recording of a world in its file.
+use Rattle.std.proofs.Common.{◌≡◌, ℕ, zero, suc, ◌+◌, ◌<◌, ◌≤◌, List, [], ◌∷◌, ◌++◌, length, take, OnOk, Option, Result, Ok, Err, refl, sym, ap, ◌∙◌, subst, arith, inr, ⊎_elim, append_assoc, append-nil}
 use Rattle.std.specs.Result.{IsErrAnd}
 use Rattle.std.specs.Io.KnownBytes.{Appends}
-use Rattle.std.proofs.KnownBytes.{Appends-trans}
-use Rattle.std.proofs.Math.Seq.{take-append_seam, take-append-add}
-use Rattle.std.proofs.lemmas.List.{take-append-le}
+use Rattle.std.proofs.KnownBytes.{Appends-nil, Appends-trans, Appends-kept}
+use Rattle.std.proofs.Math.Seq.{take-append_seam}
 use Rattle.std.proofs.lemmas.Bool.{cases_lt}
 use Rattle.byte_files.specs.Writing.{WritesPart}
+use Rattle.byte_files.proofs.Offered.{writes_part, writes_later}
 use Rattle.siman_console.specs.declared.fault.Fault.{Fault}
 use Rattle.siman_console.specs.declared.fault.Fault.TheVariants.{Memory}
 use Rattle.siman_console.specs.Report.{texts_below}
 use Rattle.siman_console.specs.Show.{IsPassedOn, PassesOn}
-use Rattle.siman_console.proofs.Texts.{texts_below-more}
-
--- nothing was written
-pub nothing_out : (old : Option (List ℕ)) → Appends old old []
-nothing_out None = tt
-nothing_out (Some xs) = sym (append-nil xs)
-
-pub none_of : (old : Option (List ℕ)) (text : List ℕ) → WritesPart old old text
-none_of old text = (0, nothing_out old)
-
-front-longer : (n : ℕ) (text rest : List ℕ) → (m : ℕ) × (take n text ≡ take m (text ++ rest))
-front-longer n text rest =
-    ⊎_elim
-    (λ (below : n < length text). (n, sym (take-append-le n text rest (omega arith))))
-    (λ (past : length text ≤ n). (length text, take_all n text past ∙ sym (take-append_seam text rest)))
-    (cases_lt n (length text))
-
--- a prefix of a text is one of a longer text
-pub part-longer : (old new : Option (List ℕ)) (text rest : List ℕ) → WritesPart old new text → WritesPart old new (text ++ rest)
-part-longer old new text rest part =
-    let front = front-longer part.0 text rest in
-    (front.0, subst (Appends old new) front.1 part.1)
+use Rattle.siman_console.proofs.Texts.{texts-none, texts_below-more}
+use Rattle.exercise_model.specs.Recording.{PlainRecording}
+use Rattle.exercise_recording.specs.Text.{recording_text}
+use Rattle.siman_console.specs.Making.{SaysSettled}
+use Rattle.siman_console.specs.Outside.{Stream}
+use Rattle.siman_console.specs.World.{world_text, PutsWorld}
 
 -- what was passed on, and then a prefix of what was held and more
-pub part-then : (old mid new : Option (List ℕ)) (held text more : List ℕ) → IsPassedOn old mid held text → WritesPart mid new (held ++ more)
+part-then : (old mid new : Option (List ℕ)) (held text more : List ℕ) → IsPassedOn old mid held text → WritesPart mid new (held ++ more)
     → WritesPart old new (text ++ more)
 part-then old mid new held text more passed part =
-    let out = passed.0 in
-    let whole : out ++ (held ++ more) ≡ text ++ more = sym (append_assoc out held more) ∙ ap (λ t. t ++ more) passed.2 in
-    let front : out ++ take part.0 (held ++ more) ≡ take (length out + part.0) (text ++ more) = sym (take-append-add out (held ++ more) part.0) ∙ ap
-    (take (length out + part.0)) whole in
-    (length out + part.0, subst (Appends old new) front (Appends-trans old mid new out (take part.0 (held ++ more)) passed.1 part.1))
+    let whole : passed.0 ++ (held ++ more) ≡ text ++ more = sym (append_assoc passed.0 held more) ∙ ap (λ t. t ++ more) passed.2 in
+    subst (WritesPart old new) whole (writes_later old mid new passed.0 (held ++ more) passed.1 part)
 
 -- what was passed on, and then all of what was held and more but what is held now
 pub passed-then : (old mid new : Option (List ℕ)) (held text more after : List ℕ) → IsPassedOn old mid held text
@@ -61,7 +42,7 @@ passes-then (Err fault) old mid new held text more after first second = (second.
 pub fails-longer : (fault : Fault) (result : Result (Unit {0}) Fault) (old new : Option (List ℕ)) (held after text rest : List ℕ)
     → IsErrAnd result (λ e. e ≡ fault) → PassesOn (Err fault) old new held text → PassesOn result old new after (text ++ rest)
 fails-longer fault (Ok x) old new held after text rest passed failed = absurd passed
-fails-longer fault (Err e) old new held after text rest passed failed = rw passed (failed.0, part-longer old new text rest failed.1)
+fails-longer fault (Err e) old new held after text rest passed failed = rw passed (failed.0, writes_part old new text rest failed.1)
 
 -- the texts for all numbers begin with those for the numbers so far
 texts-split : (text : ℕ → List ℕ) (i n : ℕ) → i ≤ n → (rest : List ℕ) × (texts_below text n ≡ texts_below text i ++ rest)
@@ -73,6 +54,10 @@ texts-split text i (suc n) within =
     (before.0 ++ text n, ap (λ t. t ++ text n) before.1 ∙ append_assoc (texts_below text i) before.0 (text n)))
     (λ (past : suc n ≤ i). let all : i ≡ suc n = omega arith in ([], ap (texts_below text) (sym all) ∙ sym (append-nil (texts_below text i))))
     (cases_lt i (suc n))
+
+-- a loop begins
+pub loop-none : (text : ℕ → List ℕ) (old : Option (List ℕ)) (start : List ℕ) → IsPassedOn old old start (start ++ texts_below text 0)
+loop-none text old start = ([], Appends-nil old, texts-none text start)
 
 -- one more text was passed on in a loop
 pub loop-passes : (text : ℕ → List ℕ) (i : ℕ) (old mid new : Option (List ℕ)) (start held after : List ℕ)
@@ -125,7 +110,7 @@ pub passes-short : (result : Result (Unit {0}) Fault) (old new : Option (List �
 passes-short (Ok x) old new held text rest passed so_far = absurd passed
 passes-short (Err e) old new held text rest passed so_far =
     let front : so_far.0 ≡ take (length so_far.0) text = sym (take-append_seam so_far.0 held) ∙ ap (take (length so_far.0)) so_far.2 in
-    (inr passed, part-longer old new text rest (length so_far.0, subst (Appends old new) front so_far.1))
+    (inr passed, writes_part old new text rest (length so_far.0, subst (Appends old new) front so_far.1))
 
 -- nothing is held: the text is out whole
 pub passed-whole : (old new : Option (List ℕ)) (text : List ℕ) → IsPassedOn old new [] text → Appends old new text
@@ -137,3 +122,14 @@ pub passes-last : (result : Result (Unit {0}) Fault) (old mid new : Option (List
 passes-last result old mid new held text last first second within =
     let whole = passes-then result old mid new held text [] last first (subst (PassesOn result mid new last) (sym (append-nil held)) second) in
     emptied result old new last text within (subst (PassesOn result old new last) (append-nil text) whole)
+
+-- the recording is in its file, which was settled, and then its line was written or not
+pub world_put : (r : PlainRecording) (line : List ℕ) (file out : Stream) (mid : Option (List ℕ)) → line ≡ world_text r → IsPassedOn file.old mid [] (recording_text r)
+    → SaysSettled line (Ok tt) (record { old = mid; new = file.new }) out → PutsWorld r (Ok 0) file out
+world_put r line file out mid e whole said =
+    (refl, Appends-kept _ _ _ _ (passed-whole file.old mid (recording_text r) whole) said.0, subst (Appends out.old out.new) e said.1)
+
+pub world_short : (r : PlainRecording) (line : List ℕ) (fault : Fault) (file out : Stream) (mid : Option (List ℕ)) → line ≡ world_text r → IsPassedOn file.old mid [] (recording_text r)
+    → SaysSettled line (Err fault) (record { old = mid; new = file.new }) out → PutsWorld r (Err fault) file out
+world_short r line fault file out mid e whole (failed, kept, part) =
+    rw failed (inr (Appends-kept _ _ _ _ (passed-whole file.old mid (recording_text r) whole) kept, subst (WritesPart out.old out.new) e part))

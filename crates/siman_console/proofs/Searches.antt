@@ -1,5 +1,5 @@
--- The search of a recording.
-use Rattle.std.proofs.Common.{◌≡◌, ◌<◌, ℕ, zero, suc, List, [], ◌∷◌, ◌++◌, length, Result, Ok, Err, refl, inl, inr, arith}
+-- A recording that was searched, or carried over to the second format.
+use Rattle.std.proofs.Common.{◌≡◌, ◌<◌, ℕ, zero, suc, List, [], ◌∷◌, ◌++◌, length, Result, Ok, Err, refl, inl, inr, arith, ap, ◌∙◌}
 use Rattle.std.specs.Result.{IsErrAnd}
 use Rattle.std.specs.List.{All}
 use Rattle.std.proofs.lemmas.List.Elements.{All-nil, All-push, All-same, All-weaker}
@@ -12,11 +12,14 @@ use Rattle.byte_files.specs.Fields.{Fails}
 use Rattle.exercise_audit.specs.declared.blocks.Block.{Block}
 use Rattle.exercise_audit.specs.Audit.{AreBlocks, IsBlocked}
 use Rattle.siman_console.specs.declared.fault.Fault.{Fault}
-use Rattle.siman_console.specs.declared.fault.Fault.TheVariants.{Memory}
 use Rattle.siman_console.specs.declared.audit.Finding.{Finding}
 use Rattle.siman_console.specs.Check.{Recorded}
-use Rattle.siman_console.specs.Ending.{of_recording}
+use Rattle.siman_console.specs.Ending.{of_recording, of_convert}
 use Rattle.siman_console.specs.Audit.{IsUnsearched, Searches}
+use Rattle.exercise_recording.specs.declared.conversion.ConvertFault.{ConvertFault}
+use Rattle.exercise_recording.specs.declared.conversion.ConvertFault.TheVariants as converts
+use Rattle.exercise_recording.specs.Conversion.{ConversionData, IsOld, IsUnconverted, Readies}
+use Rattle.siman_console.specs.Convert.{converted_text, IsUncarried, CarriesTexts}
 
 -- each block is of one of the stations
 are_within : (r : PlainRecording) (h : History) (n : ℕ) (blocks : List Block) → AreBlocks r h n blocks → All (λ (b : Block). b.station < n) blocks
@@ -47,7 +50,20 @@ pub unread : (recorded : Recorded) (fault : RecordingFault) (result : Result Fin
 unread recorded fault (Ok finding) passed why = absurd passed
 unread recorded fault (Err e) passed why = rw passed (unsearched recorded fault why)
 
--- a recording that was read, for whose search there was no memory
-pub unmade : (recorded : Recorded) (result : Result Finding Fault) → IsErrAnd result (λ e. e ≡ Memory) → Searches recorded result
-unmade recorded (Ok finding) passed = absurd passed
-unmade recorded (Err e) passed = rw passed (inr (inr refl))
+-- nothing was readied
+pub uncarried : (recorded : Recorded) (fault : ConvertFault) → IsUnconverted recorded fault → IsUncarried recorded (of_convert fault)
+uncarried recorded (converts.Recording (recordings.Format f)) why = inl (unsearched recorded (recordings.Format f) why)
+uncarried recorded (converts.Recording recordings.Read) why = inl (unsearched recorded recordings.Read tt)
+uncarried recorded (converts.Recording recordings.Memory) why = absurd why
+uncarried recorded converts.Already why = inr (why, refl)
+uncarried recorded converts.Write why = absurd why
+uncarried recorded converts.Memory why = inl (unsearched recorded recordings.Memory tt)
+
+-- it was readied, and its line made
+pub readied : (c : ConversionData) (line : List ℕ) → line ≡ converted_text c.entries → (recorded : Recorded) → Readies recorded (Ok c)
+    → (r : PlainRecording) × IsOld recorded r × CarriesTexts r c.text line
+readied c line is recorded p = (
+  p.0,
+  p.1,
+  record { text_is = ap (λ (d : ConversionData). d.text) p.2; line_is = is ∙ ap (λ (d : ConversionData). converted_text d.entries) p.2 },
+)

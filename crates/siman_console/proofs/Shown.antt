@@ -1,7 +1,7 @@
 -- How `show` ends that showed a recording, or could not read one.
-use Rattle.std.proofs.Common.{◌≡◌, ℕ, List, [], ◌++◌, length, Option, Result, Ok, Err, refl, sym, ◌∙◌, subst, inl, inr, append-nil}
+use Rattle.std.proofs.Common.{◌≡◌, ℕ, List, ◌++◌, length, Option, Result, Ok, Err, refl, inl}
 use Rattle.std.specs.Result.{IsErrAnd}
-use Rattle.std.specs.Io.KnownBytes.{Appends, Keeps}
+use Rattle.std.specs.Io.KnownBytes.{Keeps}
 use Rattle.exercise_recording.specs.declared.format_fault.FormatFault.{FormatFault}
 use Rattle.exercise_recording.specs.declared.format_fault.RecordingFault.{RecordingFault}
 use Rattle.exercise_recording.specs.declared.format_fault.RecordingFault.TheVariants as recordings
@@ -13,7 +13,7 @@ use Rattle.siman_console.specs.Ending.{of_recording}
 use Rattle.siman_texts.specs.declared.spelling.Spelling.TheVariants.{Text}
 use Rattle.siman_texts.specs.Spelled.{line_spelled}
 use Rattle.siman_console.specs.Report.{texts_below}
-use Rattle.siman_console.specs.Show.{counts_line, station_shown, entry_shown, show_text, PassesOn, Shows}
+use Rattle.siman_console.specs.Show.{counts_line, station_shown, entry_shown, show_text, Shows}
 
 abbrev Recorded : Type 0
 Recorded = Result PlainRecording FormatFault
@@ -34,10 +34,3 @@ pub recording_unread : (recorded : Recorded) (fault : RecordingFault) (result : 
     → IsErrAnd result (λ e. e ≡ of_recording fault) → Fails (format_of fault) recorded → Keeps old new → Shows recorded result old new
 recording_unread recorded fault (Ok x) old new passed why keeps = absurd passed
 recording_unread recorded fault (Err e) old new passed why keeps = rw passed (recording_refused recorded fault old new why keeps)
-
--- a recording whose lines were passed on, all of them
-pub recording_shown : (recorded : Recorded) (r : PlainRecording) (result : Result (Unit {0}) Fault) (old new : Option (List ℕ)) → recorded ≡ Ok r
-    → PassesOn result old new [] (show_text r) → Shows recorded result old new
-recording_shown recorded r (Ok x) old new read passed = (r, read, subst (Appends old new) (sym (append-nil passed.0) ∙ passed.2) passed.1)
-recording_shown recorded r (Err fault) old new read (inl failed, part) = rw failed (r, read, part)
-recording_shown recorded r (Err fault) old new read (inr failed, part) = rw failed (inr (r, read, part))

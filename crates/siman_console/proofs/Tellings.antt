@@ -1,6 +1,5 @@
 -- What is told of lines, one after the other.
 use Rattle.std.proofs.Common.{◌≡◌, ◌≢◌, ℕ, suc, ◌+◌, ◌<◌, max, List, [], ◌∷◌, ◌++◌, length, take, Option, Some, None, Result, Ok, Err, refl, sym, ap, ◌∙◌, subst, inl, inr, arith, append_assoc, append-nil, length-append, length-take-le, take_all}
-use Rattle.std.specs.Prelude.{IfSome}
 use Rattle.std.specs.Result.{IsErrAnd}
 use Rattle.std.specs.List.{AllByRecursion}
 use Rattle.std.specs.Io.KnownBytes.{Appends, Keeps, IsAtEnd}
@@ -13,20 +12,17 @@ use Rattle.siman_pdus.specs.declared.pdu.Pdu.{Pdu}
 use Rattle.siman_pdus.specs.Reading.{pdu_from, refusal_of}
 use Rattle.siman_scripts.specs.Text.{lines_of}
 use Rattle.siman_console.specs.declared.hex_text.TheConstants.{LONGEST_HEX}
-use Rattle.siman_console.specs.declared.fault.Ended.{Ended}
 use Rattle.siman_console.specs.declared.fault.Fault.{Fault}
-use Rattle.siman_console.specs.Ending.{Wrote}
 use Rattle.siman_console.specs.declared.fault.Fault.TheVariants.{NotBytePairs, Input, Output, Memory}
 use Rattle.siman_console.specs.declared.pdus.Stop.{Stop}
 use Rattle.siman_console.specs.declared.pdus.Stop.TheVariants as stops
 use Rattle.siman_console.specs.Answer.{not_byte_pairs, said_of_reading, said_of_bytes, said_of_hex, IsSaid}
 use Rattle.siman_console.specs.HexText.{bytes_of}
-use Rattle.siman_console.specs.Input.{Has}
+use Rattle.siman_console.specs.Outside.{Has, Stream}
 use Rattle.siman_console.proofs.LineReadings.{line_cut}
-use Rattle.siman_console.proofs.HexTexts.{told_of_line-some}
+use Rattle.siman_console.proofs.Readings.{told_of_line-some}
 use Rattle.siman_console.proofs.Inputs.{over}
 use Rattle.siman_console.specs.Pdus.{LinesTold, untold, and_then, told_of_said, told_of_line, told_of, IsWritten, WritesTorn, StopsAfter, TellsLines, TellsBad, TellsLine, IsOneLine, ReadsLine, ReadsLines, HoldsLine}
-use Rattle.siman_console.specs.Outcome.{Stream, Outcome}
 
 -- ---- what is told
 
@@ -80,11 +76,6 @@ told_of_line-cut number line = elim (cases_lt (length line) (LONGEST_HEX + 1)) [
       told_of_line-some number front (omega arith) ∙ ap (told_of_said number) (short ∙ sym (said_of_hex-long line (omega arith))) ∙ sym
       (told_of_line-some number line (omega arith))
 ]
-
-pub told_of_line-held : (number : ℕ) (held buffer line : List ℕ) → length buffer ≡ LONGEST_HEX + 1 → held ≡ take (length buffer) line
-    → told_of_line number held ≡ told_of_line number line
-told_of_line-held number held buffer line size front =
-    ap (told_of_line number) (front ∙ ap (λ n. take n line) size) ∙ told_of_line-cut number line
 
 -- ---- what is written
 
@@ -171,13 +162,6 @@ line-stopped number line Output o p e some said other =
 line-stopped number line Memory o p e some said other = (Keeps-refl e, inl (refl, said))
 line-stopped number line rest o p e some said other = absurd said
 
--- what was told of what is held of a line is told of the line
-pub line-held : (number : ℕ) (b c : Option (List ℕ)) (buffer text : List ℕ) (held : ℕ) (result : Result ℕ Stop) (out errors : Stream)
-    → length buffer ≡ LONGEST_HEX + 1 → (holds : HoldsLine b c buffer held) → text ≡ take held buffer
-    → TellsLine (told_of_line number text) result out errors → TellsLine (told_of_line number holds.line) result out errors
-line-held number b c buffer text held result out errors size holds front told =
-    subst (λ (t : LinesTold). TellsLine t result out errors) (told_of_line-held number text buffer holds.line size (front ∙ holds.front)) told
-
 -- ---- what is read
 
 pub reads-none : (a : Option (List ℕ)) → ReadsLines a a []
@@ -248,44 +232,51 @@ told-none a o e = record {
   read = reads-none a;
 }
 
+-- what is told of as much of a line as is held is what is to be told of the line
+told-held : {b c : Option (List ℕ)} {buffer : List ℕ} {held : ℕ} (number : ℕ) (size : length buffer ≡ LONGEST_HEX + 1) (holds : HoldsLine b c buffer held)
+    → told_of_line number (take held buffer) ≡ told_of_line number holds.line
+told-held {buffer = buffer} number size holds = ap (told_of_line number) (holds.front ∙ ap (λ n. take n holds.line) size) ∙ told_of_line-cut number holds.line
+
 -- one more line was read, and told
-pub told-more : (a b c o p q e f g : Option (List ℕ)) (number worst status worse : ℕ) (line : List ℕ) → ToldSoFar a b o p e f number worst
-    → IsOneLine line → ReadsLine b c line → worse ≡ max worst status → TellsLine (told_of_line number line) (Ok status) (stream p q) (stream f g)
-    → ToldSoFar a c o q e g (number + 1) worse
-told-more a b c o p q e f g number worst status worse line before one next worsen told =
-    let longer = length-append before.lines (line ∷ []) in
+pub told-more : {a b c o p q e f g : Option (List ℕ)} {number worst status worse held : ℕ} {buffer : List ℕ} → ToldSoFar a b o p e f number worst
+    → length buffer ≡ LONGEST_HEX + 1 → HoldsLine b c buffer held → worse ≡ max worst status
+    → TellsLine (told_of_line number (take held buffer)) (Ok status) (stream p q) (stream f g) → ToldSoFar a c o q e g (number + 1) worse
+told-more {a} {b} {c} {o} {p} {q} {e} {f} {g} {number} {worst} {status} before size holds worsen told =
+    let longer = length-append before.lines (holds.line ∷ []) in
+    let line = rw (told-held number size holds) at told in
     record {
-      lines = before.lines ++ line ∷ [];
+      lines = before.lines ++ holds.line ∷ [];
       count = (let one = before.count in omega arith);
-      status = worsen ∙ worst-more before.lines line number worst status before.count before.status told.0;
-      written = written-more before.lines line number o p q e f g before.count before.written told.1;
-      read = reads-more a b c before.lines line before.read one next;
+      status = worsen ∙ worst-more before.lines holds.line number worst status before.count before.status line.0;
+      written = written-more before.lines holds.line number o p q e f g before.count before.written line.1;
+      read = reads-more a b c before.lines holds.line before.read holds.one holds.read;
     }
 
 -- there are no more
-pub told-all : (a b o p e f : Option (List ℕ)) (number worst : ℕ) → ToldSoFar a b o p e f number worst → IsAtEnd b
+pub told-all : {a b o p e f : Option (List ℕ)} {number worst : ℕ} → ToldSoFar a b o p e f number worst → IsAtEnd b
     → TellsInput a (Ok worst) (stream o p) (stream e f)
-told-all a b o p e f number worst before end =
+told-all {a} {b} {o} {p} {e} {f} {number} {worst} before end =
     let all = all_lines a b before.lines before.read end in
     (all.0, all.1, subst (λ (lines : List (List ℕ)). TellsLines lines (Ok worst) (stream o p) (stream e f)) (sym all.2) (before.status, before.written))
 
 -- a read failed
-pub told-unread : (a b o p e f : Option (List ℕ)) (number worst : ℕ) → ToldSoFar a b o p e f number worst
+pub told-unread : {a b o p e f : Option (List ℕ)} {number worst : ℕ} → ToldSoFar a b o p e f number worst
     → TellsInput a (Err (stops.Fault Input)) (stream o p) (stream e f)
-told-unread a b o p e f number worst before =
+told-unread {a} {b} {o} {p} {e} {f} before =
     stopped-between a b before.lines (stops.Fault Input) (stream o p) (stream e f) before.read
     (λ rest. (before.written.1, inl (inl refl, before.written.0)))
 
 -- it stopped in a line
-pub told-short : (a b c o p q e f g : Option (List ℕ)) (number worst : ℕ) (stop : Stop) (line : List ℕ) → ToldSoFar a b o p e f number worst → IsOneLine line → ReadsLine b c line
-    → TellsLine (told_of_line number line) (Err stop) (stream p q) (stream f g) → TellsInput a (Err stop) (stream o q) (stream e g)
-told-short a b c o p q e f g number worst stop line before one next told =
+pub told-short : {a b c o p e f : Option (List ℕ)} {number worst held : ℕ} {buffer : List ℕ} (q g : Option (List ℕ)) (stop : Stop) → ToldSoFar a b o p e f number worst
+    → length buffer ≡ LONGEST_HEX + 1 → HoldsLine b c buffer held
+    → TellsLine (told_of_line number (take held buffer)) (Err stop) (stream p q) (stream f g) → TellsInput a (Err stop) (stream o q) (stream e g)
+told-short {a} {b} {c} {o} {p} {e} {f} {number} q g stop before size holds told =
     let lines = before.lines in
-    let left = lines_left a c (lines ++ line ∷ []) (reads-more a b c lines line before.read one next) in (
-      left.0,
-      left.1,
-      (lines, line ∷ left.2.0, left.2.1 ∙ append_assoc lines (line ∷ []) left.2.0, stops-in lines left.2.0 line number stop o p q e f g before.count before.written told),
-    )
+    let line = holds.line in
+    let left = lines_left a c (lines ++ line ∷ []) (reads-more a b c lines line before.read holds.one holds.read) in
+    let of_line = subst (λ (t : LinesTold). TellsLine t (Err stop) (stream p q) (stream f g)) (told-held number size holds) told in
+    let torn = stops-in lines left.2.0 line number stop o p q e f g before.count before.written of_line in
+    (left.0, left.1, (lines, line ∷ left.2.0, left.2.1 ∙ append_assoc lines (line ∷ []) left.2.0, torn))
 
 -- what was passed on is told
 pub passed_on : (known : Option (List ℕ)) (stop : Stop) (result : Result ℕ Stop) (out errors : Stream) → IsErrAnd result (λ e. e ≡ stop)

@@ -1,14 +1,15 @@
 -- Texts for 0, 1 and so on, one after the other.
-use Rattle.std.proofs.Common.{◌≡◌, ℕ, ◌+◌, ◌<◌, List, [], ◌++◌, cond, length, refl, sym, ap, ◌∙◌, subst, append_assoc}
+use Rattle.std.proofs.Common.{◌≡◌, ℕ, ◌+◌, ◌<◌, List, [], ◌++◌, cond, length, refl, sym, ap, ◌∙◌, subst, append_assoc, append-nil}
 use Rattle.std.proofs.Math.Numerals.{add-one}
 use Rattle.std.proofs.lemmas.Bool.{lt-ltb}
 use Rattle.exercise_model.specs.Recording.{PlainRecording}
 use Rattle.exercise_model.specs.Account.{entities_of, states_of}
 use Rattle.siman_console.specs.Report.{texts_below}
 
-pub texts_below-none : (text : ℕ → List ℕ) → texts_below text 0 ≡ []
+-- no text, behind what there is
+pub texts-none : (text : ℕ → List ℕ) (start : List ℕ) → start ≡ start ++ texts_below text 0
 unfolding texts_below
-texts_below-none text = refl
+texts-none text start = sym (append-nil start)
 
 pub texts_below-more : (text : ℕ → List ℕ) (n : ℕ) → texts_below text (n + 1) ≡ texts_below text n ++ text n
 unfolding texts_below
@@ -27,5 +28,3 @@ line-of-same line old new given own step same = subst (λ x. new ≡ old ++ line
 -- the entities of a station that is there
 pub states_of-station : (r : PlainRecording) (s : ℕ) → s < length r.setting.stations → states_of r s ≡ entities_of r s
 states_of-station r s within = ap (λ b. cond b (entities_of r s) []) (lt-ltb s (length r.setting.stations) within)
-
-pub ruleset text_steps = (texts_below-more, texts_below-none)

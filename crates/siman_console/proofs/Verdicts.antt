@@ -1,5 +1,5 @@
 -- How `check` ends that judged two files, or could not read one.
-use Rattle.std.proofs.Common.{◌≡◌, ℕ, List, Option, Some, None, Bool, Result, Ok, Err, refl, inl, inr}
+use Rattle.std.proofs.Common.{◌≡◌, ℕ, List, Option, Bool, Result, Ok, Err, inl, inr}
 use Rattle.std.specs.Io.KnownBytes.{Keeps}
 use Rattle.exercise_model.specs.declared.cause.Cause.{Cause}
 use Rattle.exercise_recording.specs.declared.format_fault.RecordingFault.{RecordingFault}

@@ -22,10 +22,8 @@ use Rattle.siman_console.specs.declared.audit.Finding.TheVariants.{Order, Stuck}
 use Rattle.siman_console.specs.Check.{Recorded}
 use Rattle.siman_console.specs.CountLine.{counted}
 use Rattle.siman_console.specs.Ending.{EndsWith}
-use Rattle.siman_console.specs.Input.{Has}
+use Rattle.siman_console.specs.Outside.{Has, Stream, Deed}
 use Rattle.siman_console.specs.Making.{WritesShort, MakesFile}
-use Rattle.siman_console.specs.Outcome.{Stream}
-use Rattle.siman_console.specs.Outside.{Deed}
 use Rattle.siman_console.specs.declared.show.TheConstants.{LARGEST_RECORDING}
 use Rattle.exercise_recording.specs.Reading.{recording_at}
 use Rattle.siman_texts.specs.Line.{Number, Word, Bare, Keyed, Line, named_line}

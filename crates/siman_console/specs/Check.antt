@@ -25,8 +25,7 @@ use Rattle.siman_console.specs.declared.check.TheConstants.{LARGEST_CERTIFICATE}
 use Rattle.siman_console.specs.declared.show.TheConstants.{LARGEST_RECORDING}
 use Rattle.exercise_recording.specs.Reading.{recording_at}
 use Rattle.exercise_check.specs.Certificate.{certificate_at}
-use Rattle.siman_console.specs.Input.{Has}
-use Rattle.siman_console.specs.Outcome.{Stream}
+use Rattle.siman_console.specs.Outside.{Has, Stream}
 use Rattle.siman_console.specs.Report.{report_text, no_text}
 
 -- what reading a recording gives, and what reading a certificate gives: its steps

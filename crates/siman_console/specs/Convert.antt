@@ -11,10 +11,8 @@ use Rattle.siman_console.specs.Check.{Recorded}
 use Rattle.siman_console.specs.CountLine.{counted}
 use Rattle.siman_console.specs.declared.convert.TheConstants.{LARGEST_OLD_RECORDING}
 use Rattle.exercise_recording.specs.Reading.{recording_at}
-use Rattle.siman_console.specs.Input.{Has}
+use Rattle.siman_console.specs.Outside.{Has, Stream, Deed}
 use Rattle.siman_console.specs.Making.{MakesFile}
-use Rattle.siman_console.specs.Outcome.{Stream}
-use Rattle.siman_console.specs.Outside.{Deed}
 use Rattle.siman_texts.specs.Spelled.{line_text}
 use Rattle.siman_console.specs.Audit.{IsUnsearched, PutsBoth}
 

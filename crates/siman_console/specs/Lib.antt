@@ -7,7 +7,6 @@ pub mod Check
 pub mod Show
 pub mod Ending
 pub mod Outside
-pub mod Outcome
 pub mod Audit
 pub mod Convert
 pub mod World
@@ -17,7 +16,6 @@ pub mod Trial
 pub mod Pdus
 pub mod Program
 pub mod CountLine
-pub mod Input
 pub mod Making
 pub mod Opening
 pub mod Saying

@@ -12,10 +12,8 @@ use Rattle.siman_console.specs.declared.fault.Fault.TheVariants.{Script, ScriptR
 use Rattle.siman_console.specs.declared.live.Begun.{Begun}
 use Rattle.std.specs.declared.io.ErrorKind.{ErrorKind}
 use Rattle.std.specs.declared.io.ErrorKind.TheVariants.{AlreadyExists, OutOfMemory}
-use Rattle.siman_console.specs.Input.{Has}
+use Rattle.siman_console.specs.Outside.{Has, Stream, Deed, LooksFor, Creates, Leaves}
 use Rattle.siman_console.specs.Making.{Answered}
-use Rattle.siman_console.specs.Outcome.{Stream}
-use Rattle.siman_console.specs.Outside.{Deed, LooksFor, Creates, Leaves}
 use Rattle.siman_console.specs.CountLine.{counted}
 use Rattle.siman_texts.specs.Spelled.{line_text}
 use Rattle.siman_console.specs.World.{Scripted}

@@ -6,8 +6,7 @@ use Rattle.std.specs.declared.io.ErrorKind.{ErrorKind}
 use Rattle.siman_console.specs.Ending.{IsToldAs}
 use Rattle.siman_console.specs.declared.fault.Fault.{Fault}
 use Rattle.siman_console.specs.declared.fault.Fault.TheVariants.{Output}
-use Rattle.siman_console.specs.Outside.{Deed, Saved, Makes, Saves, Discards}
-use Rattle.siman_console.specs.Outcome.{Stream}
+use Rattle.siman_console.specs.Outside.{Deed, Saved, Makes, Saves, Discards, Stream}
 
 -- what a command answered, its status, or the fault that it met
 abbrev pub Answered : Type 0

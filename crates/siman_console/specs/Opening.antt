@@ -7,8 +7,7 @@ use Rattle.siman_console.specs.declared.fault.Fault.{Fault}
 use Rattle.siman_console.specs.declared.fault.Fault.TheVariants.{Memory}
 use Rattle.siman_console.specs.Ending.{fault_text}
 use Rattle.siman_console.specs.Making.{Answered}
-use Rattle.siman_console.specs.Outside.{Deed, Opens, Compares, Reads}
-use Rattle.siman_console.specs.Outcome.{Stream}
+use Rattle.siman_console.specs.Outside.{Deed, Opens, Compares, Reads, Stream}
 
 -- how a file that was not opened is told: want of memory, or else `file: NAME` with the name as it was given
 abbrev pub IsUnopened : List ℕ → ErrorKind → Fault → Type 0

@@ -1,9 +1,25 @@
--- What a program does outside: the files that it opens, makes, saves, discards and closes, in their order.
-use Rattle.std.specs.Prelude.{◌≡◌, ◌⊎◌, ⊤, ℕ, Bool, List, [], ◌++◌, Option, Some, None, Result, Ok, Err}
+-- What a program has outside, what it leaves there, and what it does: the files that it opens, makes, saves, discards and closes, in their order.
+use Rattle.std.specs.Prelude.{◌≡◌, ◌⊎◌, ⊤, ℕ, Bool, List, [], ◌++◌, Option, Some, None, IfSome, Result, Ok, Err}
 use Rattle.std.specs.IoError.{error_kind}
 use Rattle.std.specs.declared.io.Error.{Error}
 use Rattle.std.specs.declared.io.ErrorKind.{ErrorKind}
 use Rattle.std.specs.declared.io.ErrorKind.TheVariants.{OutOfMemory}
+use Rattle.siman_console.specs.declared.fault.Ended.{Ended}
+
+-- A reader has these bytes; where it is not known which it has, these may be any.
+abbrev pub Has : (known : Option (List ℕ)) → (bytes : List ℕ) → Type 0
+Has known bytes = IfSome known (λ all. bytes ≡ all)
+
+-- what stood on a writer before, and what stands on it now, where that is known
+pub record Stream : Type 0 where
+  pub old : Option (List ℕ)
+  pub new : Option (List ℕ)
+
+-- how a command ended, and what it left on the writer of answers and on the writer of faults
+pub record Outcome : Type 0 where
+  pub ended : Ended
+  pub out : Stream
+  pub errors : Stream
 
 -- the bytes that a file has which was opened or made, where they are known, or why it was not
 abbrev pub Found : Type 0

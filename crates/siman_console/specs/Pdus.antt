@@ -10,7 +10,7 @@ use Rattle.siman_console.specs.declared.pdus.Stop.{Stop}
 use Rattle.siman_console.specs.declared.pdus.Stop.TheVariants as stops
 use Rattle.siman_console.specs.Answer.{Said, said_of_hex}
 use Rattle.siman_console.specs.Ending.{Ends, fault_line}
-use Rattle.siman_console.specs.Outcome.{Stream, Outcome}
+use Rattle.siman_console.specs.Outside.{Stream, Outcome}
 
 -- ---- what is told
 

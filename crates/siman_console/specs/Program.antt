@@ -1,5 +1,5 @@
 -- How the program ends, from the words of its command line to its status.
-use Rattle.std.specs.Prelude.{◌≡◌, ℕ, List, [], Option, Some, None, Result, Ok, Err, map, string_bytes, Vec, String, Bool}
+use Rattle.std.specs.Prelude.{◌≡◌, ◌⊎◌, ℕ, List, [], Option, Some, None, Result, Ok, Err, map, string_bytes, Vec, String, Bool, true, false}
 use Rattle.std.specs.declared.alloc.Global.{Global}
 use Rattle.std.specs.Io.KnownBytes.{Keeps}
 use Rattle.std.specs.declared.io.ErrorKind.{ErrorKind}
@@ -12,18 +12,16 @@ use Rattle.siman_words.specs.declared.commands.TwoWords.{TwoWords}
 use Rattle.siman_words.specs.declared.commands.TwoWords.TheVariants.{Check, Audit, World, Live, Convert}
 use Rattle.siman_words.specs.Words.{Asked, Trial, Bare, One, Two, asked, asks_help}
 use Rattle.siman_console.specs.declared.fault.Fault.{Fault}
-use Rattle.siman_console.specs.declared.fault.Fault.TheVariants.{Words}
+use Rattle.siman_console.specs.declared.fault.Fault.TheVariants.{Words, Output, Memory}
 use Rattle.siman_console.specs.Answer.{said_of_hex, IsSaid}
 use Rattle.siman_console.specs.Audit.{SearchesFile, MakesFinding}
 use Rattle.siman_console.specs.Check.{ChecksFiles}
 use Rattle.siman_console.specs.Convert.{CarriesFile, MakesConverted}
 use Rattle.siman_console.specs.Ending.{Ends, IsToldAs}
-use Rattle.siman_console.specs.Input.{Has}
+use Rattle.siman_console.specs.Outside.{Has, Stream, Outcome, Deed}
 use Rattle.siman_console.specs.Live.{BeginsFile, LivesBegun}
 use Rattle.siman_console.specs.Making.{Answered}
 use Rattle.siman_console.specs.Opening.{WorksOn}
-use Rattle.siman_console.specs.Outcome.{Stream, Outcome, EndsUsage}
-use Rattle.siman_console.specs.Outside.{Deed}
 use Rattle.siman_console.specs.Pdus.{EndsLines}
 use Rattle.siman_console.specs.Saying.{SaysOfFile, SaysOfFiles}
 use Rattle.siman_console.specs.Show.{ShowsFile}
@@ -56,6 +54,13 @@ EndsTask Trial deeds input o = (deeds ≡ []) × EndsAs (TriesInput input) o
 EndsTask (Bare command) deeds input o = (deeds ≡ []) × EndsBare command input o
 EndsTask (One command word) deeds input o = EndsAs (DoesOne command word deeds) o
 EndsTask (Two command first second) deeds input o = EndsAs (DoesTwo command first second deeds) o
+
+-- HOW WORDS END that ask for no task: with want of memory, with the help that they ask for, or as a fault of usage, which is told on the writer of faults
+abbrev pub EndsUsage : (helps : Bool) → Outcome → Type 0
+EndsUsage helps o =
+    (Keeps o.out.old o.out.new × Ends (Err Memory) o.ended o.errors.old o.errors.new)
+    ⊎ ((helps ≡ true) × (Ends (Ok 0) o.ended o.errors.old o.errors.new ⊎ Ends (Err Output) o.ended o.errors.old o.errors.new))
+    ⊎ ((helps ≡ false) × (o.ended.status ≡ 2) × Keeps o.out.old o.out.new)
 
 -- Words that ask for nothing of the table ask for help or break the usage, and no file is opened.
 abbrev pub EndsAsked : Option Asked → (helps : Bool) → List Deed → Option (List ℕ) → Outcome → Type 0

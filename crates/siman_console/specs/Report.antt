@@ -50,6 +50,10 @@ known_at r i = line_with known_line i (change_behind r i)
 abbrev pub entities_at : PlainRecording → ℕ → List ℕ
 entities_at r s = flat_map (λ present. line_text (entity_line (station_at r s).address present)) (entities_of r s)
 
+-- such a line, by its name and the key of the other entry
+abbrev pub pair_line : (name key : List ℕ) → ℕ → ℕ → Line
+pair_line name key entry other = named_line name (Bare (codes "entry") (Number entry) ∷ Spelt key (Number other) ∷ [])
+
 -- yes records=N others=N
 abbrev pub yes_line : ℕ → ℕ → Line
 yes_line records others = named_line (codes "yes") (Keyed (codes "records") (Number records) ∷ Keyed (codes "others") (Number others) ∷ [])

@@ -2,8 +2,7 @@
 use Rattle.std.specs.Prelude.{◌≡◌, ℕ, List, [], ◌∷◌, Option, Ok, Err}
 use Rattle.siman_console.specs.Making.{Answered}
 use Rattle.siman_console.specs.Opening.{TellsUnopened}
-use Rattle.siman_console.specs.Outcome.{Stream}
-use Rattle.siman_console.specs.Outside.{Deed, Opens, Reads}
+use Rattle.siman_console.specs.Outside.{Stream, Deed, Opens, Reads}
 
 -- ONE FILE IS OPENED and read, of which this is said
 abbrev pub SaysOfFile : (Says : Option (List ℕ) → Answered → Stream → Type 0) → (name : List ℕ) → List Deed → Answered → Stream → Type 0

@@ -20,8 +20,7 @@ use Rattle.siman_console.specs.declared.fault.Fault.TheVariants.{Recording, Outp
 use Rattle.siman_console.specs.declared.show.TheConstants.{LARGEST_RECORDING}
 use Rattle.exercise_recording.specs.Reading.{recording_at}
 use Rattle.siman_console.specs.Ending.{EndsWith}
-use Rattle.siman_console.specs.Input.{Has}
-use Rattle.siman_console.specs.Outcome.{Stream}
+use Rattle.siman_console.specs.Outside.{Has, Stream}
 use Rattle.siman_texts.specs.declared.spelling.Spelling.TheVariants.{Text}
 use Rattle.siman_texts.specs.Line.{Number, Clock, Word, Field, Bare, Keyed, Called, Line, named_line, opened_line}
 use Rattle.siman_texts.specs.Spelled.{address_text, line_spelled, lines_spelled}

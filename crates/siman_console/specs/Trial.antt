@@ -17,8 +17,7 @@ use Rattle.siman_console.specs.declared.trial_fault.TrialFault.{TrialFault}
 use Rattle.siman_console.specs.declared.trial_fault.TrialFault.TheVariants.{Read, Script, World, Write, Memory}
 use Rattle.siman_console.specs.Ending.{of_trial}
 use Rattle.siman_scripts.specs.Script.{script_at}
-use Rattle.siman_console.specs.Input.{Has}
-use Rattle.siman_console.specs.Outcome.{Stream}
+use Rattle.siman_console.specs.Outside.{Has, Stream}
 use Rattle.siman_console.specs.Report.{report_text}
 use Rattle.siman_console.specs.Audit.{explained_text}
 use Rattle.siman_console.specs.World.{Scripted, recording_of, refusal_of, world_text}

@@ -18,10 +18,8 @@ use Rattle.siman_console.specs.declared.fault.Fault.{Fault}
 use Rattle.siman_console.specs.declared.fault.Fault.TheVariants.{Script, ScriptRead, World, Output, Memory}
 use Rattle.siman_console.specs.Ending.{EndsWith}
 use Rattle.siman_scripts.specs.Script.{script_at}
-use Rattle.siman_console.specs.Input.{Has}
+use Rattle.siman_console.specs.Outside.{Has, Stream, Deed}
 use Rattle.siman_console.specs.Making.{WritesShort, MakesFile}
-use Rattle.siman_console.specs.Outcome.{Stream}
-use Rattle.siman_console.specs.Outside.{Deed}
 use Rattle.siman_texts.specs.Line.{Number, Keyed, named_line}
 use Rattle.siman_texts.specs.Spelled.{line_text}
 

@@ -8,11 +8,9 @@ ghost use Rattle.exercise_check.specs.Goodness.{IsGood};
 ghost use Rattle.exercise_audit.specs.declared.blocks.Block.{Block as BlockData};
 ghost use Rattle.exercise_audit.specs.Audit.{IsBlocked};
 ghost use Rattle.siman_console.specs.declared.show.TheConstants.{LARGEST_RECORDING};
-ghost use Rattle.siman_console.specs.Input.{Has};
-ghost use Rattle.siman_console.specs.Outcome.{Stream};
-ghost use Rattle.siman_console.specs.Outside.{Deed, Found, Adds, WasHeld};
-ghost use Rattle.siman_texts.specs.Spelled.{line_text, lines_text};
-ghost use Rattle.siman_console.specs.Audit.{block_at, block_line, Finds, Searches, PutsBlocked, PutsFinding, TellsAudit, EndsAudit, MakesFinding};
+ghost use Rattle.siman_console.specs.Outside.{Has, Stream, Deed, Found, Adds, WasHeld};
+ghost use Rattle.siman_texts.specs.Spelled.{lines_text};
+ghost use Rattle.siman_console.specs.Audit.{block_line, Finds, Searches, PutsBlocked, PutsFinding, TellsAudit, EndsAudit, MakesFinding};
 
 use crate::count_line::counted;
 use crate::fault::{Fault, end};
@@ -21,7 +19,6 @@ use crate::outside::Outside;
 use crate::product::Product;
 use crate::show::LARGEST_RECORDING;
 use byte_files::put;
-use dis_records::Address;
 use exercise_audit::{Audit, Block, audit};
 use exercise_check::{Certificate, good_steps_have_no_cause, write_certificate};
 use exercise_model::{ExerciseLog, what_explains_holds};
@@ -165,29 +162,17 @@ fn put_blocks<L: ExerciseLog>(
     ensures { OnOk result (string_bytes text.new ≡ string_bytes text.old ++ lines_text (map (block_line (L.recording log.now)) blocks.now)) }
 {
     for block in blocks {
-        put_block(alloc, text, log.station(block.station).address(), *block)?;
+        let (address, cause) = (log.station(block.station).address(), block.cause);
+        let name = format!(in alloc; "{cause}")?;
+        let fields = [
+            Field::Bare("address", Value::Address(address)),
+            Field::Keyed("record", Value::Number(block.entry as u64)),
+            Field::Keyed("cause", Value::Number(cause.number() as u64)),
+            Field::Bare("name", Value::Word(&name)),
+        ];
+        put_line(text, Spelling::Text, &Line::named("blocked", &fields))?;
     }
     Ok(())
-}
-
-/// The line of a block of the station of an address.
-fn put_block(
-    alloc: Global,
-    text: &mut String,
-    address: Address,
-    block: Block,
-) -> Result<(), AllocError>
-    ensures { OnOk result (string_bytes text.new ≡ string_bytes text.old ++ line_text (block_at address block)) }
-{
-    let cause = block.cause;
-    let name = format!(in alloc; "{cause}")?;
-    let fields = [
-        Field::Bare("address", Value::Address(address)),
-        Field::Keyed("record", Value::Number(block.entry as u64)),
-        Field::Keyed("cause", Value::Number(cause.number() as u64)),
-        Field::Bare("name", Value::Word(&name)),
-    ];
-    put_line(text, Spelling::Text, &Line::named("blocked", &fields))
 }
 
 /// Writes what was found, and gives the status.

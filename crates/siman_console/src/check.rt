@@ -6,7 +6,7 @@ ghost use Rattle.siman_console.specs.declared.check.TheConstants.{LARGEST_CERTIF
 ghost use Rattle.siman_console.specs.declared.show.TheConstants.{LARGEST_RECORDING};
 ghost use Rattle.exercise_recording.specs.Reading.{recording_at};
 ghost use Rattle.exercise_check.specs.Certificate.{certificate_at};
-ghost use Rattle.siman_console.specs.Input.{Has};
+ghost use Rattle.siman_console.specs.Outside.{Has};
 ghost use Rattle.siman_console.specs.Check.{Judges, judged_status, EndsCheck};
 
 use crate::fault::{Fault, end};

@@ -3,7 +3,7 @@
 ghost use Rattle.std.specs.Prelude.{ℕ, List};
 ghost use Rattle.exercise_recording.specs.Reading.{recording_at};
 ghost use Rattle.siman_console.specs.declared.convert.TheConstants.{LARGEST_OLD_RECORDING};
-ghost use Rattle.siman_console.specs.Input.{Has};
+ghost use Rattle.siman_console.specs.Outside.{Has};
 ghost use Rattle.siman_console.specs.Convert.{Carries};
 
 use crate::count_line::counted;

@@ -6,9 +6,7 @@ ghost use Rattle.siman_scripts.specs.Script.{script_at};
 ghost use Rattle.std.specs.IoError.{error_kind};
 ghost use Rattle.std.specs.List.{All};
 ghost use Rattle.siman_console.specs.Live.{Begins, TellsMoves, HaltsIn, IsUnlined, IsUncreated, CreatesMoves, LivesAtLines};
-ghost use Rattle.siman_console.specs.Outcome.{Stream};
-ghost use Rattle.siman_console.specs.Outside.{Deed, Found, Adds, WasHeld};
-ghost use Rattle.siman_console.specs.Input.{Has};
+ghost use Rattle.siman_console.specs.Outside.{Stream, Deed, Found, Adds, WasHeld, Has};
 
 use crate::count_line::counted;
 use crate::fault::Fault;

@@ -3,8 +3,7 @@
 ghost use Rattle.std.specs.Prelude.{◌≡◌, ◌∷◌, [], ℕ, List, Option, Result};
 ghost use Rattle.std.specs.List.{All};
 ghost use Rattle.siman_console.specs.declared.fault.Fault.{Fault};
-ghost use Rattle.siman_console.specs.Outside.{Deed, Found, Adds, WasHeld};
-ghost use Rattle.siman_console.specs.Outcome.{Stream};
+ghost use Rattle.siman_console.specs.Outside.{Deed, Found, Adds, WasHeld, Stream};
 ghost use Rattle.siman_console.specs.Making.{SaysSettled, IsSaved, MakesFile};
 
 use crate::fault::{Fault, of_error};

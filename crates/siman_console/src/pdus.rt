@@ -7,9 +7,8 @@ ghost use Rattle.siman_console.specs.declared.hex_text.TheConstants.{LONGEST_HEX
 ghost use Rattle.siman_console.specs.declared.fault.Fault.TheVariants.{Memory};
 ghost use Rattle.siman_console.specs.declared.pdus.Stop.TheVariants as stops;
 ghost use Rattle.siman_console.specs.Ending.{Wrote};
-ghost use Rattle.siman_console.specs.Input.{Has};
+ghost use Rattle.siman_console.specs.Outside.{Has, Stream, Outcome};
 ghost use Rattle.siman_console.specs.Pdus.{told_of_line, TellsBad, TellsLine, TellsLines, ReadsNext, EndsAt, EndsLines};
-ghost use Rattle.siman_console.specs.Outcome.{Stream, Outcome};
 
 use crate::fault::{Ended, Fault, end, tell as tell_fault};
 use crate::hex_text::LONGEST_HEX;

@@ -3,9 +3,8 @@
 ghost use Rattle.std.specs.Prelude.{◌≡◌, ℕ, List, Option, Result};
 ghost use Rattle.std.specs.List.{All};
 ghost use Rattle.siman_console.specs.declared.fault.Fault.{Fault};
-ghost use Rattle.siman_console.specs.Outside.{Deed, Found, Adds, WasHeld};
+ghost use Rattle.siman_console.specs.Outside.{Deed, Found, Adds, WasHeld, Stream};
 ghost use Rattle.siman_console.specs.Opening.{WorksOn};
-ghost use Rattle.siman_console.specs.Outcome.{Stream};
 
 use crate::fault::Fault;
 use crate::opening::open_apart;

@@ -3,8 +3,7 @@
 ghost use Rattle.std.specs.Prelude.{List};
 ghost use Rattle.std.specs.IoError.{error_kind};
 ghost use Rattle.std.specs.List.{All};
-ghost use Rattle.siman_console.specs.Outside.{Deed, Adds, WasHeld};
-ghost use Rattle.siman_console.specs.Outcome.{Stream, Outcome};
+ghost use Rattle.siman_console.specs.Outside.{Deed, Adds, WasHeld, Stream, Outcome};
 ghost use Rattle.siman_console.specs.Program.{DoesOne, DoesTwo, EndsTask, EndsProgram, words_by};
 ghost use Rattle.siman_words.specs.Words.{asked_by};
 

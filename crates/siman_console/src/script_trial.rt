@@ -7,7 +7,7 @@ ghost use Rattle.exercise_findings.specs.Account.{TellsAccount};
 ghost use Rattle.exercise_check.specs.declared.certificate.Step.{Step};
 ghost use Rattle.exercise_check.specs.Goodness.{IsGood};
 ghost use Rattle.siman_scripts.specs.Script.{script_at};
-ghost use Rattle.siman_console.specs.Input.{Has};
+ghost use Rattle.siman_console.specs.Outside.{Has};
 ghost use Rattle.siman_console.specs.Trial.{trial_text, Performs, Tries, tried_status};
 
 use crate::count_line::counted;

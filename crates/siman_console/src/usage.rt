@@ -1,6 +1,7 @@
 //! What is told of words that gave no task.
 
-ghost use Rattle.siman_console.specs.Outcome.{Outcome, EndsUsage};
+ghost use Rattle.siman_console.specs.Outside.{Outcome};
+ghost use Rattle.siman_console.specs.Program.{EndsUsage};
 
 use crate::fault::{Ended, Fault, end};
 use byte_files::put_shown;

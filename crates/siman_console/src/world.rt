@@ -5,8 +5,7 @@ ghost use Rattle.std.specs.Io.KnownBytes.{Keeps};
 ghost use Rattle.exercise_model.specs.Held.{kept};
 ghost use Rattle.siman_scripts.specs.Script.{script_at};
 ghost use Rattle.siman_worlds.specs.World.{sent_in};
-ghost use Rattle.siman_console.specs.Input.{Has};
-ghost use Rattle.siman_console.specs.Outcome.{Stream};
+ghost use Rattle.siman_console.specs.Outside.{Has, Stream};
 ghost use Rattle.siman_console.specs.World.{Runs, is_sent, world_text, TellsWorld, EndsWorld};
 
 use crate::fault::{Fault, end};

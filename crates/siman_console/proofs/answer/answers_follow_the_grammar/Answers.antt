@@ -2,8 +2,7 @@
 use Rattle.std.proofs.Common.{sym}
 use Rattle.dis_records.specs.Header.{header_at}
 use Rattle.siman_pdus.specs.Reading.{pdu_from, refusal_of}
-use Rattle.siman_console.proofs.Readings.{said_of-read, said_of-unread}
-use Rattle.siman_console.proofs.HexTexts.{said_of_hex-encode_lower, told_of_line-encode_lower}
+use Rattle.siman_console.proofs.Readings.{said_of-read, said_of-unread, said_of_hex-encode_lower, told_of_line-encode_lower}
 use Rattle.siman_console.proofs.answer.answers_follow_the_grammar.Goals as goal
 
 pub returns-clause-spelled : goal.returns-clause-spelled

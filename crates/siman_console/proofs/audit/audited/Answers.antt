@@ -1,6 +1,6 @@
 -- What was found is written, or nothing was searched.
+use Rattle.std.proofs.KnownBytes.{Keeps-refl}
 use Rattle.std.proofs.Common.{inl, inr, refl}
-use Rattle.siman_console.proofs.Openings.{keeps_all}
 use Rattle.siman_console.proofs.audit.audited.Goals as goal
 
 pub returns-in-Ok : goal.returns-in-Ok
@@ -11,5 +11,5 @@ returns-in-Ok g c =
 pub returns-in-Err : goal.returns-in-Err
 returns-in-Err g c =
     let said = c.in-Err.ensures in
-    let file = keeps_all (g.F.Write.contents c.args.certificate.now) in
-    (said.0, said.1, inl (c.in-Err.fault, said.2, refl, file, keeps_all (g.W.Write.contents c.args.out.now)))
+    let file = Keeps-refl (g.F.Write.contents c.args.certificate.now) in
+    (said.0, said.1, inl (c.in-Err.fault, said.2, refl, file, Keeps-refl (g.W.Write.contents c.args.out.now)))

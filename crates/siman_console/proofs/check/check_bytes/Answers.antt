@@ -1,12 +1,11 @@
 -- A recording that is none, a certificate that could not be read, or both judged.
+use Rattle.std.proofs.KnownBytes.{Keeps-refl}
 use Rattle.exercise_check.specs.Certificate.{certificate_at}
 use Rattle.exercise_recording.specs.Reading.{recording_at}
 use Rattle.siman_console.specs.declared.check.TheConstants.{LARGEST_CERTIFICATE}
 use Rattle.siman_console.specs.declared.show.TheConstants.{LARGEST_RECORDING}
 use Rattle.siman_console.specs.Check.{Judges}
-use Rattle.siman_console.proofs.Inputs.{of_any}
-use Rattle.siman_console.proofs.Openings.{keeps_all}
-use Rattle.siman_console.proofs.Passed.{at_fault}
+use Rattle.siman_console.proofs.Inputs.{of_any, at_fault}
 use Rattle.siman_console.proofs.Verdicts.{recording_refused, certificate_refused, judged_files}
 use Rattle.siman_console.proofs.check.check_bytes.Goals as goal
 
@@ -16,7 +15,7 @@ returns-in_err-log g c =
     let kept = g.W.Write.contents c.args.out.now in
     of_any (λ text. Judges recorded (certificate_at LARGEST_CERTIFICATE text) c.from_residual.result kept kept) (g.C.Read.remaining c.args.certificate)
     (λ text. at_fault (λ judged. Judges recorded (certificate_at LARGEST_CERTIFICATE text) judged kept kept) _ _ c.from_residual.ensures.1
-    (recording_refused recorded (certificate_at LARGEST_CERTIFICATE text) c.in_err-log.field-0.0 kept kept c.in_err-log.ensures.read (keeps_all kept)))
+    (recording_refused recorded (certificate_at LARGEST_CERTIFICATE text) c.in_err-log.field-0.0 kept kept c.in_err-log.ensures.read (Keeps-refl kept)))
 
 pub returns-in_err-certificate : goal.returns-in_err-certificate
 returns-in_err-certificate g c =
@@ -27,7 +26,7 @@ returns-in_err-certificate g c =
       read.0,
       read.1,
       at_fault (λ judged. Judges recorded certified judged kept kept) _ _ c.from_residual-in_err-certificate.ensures.1
-          (certificate_refused _ certified c.in_ok-log.log c.in_err-certificate.field-0.0 kept kept c.in_ok-log.ensures.read read.2 (keeps_all kept)),
+          (certificate_refused _ certified c.in_ok-log.log c.in_err-certificate.field-0.0 kept kept c.in_ok-log.ensures.read read.2 (Keeps-refl kept)),
     )
 
 pub returns : goal.returns

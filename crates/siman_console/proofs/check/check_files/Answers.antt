@@ -1,4 +1,5 @@
 -- A recording that was fetched and judged, or could not be fetched.
+use Rattle.std.proofs.KnownBytes.{Keeps-refl}
 use Rattle.std.proofs.Common.{ℕ, List, Bool, Result, subst}
 use Rattle.exercise_check.specs.Certificate.{certificate_at}
 use Rattle.exercise_recording.specs.Reading.{recording_at}
@@ -6,9 +7,7 @@ use Rattle.siman_console.specs.declared.show.TheConstants.{LARGEST_RECORDING}
 use Rattle.siman_console.specs.declared.check.TheConstants.{LARGEST_CERTIFICATE}
 use Rattle.siman_console.specs.declared.files_fault.FilesFault.{FilesFault}
 use Rattle.siman_console.specs.Check.{Recorded, Judges}
-use Rattle.siman_console.proofs.Inputs.{Said, of_recording, of_any, unfetched_recording}
-use Rattle.siman_console.proofs.Openings.{keeps_all}
-use Rattle.siman_console.proofs.Passed.{at_fault}
+use Rattle.siman_console.proofs.Inputs.{Said, of_recording, of_any, unfetched_recording, at_fault}
 use Rattle.siman_console.proofs.Verdicts.{recording_refused}
 use Rattle.siman_console.proofs.check.check_files.Goals as goal
 
@@ -20,7 +19,7 @@ returns-in_err-bytes g c =
     let Unread : List ℕ → List ℕ → Result Bool FilesFault → Type 0 = λ bytes text judged. Judges (recording_at LARGEST_RECORDING bytes) (certificate_at LARGEST_CERTIFICATE text) judged kept kept in
     of_any (λ bytes. Said (λ text. Unread bytes text c.from_residual.result) k) (g.R.Read.remaining c.args.recording)
     (λ bytes. of_any (λ text. Unread bytes text c.from_residual.result) k (λ text. at_fault (Unread bytes text) _ _ c.from_residual.ensures.1
-    (recording_refused _ _ fault kept kept (unfetched_recording fault _ c.in_err-bytes.ensures.failed) (keeps_all kept))))
+    (recording_refused _ _ fault kept kept (unfetched_recording fault _ c.in_err-bytes.ensures.failed) (Keeps-refl kept))))
 
 pub returns : goal.returns
 returns g c =

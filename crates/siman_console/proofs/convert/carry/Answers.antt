@@ -3,8 +3,8 @@ use Rattle.std.proofs.Common.{inl, inr, refl, ap, ◌∙◌}
 use Rattle.siman_console.specs.Convert.{converted_text, Carries}
 use Rattle.exercise_recording.specs.Reading.{recording_at}
 use Rattle.siman_console.specs.declared.convert.TheConstants.{LARGEST_OLD_RECORDING}
-use Rattle.siman_console.proofs.Carryings.{uncarried, readied}
-use Rattle.siman_console.proofs.Passed.{at_fault}
+use Rattle.siman_console.proofs.Searches.{uncarried, readied}
+use Rattle.siman_console.proofs.Inputs.{at_fault}
 use Rattle.siman_console.proofs.convert.carry.Goals as goal
 
 pub returns-in_err-conversion : goal.returns-in_err-conversion

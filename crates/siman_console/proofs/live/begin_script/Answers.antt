@@ -3,8 +3,7 @@ use Rattle.std.proofs.Common.{subst}
 use Rattle.siman_scripts.specs.Script.{script_at}
 use Rattle.siman_console.specs.declared.fault.Fault.TheVariants.{ScriptRead, Memory}
 use Rattle.siman_console.specs.Live.{BeginsNone, Begins}
-use Rattle.siman_console.proofs.Passed.{at_fault, at_either}
-use Rattle.siman_console.proofs.Inputs.{of_script, of_any}
+use Rattle.siman_console.proofs.Inputs.{at_fault, at_either, of_script, of_any}
 use Rattle.siman_console.proofs.live.begin_script.Goals as goal
 
 pub returns-in_err-text : goal.returns-in_err-text

@@ -1,16 +1,14 @@
 -- A file was made and written, and then saved or discarded.
-use Rattle.std.proofs.Common.{[], ◌∷◌, Ok, refl}
-use Rattle.siman_console.specs.Outside.{Makes, WasHeld}
-use Rattle.siman_console.proofs.Openings.{adds_then, all_two}
-use Rattle.siman_console.proofs.Makings.{nothing_held}
+use Rattle.std.proofs.Common.{refl}
+use Rattle.siman_console.specs.Outside.{WasHeld}
+use Rattle.siman_console.proofs.Openings.{adds_then, all_two, nothing_held}
 use Rattle.siman_console.proofs.making.make_file.Goals as goal
 
 pub returns-in-Ok : goal.returns-in-Ok
 returns-in-Ok g c =
-    let made = Makes c.args.name.now (Ok (g.O.Made.Write.contents c.in-Ok.file)) in
     let last = c.save_or_discard.ensures in (
-      made ∷ last.0 ∷ [],
-      adds_then _ _ _ (made ∷ []) (last.0 ∷ []) c.in-Ok.ensures.done last.1,
-      (λ holds. all_two (WasHeld holds) made last.0 c.in-Ok.ensures.fresh (nothing_held holds _ _ _ _ last.2)),
+      _,
+      adds_then _ _ _ _ _ c.in-Ok.ensures.done last.1,
+      (λ holds. all_two (WasHeld holds) _ _ c.in-Ok.ensures.fresh (nothing_held holds _ _ _ _ last.2)),
       (refl, (_, c.put-put.result, c.put-put.ensures, last.2)),
     )

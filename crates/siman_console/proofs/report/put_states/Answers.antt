@@ -1,18 +1,15 @@
 -- The lines of one more station.
-use Rattle.std.proofs.Common.{◌<◌, ◌++◌, length, string_bytes, sym, ap, ◌∙◌, append-nil, arith}
+use Rattle.std.proofs.Common.{◌<◌, length, string_bytes, ap, ◌∙◌, arith}
 use Rattle.std.specs.List.{flat_map}
 use Rattle.exercise_model.specs.History.{station_at}
 use Rattle.exercise_model.specs.Account.{entities_of}
 use Rattle.siman_texts.specs.Spelled.{line_text}
 use Rattle.siman_console.specs.Report.{entity_line, entities_at}
-use Rattle.siman_console.proofs.Texts.{texts_below-none, texts-with-next, states_of-station, line-of-same}
+use Rattle.siman_console.proofs.Texts.{texts-none, texts-with-next, states_of-station, line-of-same}
 use Rattle.siman_console.proofs.report.put_states.Goals as goal
 
 pub loop-station-init : goal.loop-station-init
-loop-station-init g c =
-    let r = g.L.ExerciseLog.recording c.args.log.now in
-    let start = string_bytes c.args.text.now in
-    sym (append-nil start) ∙ ap (λ t. start ++ t) (sym (texts_below-none (entities_at r)))
+loop-station-init g c = texts-none _ _
 
 pub loop-station-preserved : goal.loop-station-preserved
 loop-station-preserved g c =

@@ -1,10 +1,10 @@
 -- What was fetched is tried as all that there was would be.
+use Rattle.std.proofs.KnownBytes.{Keeps-refl}
 use Rattle.std.proofs.Common.{Err, subst}
 use Rattle.siman_scripts.specs.Script.{script_at}
 use Rattle.siman_console.specs.declared.trial_fault.TrialFault.TheVariants.{Read, Memory}
 use Rattle.siman_console.specs.Trial.{Tries}
 use Rattle.siman_console.proofs.Inputs.{of_script, of_any}
-use Rattle.siman_console.proofs.Openings.{keeps_all}
 use Rattle.siman_console.proofs.script_trial.trial.Goals as goal
 
 pub returns-in-Ok : goal.returns-in-Ok
@@ -17,9 +17,9 @@ returns-in-Ok g c =
 pub returns-in-Err-Memory : goal.returns-in-Err-Memory
 returns-in-Err-Memory g c =
     let kept = g.W.Write.contents c.args.out.now in
-    of_any (λ text. Tries (script_at text) (Err Memory) kept kept) (g.R.Read.remaining c.args.input) (λ text. keeps_all kept)
+    of_any (λ text. Tries (script_at text) (Err Memory) kept kept) (g.R.Read.remaining c.args.input) (λ text. Keeps-refl kept)
 
 pub returns : goal.returns
 returns g c =
     let kept = g.W.Write.contents c.args.out.now in
-    of_any (λ text. Tries (script_at text) (Err Read) kept kept) (g.R.Read.remaining c.args.input) (λ text. keeps_all kept)
+    of_any (λ text. Tries (script_at text) (Err Read) kept kept) (g.R.Read.remaining c.args.input) (λ text. Keeps-refl kept)

@@ -1,10 +1,10 @@
 -- A recording that was fetched and shown, or could not be fetched.
+use Rattle.std.proofs.KnownBytes.{Keeps-refl}
 use Rattle.std.proofs.Common.{subst}
 use Rattle.exercise_recording.specs.Reading.{recording_at}
 use Rattle.siman_console.specs.declared.show.TheConstants.{LARGEST_RECORDING}
 use Rattle.siman_console.specs.Show.{Shows}
 use Rattle.siman_console.proofs.Inputs.{of_recording, of_any, unfetched_recording}
-use Rattle.siman_console.proofs.Openings.{keeps_all}
 use Rattle.siman_console.proofs.Shown.{recording_unread}
 use Rattle.siman_console.proofs.show.show.Goals as goal
 
@@ -13,7 +13,7 @@ returns-in_err-bytes g c =
     let fault = c.in_err-bytes.field-0.0 in
     let kept = g.W.Write.contents c.args.out.now in
     of_any (λ bytes. Shows (recording_at LARGEST_RECORDING bytes) c.from_residual.result kept kept) (g.R.Read.remaining c.args.recording)
-    (λ bytes. recording_unread _ fault _ _ _ c.from_residual.ensures.1 (unfetched_recording fault _ c.in_err-bytes.ensures.failed) (keeps_all kept))
+    (λ bytes. recording_unread _ fault _ _ _ c.from_residual.ensures.1 (unfetched_recording fault _ c.in_err-bytes.ensures.failed) (Keeps-refl kept))
 
 pub returns : goal.returns
 returns g c =

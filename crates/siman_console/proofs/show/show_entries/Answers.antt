@@ -1,25 +1,17 @@
 -- The lines of one more place are out or held, or a prefix of all lines is out.
-use Rattle.std.proofs.Common.{◌<◌, [], ◌++◌, length, string_bytes, sym, ap, ◌∙◌, append-nil, arith}
-use Rattle.siman_console.specs.Show.{entry_shown}
-use Rattle.siman_console.proofs.Texts.{texts_below-none}
-use Rattle.siman_console.proofs.Passings.{nothing_out, loop-passes, loop-fails}
+use Rattle.std.proofs.Common.{◌<◌, [], length, string_bytes, arith}
+use Rattle.siman_console.proofs.Passings.{loop-none, loop-passes, loop-fails}
 use Rattle.siman_console.proofs.show.show_entries.Goals as goal
 
 pub loop-index-init : goal.loop-index-init
-loop-index-init g c =
-    let r = g.L.ExerciseLog.recording c.args.log.now in
-    let start = string_bytes c.args.lines.now in
-    ([], nothing_out (g.W.Write.contents c.args.out.now), sym (append-nil start) ∙ ap (λ t. start ++ t) (sym (texts_below-none (entry_shown r))))
+loop-index-init g c = loop-none _ (g.W.Write.contents c.args.out.now) _
 
 pub loop-index-preserved : goal.loop-index-preserved
 loop-index-preserved g c =
-    let r = g.L.ExerciseLog.recording c.args.log.now in
-    loop-passes (entry_shown r) c.loop-index.index (g.W.Write.contents c.args.out.now) _ _ (string_bytes c.args.lines.now)
-    (string_bytes c.loop-index.lines) _ c.loop-index.invariant c.in_ok-show_entry.ensures
+    loop-passes _ _ (g.W.Write.contents c.args.out.now) _ _ _ (string_bytes c.loop-index.lines) _ c.loop-index.invariant c.in_ok-show_entry.ensures
 
 pub returns-in_err-show_entry : goal.returns-in_err-show_entry
 returns-in_err-show_entry g c =
-    let r = g.L.ExerciseLog.recording c.args.log.now in
-    let within : c.loop-index.index < length r.entries = omega (arith, c.loop-index-test.true, c.entry_count-index-end.ensures.count) in
-    loop-fails (entry_shown r) c.loop-index.index (length r.entries) c.in_err-show_entry.field-0.0 _ (g.W.Write.contents c.args.out.now) _ _
-    (string_bytes c.args.lines.now) (string_bytes c.loop-index.lines) [] _ within c.from_residual.ensures.1 c.loop-index.invariant c.in_err-show_entry.ensures
+    let within : c.loop-index.index < length (g.L.ExerciseLog.recording c.args.log.now).entries = omega (arith, c.loop-index-test.true, c.entry_count-index-end.ensures.count) in
+    loop-fails _ _ _ c.in_err-show_entry.field-0.0 _ (g.W.Write.contents c.args.out.now) _ _ _ (string_bytes c.loop-index.lines) [] _ within
+    c.from_residual.ensures.1 c.loop-index.invariant c.in_err-show_entry.ensures

@@ -7,6 +7,7 @@ use Rattle.std.proofs.lemmas.Bool.Decides.{nat_tests}
 use Rattle.exercise_model.specs.Entry.{Entry}
 use Rattle.exercise_model.specs.History.{History, station_of, past, log_at}
 use Rattle.exercise_model.specs.Recording.{IsRecording}
+use Rattle.exercise_model.specs.Run.{IsRun}
 use Rattle.exercise_model.specs.Setting.{SettingData, station_in}
 use Rattle.exercise_model.proofs.Offered.{within, past_within}
 use Rattle.exercise_model.specs.Station.{StationData}
@@ -14,11 +15,12 @@ use Rattle.exercise_recording.specs.Writer.{WriterState}
 use Rattle.siman_application.specs.OwnLog.{AreOneOrder}
 use Rattle.siman_application.specs.Application.{came}
 use Rattle.siman_stations.specs.declared.turn.Node.{Node}
-use Rattle.siman_stations.specs.Deeds.{DeedsStand, RequestsAreOrdered}
-use Rattle.siman_stations.proofs.Offered.{AllStand, all_run, requests_ordered, deeds_stand}
+use Rattle.siman_stations.specs.Deeds.{DeedsStand, ReceivesSent, RequestsAreOrdered}
+use Rattle.siman_stations.proofs.Offered.{all_run, requests_ordered, deeds_stand}
 use Rattle.siman_lines.specs.LineDatagrams.{Datagrams}
 use Rattle.siman_lines.specs.KeptAtLine.{IsClosed, IsKept}
-use Rattle.siman_lines.specs.Calls.{IsFresh, Stations, HasStation, AreBegun, AreCalls, AreKept, AreOrdersOne, ComesOfCalls}
+use Rattle.siman_lines.specs.Calls.{IsFresh, Stations, HasStation, AreAll, AreBegun, AreCalls, AreKept, ComesOfCalls}
+use Rattle.siman_lines.proofs.Identifiers.{OrdersOwn, numbered, are_one}
 use Rattle.siman_lines.proofs.Stations.{started, fresh, found, all_calls}
 
 -- Stations as they are begun.
@@ -66,18 +68,35 @@ each_within n (v ∷ h) e =
     let parts = and_parts (nat_lt (station_of v) n) (within n h) e in
     (below_true (station_of v) n parts.0, each_within n h parts.1)
 
-all_within : (w v : SettingData) (es : List Entry) → v ≡ w → IsRecording (record { setting = v; entries = es })
-    → AllByRecursion (λ v. station_of v < length w.stations) (past es)
-all_within w v es e is =
-    each_within (length w.stations) (past es)
-    (subst (λ (u : SettingData). within (length u.stations) (past es) ≡ true) e (past_within (record { setting = v; entries = es }) is))
+all_within : (w : WriterState) (es : List Entry) → IsRecording (record { setting = w.setting; entries = es })
+    → AllByRecursion (λ v. station_of v < length w.setting.stations) (past es)
+all_within w es is = each_within (length w.setting.stations) (past es) (past_within (record { setting = w.setting; entries = es }) is)
 
-deeds_all : (before : Option (List ℕ)) (w : SettingData) (stations : List ℕ) (x : Stations) (es : List Entry)
-    → ((s : ℕ) → s < length w.stations → HasStation s stations)
-    → x.recorder.setting ≡ w → AreKept before stations x es → AreOrdersOne w x (past es) → AllStand w (past es)
-deeds_all before w stations x es all e kept one = λ s within.
-    subst (λ (v : SettingData). DeedsStand v.exercise (station_in v s) (log_at s (past es))) e
-    (deeds_kept s (x.node s) x.recorder es (x.handed s) (found before x es s stations (all s within) kept.kept) (one s within))
+own_orders : (s : ℕ) (n : Node) (w : WriterState) (es : List Entry) (handed : Option Datagrams) → IsKept s n w es handed
+    → OrdersOwn w.setting (past es) s n.manager
+own_orders s n w es handed is = record {
+  address = is.station.address;
+  ordered = requests_kept s n w es handed is;
+  numbered = numbered n.manager is.halves.calls is.halves.fit is.halves.manager;
+}
+
+pub one_kept : (before : Option (List ℕ)) (stations : List ℕ) (x : Stations) (es : List Entry) → AreAll x.recorder.setting stations
+    → AreKept before stations x es → ReceivesSent x.recorder.setting (past es) → (s : ℕ) → s < length x.recorder.setting.stations
+    → AreOneOrder (x.node s).application.outfit (log_at s (past es))
+one_kept before stations x es all are received s within =
+    let kept : (t : ℕ) → t < length x.recorder.setting.stations → IsKept t (x.node t) x.recorder es (x.handed t) =
+    λ t below. found before x es t stations (all t below) are.kept in
+    are_one (record { setting = x.recorder.setting; entries = es }) (λ t. (x.node t).manager) are.written.recording
+    (λ t below. own_orders t (x.node t) x.recorder es (x.handed t) (kept t below)) (all_within x.recorder es are.written.recording) received s
+    (x.node s).application.outfit (kept s within).station.exercise
+
+pub run_kept : (before : Option (List ℕ)) (stations : List ℕ) (x : Stations) (es : List Entry) → AreAll x.recorder.setting stations
+    → AreKept before stations x es → ReceivesSent x.recorder.setting (past es) → IsRun x.recorder.setting (past es)
+run_kept before stations x es all are received =
+    all_run x.recorder.setting (past es)
+    (λ s below. deeds_kept s (x.node s) x.recorder es (x.handed s) (found before x es s stations (all s below) are.kept)
+    (one_kept before stations x es all are received s below))
+    (all_within x.recorder es are.written.recording) received
 
 pub comes : (before : Option (List ℕ)) (w : SettingData) (stations calls : List ℕ) (old new : Stations) → AreBegun before w stations old
     → AllByRecursion (λ s. HasStation s stations) calls
@@ -90,6 +109,6 @@ comes before w stations calls old new is has are =
         entries = es;
         setting = e;
         kept = kept;
-        run = λ one received. all_run w (past es) (deeds_all before w stations new es is.all e kept one) (all_within w new.recorder.setting es e
-            kept.written.recording) received;
+        run = subst (λ (v : SettingData). ReceivesSent v (past es) → IsRun v (past es)) e
+            (run_kept before stations new es (subst (λ (v : SettingData). AreAll v stations) (sym e) is.all) kept);
       }

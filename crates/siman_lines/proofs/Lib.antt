@@ -8,5 +8,6 @@ pub mod Hearing
 pub mod Keeping
 pub mod States
 pub mod Stations
+pub mod Identifiers
 pub mod Coming
 pub mod Refusing

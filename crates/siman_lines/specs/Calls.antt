@@ -2,13 +2,12 @@
 use Rattle.std.specs.Prelude.{◌≡◌, ◌≤◌, ◌<◌, ℕ, List, [], ◌∷◌, ◌++◌, length, Option, Some, None, ◌⊎◌}
 use Rattle.std.specs.List.{AllByRecursion}
 use Rattle.exercise_model.specs.Entry.{Entry}
-use Rattle.exercise_model.specs.History.{History, past, log_at}
+use Rattle.exercise_model.specs.History.{past}
 use Rattle.exercise_model.specs.Recording.{PlainRecording, IsRecording}
 use Rattle.exercise_model.specs.Run.{IsRun}
 use Rattle.exercise_model.specs.Setting.{SettingData, IsSetting}
 use Rattle.exercise_recording.specs.Text.{recording_text}
 use Rattle.exercise_recording.specs.Writer.{WriterState, Starts}
-use Rattle.siman_application.specs.OwnLog.{AreOneOrder}
 use Rattle.siman_application.specs.Ranges.{IsOutfitInRange}
 use Rattle.siman_stations.specs.declared.turn.Node.{Node}
 use Rattle.siman_stations.specs.Deeds.{ReceivesSent}
@@ -59,12 +58,16 @@ pub record AreKept (before : Option (List ℕ)) (stations : List ℕ) (x : Stati
   pub written : IsWritten before x.recorder es
   pub kept : AllByRecursion (λ s. IsKept s (x.node s) x.recorder es (x.handed s)) stations
 
+-- these are all stations of the recording
+abbrev pub AreAll : SettingData → List ℕ → Type 0
+AreAll w stations = (s : ℕ) → s < length w.stations → HasStation s stations
+
 -- STATIONS AS THEY ARE BEGUN over one recorder: the head of its recording is written, and these are all its stations.
 pub record AreBegun (before : Option (List ℕ)) (w : SettingData) (stations : List ℕ) (x : Stations) : Type 0 where
   pub setting : IsSetting w
   pub starts : Starts before w x.recorder
   pub fresh : AllByRecursion (λ s. IsFresh s (x.node s) w (x.handed s)) stations
-  pub all : (s : ℕ) → s < length w.stations → HasStation s stations
+  pub all : AreAll w stations
 
 -- What is written.
 
@@ -81,13 +84,9 @@ pub record IsBeginningOf (before : List ℕ) (w : WriterState) (es : List Entry)
   pub contents : w.contents ≡ Some (before ++ front)
   pub text : front ++ rest ≡ recording_text recording
 
--- NO SITE AND APPLICATION USED ONE REQUEST IDENTIFIER FOR TWO ORDERS, as far as each station received them.
-abbrev pub AreOrdersOne : SettingData → Stations → History → Type 0
-AreOrdersOne w x h = (s : ℕ) → s < length w.stations → AreOneOrder (x.node s).application.outfit (log_at s h)
-
--- WHAT COMES OF CALLS over a recorder with this setting: these entries are written whole, all is kept of each station, and on two conditions the entries are a run in the order of the file.
+-- WHAT COMES OF CALLS over a recorder with this setting: these entries are written whole, all is kept of each station, and where each datagram that was received and is not other was sent before, the entries are a run in the order of the file.
 pub record ComesOfCalls (before : Option (List ℕ)) (w : SettingData) (stations : List ℕ) (x : Stations) : Type 0 where
   pub entries : List Entry
   pub setting : x.recorder.setting ≡ w
   pub kept : AreKept before stations x entries
-  pub run : AreOrdersOne w x (past entries) → ReceivesSent w (past entries) → IsRun w (past entries)
+  pub run : ReceivesSent w (past entries) → IsRun w (past entries)

@@ -1,6 +1,7 @@
--- What a line over memory tells.
-use Rattle.std.specs.Prelude.{◌≡◌, ◌≤◌, ℕ, List, length, map, take, Vec}
+-- What a line over memory tells, and what each of its calls comes to.
+use Rattle.std.specs.Prelude.{◌≡◌, ◌≤◌, ◌<◌, ◌+◌, ◌^◌, ℕ, Bool, true, false, ◌==◌, nat_lt, List, [], ◌∷◌, ◌++◌, length, map, take, Option, Some, None, Result, Ok, Err, Vec, if◌then◌else◌}
 use Rattle.std.specs.declared.alloc.Global.{Global}
+use Rattle.siman_lines.specs.declared.line.LineFault.{LineFault}
 use Rattle.siman_lines.specs.declared.memory.MemoryLine.{MemoryLine}
 
 -- the bytes of each
@@ -13,6 +14,40 @@ sent_of l = bytes_of l.sent.items
 abbrev pub received_of : MemoryLine → List (List ℕ)
 received_of l = bytes_of (take l.given l.coming.items)
 
+-- A LINE AS IT IS MADE: these datagrams are to come, and none of them was handed out; it was handed nothing, and no call was made or failed; the call of this number is the one that fails.
+pub record IsMade (datagrams : List (List ℕ)) (number : Option ℕ) (l : MemoryLine) : Type 0 where
+  pub coming : bytes_of l.coming.items ≡ datagrams
+  pub given : l.given ≡ 0
+  pub sent : sent_of l ≡ []
+  pub calls : l.calls ≡ 0
+  pub fails_at : l.fails_at ≡ number
+  pub failures : length l.failures.items ≡ 0
+
+-- Calls, counted from 1.
+
+-- the number of the next call; past the last number of 64 bits a call has none
+abbrev pub next_number : MemoryLine → Option ℕ
+next_number l = if nat_lt (l.calls + 1) (2 ^ 64) then Some (l.calls + 1) else None
+
+abbrev pub is_number : Option ℕ → Option ℕ → Bool
+is_number None number = false
+is_number (Some wanted) None = false
+is_number (Some wanted) (Some number) = wanted == number
+
+-- THE NEXT CALL IS THE ONE THAT FAILS
+abbrev pub is_chosen : MemoryLine → Bool
+is_chosen l = is_number l.fails_at (next_number l)
+
+abbrev pub counted : ℕ → Option ℕ → ℕ
+counted calls None = calls
+counted calls (Some number) = number
+
+-- The call is counted; what is to come, and which call fails, stays.
+pub record Counts (old new : MemoryLine) : Type 0 where
+  pub calls : new.calls ≡ counted old.calls (next_number old)
+  pub fails_at : new.fails_at ≡ old.fails_at
+  pub coming : new.coming ≡ old.coming
+
 -- what came and what went out stays
 abbrev pub SameDatagrams : MemoryLine → MemoryLine → Type 0
 SameDatagrams old new = (new.coming ≡ old.coming) × (new.given ≡ old.given) × (new.sent ≡ old.sent)
@@ -21,3 +56,49 @@ SameDatagrams old new = (new.coming ≡ old.coming) × (new.given ≡ old.given)
 pub record FoundNothing (old new : MemoryLine) : Type 0 where
   pub same : SameDatagrams old new
   pub all : length new.coming.items ≤ new.given
+
+-- A SEND that works is not the call that fails;
+pub record SendsOne (d : List ℕ) (old new : MemoryLine) : Type 0 where
+  pub counts : Counts old new
+  pub not_chosen : is_chosen old ≡ false
+  pub given : new.given ≡ old.given
+  pub sent : sent_of new ≡ sent_of old ++ d ∷ []
+
+-- one that fails is that call, or memory was refused; it moves no datagram, and is one failure.
+pub record SendsNone (old new : MemoryLine) : Type 0 where
+  pub counts : Counts old new
+  pub given : new.given ≡ old.given
+  pub sent : sent_of new ≡ sent_of old
+  pub failed : length new.failures.items ≡ length old.failures.items + 1
+
+-- WHAT A SEND COMES TO.
+abbrev pub SendEnds : List ℕ → MemoryLine → MemoryLine → Result (Unit {0}) LineFault → Type 0
+SendEnds d old new (Ok done) = SendsOne d old new
+SendEnds d old new (Err fault) = SendsNone old new
+
+-- A RECEIVE that works is not the call that fails: it hands out the next datagram that was to come, if one is left,
+pub record ReceivesOne (old new : MemoryLine) : Type 0 where
+  pub counts : Counts old new
+  pub not_chosen : is_chosen old ≡ false
+  pub left : old.given < length old.coming.items
+  pub given : new.given ≡ old.given + 1
+  pub sent : new.sent ≡ old.sent
+
+-- and else finds nothing;
+pub record ReceivesNone (old new : MemoryLine) : Type 0 where
+  pub counts : Counts old new
+  pub not_chosen : is_chosen old ≡ false
+  pub nothing : FoundNothing old new
+
+-- one that fails is that call; it moves no datagram, and is one failure.
+pub record LosesCall (old new : MemoryLine) : Type 0 where
+  pub counts : Counts old new
+  pub chosen : is_chosen old ≡ true
+  pub same : SameDatagrams old new
+  pub failed : length new.failures.items ≡ length old.failures.items + 1
+
+-- WHAT A RECEIVE COMES TO.
+abbrev pub ReceiveEnds : MemoryLine → MemoryLine → Result (Option ℕ) LineFault → Type 0
+ReceiveEnds old new (Ok (Some size)) = ReceivesOne old new
+ReceiveEnds old new (Ok None) = ReceivesNone old new
+ReceiveEnds old new (Err fault) = LosesCall old new

@@ -13,7 +13,7 @@ ghost use Rattle.siman_stations.specs.declared.turn.Node.{Node};
 ghost use Rattle.siman_stations.specs.Deeds.{DeedsStand, ReceivesSent, RequestsAreOrdered};
 ghost use Rattle.siman_lines.specs.LineDatagrams.{Datagrams};
 ghost use Rattle.siman_lines.specs.KeptAtLine.{IsWritten, IsKept};
-ghost use Rattle.siman_lines.specs.Calls.{IsFresh, Stations, HasStation, AreBegun, AreCalls, AreKept, IsBeginningOf, ComesOfCalls};
+ghost use Rattle.siman_lines.specs.Calls.{IsFresh, Stations, HasStation, AreAll, AreBegun, AreCalls, AreKept, IsBeginningOf, ComesOfCalls};
 
 /// What is kept of stations over one recorder: it holds of them as they are begun, and after every
 /// list of calls of [`serve`](crate::serve), [`issue`](crate::issue), [`nudge`](crate::nudge) and
@@ -43,13 +43,19 @@ pub fn what_is_kept_stands()
     // and where, besides, each datagram that was received and is not other was sent before, the entries are a run in the order of the file.
     ensures run { (w : SettingData) (es : List Entry) → ((s : ℕ) → s < length w.stations → DeedsStand w.exercise (station_in w s) (log_at s (past es)))
         → AllByRecursion (λ v. station_of v < length w.stations) (past es) → ReceivesSent w (past es) → IsRun w (past es) }
+    // Where all stations of the recording are so kept, and each datagram that was received and is not other was sent before, no site and application used one request identifier for two orders, since each manager's identifiers are distinct,
+    ensures one_order { (before : Option (List ℕ)) (stations : List ℕ) (x : Stations) (es : List Entry) → AreAll x.recorder.setting stations → AreKept before stations x es
+        → ReceivesSent x.recorder.setting (past es) → (s : ℕ) → s < length x.recorder.setting.stations → AreOneOrder (x.node s).application.outfit (log_at s (past es)) }
+    // and the entries are a run in the order of the file.
+    ensures own_run { (before : Option (List ℕ)) (stations : List ℕ) (x : Stations) (es : List Entry) → AreAll x.recorder.setting stations → AreKept before stations x es
+        → ReceivesSent x.recorder.setting (past es) → IsRun x.recorder.setting (past es) }
 {}
 
 /// What comes of stations over one recorder, from the start of its recording on, after every list of
 /// calls of [`serve`](crate::serve), [`issue`](crate::issue), [`nudge`](crate::nudge) and
-/// [`tell`](crate::tell), with faults too: where no site and application used one request identifier
-/// for two orders, and each datagram that was received and is not other was sent before, the entries
-/// that are written whole are a run in the order of the file.
+/// [`tell`](crate::tell), with faults too: where each datagram that was received and is not other was
+/// sent before, the entries that are written whole are a run in the order of the file. The stations
+/// are all those of the recording.
 pub fn calls_make_a_run()
     ensures { (before : Option (List ℕ)) (w : SettingData) (stations calls : List ℕ) (old new : Stations) → AreBegun before w stations old
         → AllByRecursion (λ s. HasStation s stations) calls → AreCalls calls old new → ComesOfCalls before w stations new }

@@ -16,8 +16,15 @@ pub struct MemoryLine {
 }
 
 impl MemoryLine {
-    /// A line that hands out `coming`. Of its calls, counted from 1, the one whose number is `fails_at` fails.
-    pub fn new(alloc: Global, coming: Vec<Vec<u8>>, fails_at: Option<u64>) -> MemoryLine {
+    ghost use Rattle.std.specs.Prelude.{◌≡◌, ◌+◌, length};
+    ghost use Rattle.siman_lines.specs.Memory.{SameDatagrams, IsMade, Counts, bytes_of, is_chosen};
+
+    /// A line that hands out `coming`, in this order. Of its calls, counted from 1, sends and receives
+    /// together, the one whose number is `fails_at` fails and moves no datagram; a call after more than
+    /// 2^64 - 1 others has no number. A send whose growth is refused fails too.
+    pub fn new(alloc: Global, coming: Vec<Vec<u8>>, fails_at: Option<u64>) -> MemoryLine
+        ensures { IsMade (bytes_of coming.items) fails_at result }
+    {
         MemoryLine {
             coming,
             given: 0,
@@ -35,11 +42,10 @@ impl MemoryLine {
         &self.sent
     }
 
-    ghost use Rattle.std.specs.Prelude.{◌≡◌, ◌+◌, length};
-    ghost use Rattle.siman_lines.specs.Memory.{SameDatagrams};
-
     fn fail(&mut self) -> LineFault
         ensures same { SameDatagrams self.old self.new }
+        ensures calls { self.new.calls ≡ self.old.calls }
+        ensures fails_at { self.new.fails_at ≡ self.old.fails_at }
         ensures counted { length self.new.failures.items ≡ length self.old.failures.items + 1 }
     {
         self.failures = self.failures.and(&(), &());
@@ -50,6 +56,8 @@ impl MemoryLine {
     fn is_failing(&mut self) -> bool
         ensures same { SameDatagrams self.old self.new }
         ensures failures { self.new.failures ≡ self.old.failures }
+        ensures counts { Counts self.old self.new }
+        ensures chosen { result ≡ is_chosen self.old }
     {
         match self.calls.checked_add(1) {
             None => false,
@@ -63,7 +71,7 @@ impl MemoryLine {
 
 impl Line for MemoryLine {
     ghost use Rattle.std.specs.Prelude.{Some, length};
-    ghost use Rattle.siman_lines.specs.Memory.{sent_of, received_of, FoundNothing};
+    ghost use Rattle.siman_lines.specs.Memory.{sent_of, received_of, FoundNothing, SendEnds, ReceiveEnds};
 
     ghost received = { λ l. Some (received_of l) };
 
@@ -73,6 +81,10 @@ impl Line for MemoryLine {
 
     ghost finds_nothing = { FoundNothing };
 
+    ghost sends = { SendEnds };
+
+    ghost receives = { ReceiveEnds };
+
     fn send(&mut self, datagram: &[u8]) -> Result<(), LineFault> {
         if self.is_failing() {
             return Err(self.fail());
@@ -80,10 +92,10 @@ impl Line for MemoryLine {
         let Ok(copy) = Vec::from_slice(*self.sent.allocator(), datagram) else {
             return Err(self.fail());
         };
-        match self.sent.push(copy) {
-            Ok(()) => Ok(()),
-            Err(_) => Err(self.fail()),
+        if self.sent.push(copy).is_err() {
+            return Err(self.fail());
         }
+        Ok(())
     }
 
     fn receive(&mut self, buffer: &mut [u8]) -> Result<Option<usize>, LineFault> {

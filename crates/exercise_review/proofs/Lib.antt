@@ -1,0 +1,10 @@
+mod Numbers
+mod Recorded
+mod Brought
+mod Lives
+mod Sides
+mod Says
+mod Events
+mod Runs
+mod Heard
+mod Fates

@@ -1,0 +1,10 @@
+pub mod Counted
+pub mod Entries
+pub mod Order
+pub mod Party
+pub mod Reply
+pub mod Word
+pub mod Fate
+pub mod Life
+pub mod Missing
+pub mod InRuns

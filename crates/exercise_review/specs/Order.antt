@@ -1,0 +1,107 @@
+-- Orders: requests, each told by the entry at which it first stands (profile, over the requests of IEEE 1278.1-2012, 5.6.5).
+use Rattle.std.specs.Prelude.{ℕ, length, Bool, false, ◌&&◌, not, nat_lt, Option, Some, None, is_some, option_map, option_and_then, slice_get, if◌then◌else◌}
+use Rattle.std.specs.Option.{option_map_or}
+use Rattle.dis_records.specs.Entity.{is_addressed}
+use Rattle.siman_pdus.specs.declared.pdu.Pdu.{Pdu}
+use Rattle.siman_pdus.specs.Role.{is_request_body, request_id_of}
+use Rattle.siman_pdus.specs.Answers.{same_id}
+use Rattle.siman_pdus.specs.Same.{is_same_order}
+use Rattle.siman_pdus.specs.Reading.{pdu_of}
+use Rattle.exercise_model.specs.Entry.{Entry, Sent, Received, Told}
+use Rattle.exercise_model.specs.Recording.{PlainRecording}
+use Rattle.exercise_model.specs.History.{station_at}
+use Rattle.exercise_model.specs.Setting.{is_open, is_recorded}
+use Rattle.exercise_model.specs.Meaning.{meaning}
+use Rattle.exercise_model.specs.Place.{first_below}
+use Rattle.exercise_review.specs.declared.order.Order.{Order}
+use Rattle.exercise_review.specs.Counted.{count_below}
+use Rattle.exercise_review.specs.Entries.{sent_by, got_by}
+
+-- an order: the entry that is its head, the recorded station that made it (none where it came from outside), and what it asks
+pub record OrderData : Type 0 where
+  pub head : ℕ
+  pub maker : Option ℕ
+  pub request : Pdu
+
+-- what an order in place shows
+abbrev pub order_of : Order → OrderData
+order_of o = record { head = o.head; maker = o.maker; request = pdu_of o.request }
+
+-- ---- the same order again
+
+-- entry i sends the order of p from station s: in all but timestamp and status it is p
+unfoldable pub sends_order : PlainRecording → ℕ → Pdu → ℕ → Bool
+sends_order r s p i = option_map_or (is_same_order p) (sent_by r s i) false
+
+-- entry i receives the order of p at station s
+unfoldable pub gets_order : PlainRecording → ℕ → Pdu → ℕ → Bool
+gets_order r s p i = option_map_or (is_same_order p) (got_by r s i) false
+
+-- an entry receives the order of p, at whatever station
+abbrev pub entry_gets : ℕ → Pdu → Entry → Bool
+entry_gets x p (Sent s stamp b) = false
+entry_gets x p (Received s stamp b) = option_map_or (is_same_order p) (meaning x b) false
+entry_gets x p (Told s e y) = false
+
+unfoldable pub gets_anywhere : PlainRecording → Pdu → ℕ → Bool
+gets_anywhere r p i = option_map_or (entry_gets r.setting.exercise p) (slice_get r.entries i) false
+
+-- ---- who comes from outside
+
+-- p COMES FROM OUTSIDE: stations may have taken part that nobody recorded, and it comes from one of them
+unfoldable pub is_outside : PlainRecording → Pdu → Bool
+is_outside r p = is_open r.setting.form && not (is_recorded r.setting p)
+
+-- p addresses the recorded station s
+unfoldable pub is_meant : PlainRecording → Pdu → ℕ → Bool
+is_meant r p s = nat_lt s (length r.setting.stations) && is_addressed p.target (station_at r s).address
+
+-- p addresses a recorded station
+unfoldable pub is_for_station : PlainRecording → Pdu → Bool
+is_for_station r p = is_some (first_below (is_meant r p) (length r.setting.stations))
+
+-- ---- heads
+
+-- the head of a request of station s: the first entry at which it sends the order
+abbrev pub head_sent : PlainRecording → ℕ → Pdu → Option ℕ
+head_sent r s p = if is_request_body p.body then first_below (sends_order r s p) (length r.entries) else None
+
+-- the head of a request from outside to a recorded station: the first entry at which somebody receives the order
+abbrev pub head_got : PlainRecording → Pdu → Option ℕ
+head_got r p = if is_request_body p.body && (is_outside r p && is_for_station r p) then first_below (gets_anywhere r p) (length r.entries) else None
+
+abbrev pub head_of_entry : PlainRecording → Entry → Option ℕ
+head_of_entry r (Sent s stamp b) = option_and_then (head_sent r s) (meaning r.setting.exercise b)
+head_of_entry r (Received s stamp b) = option_and_then (head_got r) (meaning r.setting.exercise b)
+head_of_entry r (Told s e y) = None
+
+-- THE HEAD OF AN ENTRY: where it sends a request, or receives one from outside, the entry at which that order first stands
+unfoldable pub head_of : PlainRecording → ℕ → Option ℕ
+head_of r i = option_and_then (head_of_entry r) (slice_get r.entries i)
+
+-- ---- orders
+
+-- the order with head i, where p was sent by a recorded station (some maker) or came from outside (none)
+abbrev pub made_by : ℕ → Option ℕ → Pdu → OrderData
+made_by i maker p = record { head = i; maker = maker; request = p }
+
+abbrev pub order_of_entry : PlainRecording → ℕ → Entry → Option OrderData
+order_of_entry r i (Sent s stamp b) = option_map (made_by i (Some s)) (meaning r.setting.exercise b)
+order_of_entry r i (Received s stamp b) = option_map (made_by i None) (meaning r.setting.exercise b)
+order_of_entry r i (Told s e y) = None
+
+-- THE ORDER AT ENTRY i: there is one where the entry is its own head
+unfoldable pub order_at : PlainRecording → ℕ → Option OrderData
+order_at r i = if same_id (head_of r i) (Some i) then option_and_then (order_of_entry r i) (slice_get r.entries i) else None
+
+-- HOW OFTEN AN ORDER WAS SENT: at so many entries, whose head it is; what came from outside stands in no log
+unfoldable pub sends_of : PlainRecording → OrderData → ℕ
+sends_of r o = option_map_or (λ s. count_below (sends_order r s o.request) (length r.entries)) o.maker 0
+
+-- entry i sends a request of station s under the identifier of p
+unfoldable pub sends_under_id : PlainRecording → ℕ → Pdu → ℕ → Bool
+sends_under_id r s p i = option_map_or (λ q. is_request_body q.body && same_id (request_id_of p.body) (request_id_of q.body)) (sent_by r s i) false
+
+-- o is the first order of its maker under its identifier
+unfoldable pub is_first_under_id : PlainRecording → OrderData → Bool
+is_first_under_id r o = option_map_or (λ s. same_id (first_below (sends_under_id r s o.request) (length r.entries)) (Some o.head)) o.maker false

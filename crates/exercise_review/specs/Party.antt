@@ -1,0 +1,63 @@
+-- The parties of an order: whom it is for, and who answered it from outside (profile, over IEEE 1278.1-2012, 5.6 and 6.2.79).
+use Rattle.std.specs.Prelude.{ℕ, length, Bool, false, ◌&&◌, ◌||◌, ◌==◌, not, nat_lt, Option, Some, is_some, option_and_then}
+use Rattle.std.specs.Option.{option_map_or}
+use Rattle.dis_records.specs.declared.entity.EntityId.{EntityId}
+use Rattle.dis_records.specs.Address.{Pair, is_address}
+use Rattle.siman_pdus.specs.declared.pdu.Pdu.{Pdu}
+use Rattle.siman_pdus.specs.Answers.{same_id, is_answer_to}
+use Rattle.exercise_model.specs.Recording.{PlainRecording}
+use Rattle.exercise_model.specs.History.{station_at}
+use Rattle.exercise_model.specs.Setting.{is_from, is_open}
+use Rattle.exercise_model.specs.Place.{first_below}
+use Rattle.exercise_review.specs.declared.party.Outsider.{Outsider}
+use Rattle.exercise_review.specs.Entries.{got_by}
+use Rattle.exercise_review.specs.Order.{OrderData, gets_order, is_outside, is_meant, is_first_under_id}
+
+-- ---- copies
+
+-- A COPY OF AN ORDER AT STATION t: entry i receives it there
+abbrev pub is_copy : PlainRecording → OrderData → ℕ → ℕ → Bool
+is_copy r o t i = gets_order r t o.request i
+
+-- the first copy at station t
+unfoldable pub first_copy : PlainRecording → OrderData → ℕ → Option ℕ
+first_copy r o t = first_below (is_copy r o t) (length r.entries)
+
+-- ---- recorded parties
+
+-- STATION t IS A PARTY: the order addresses it; its own maker is one only where it received the order
+unfoldable pub is_party : PlainRecording → OrderData → ℕ → Bool
+is_party r o t = is_meant r o.request t && (not (same_id o.maker (Some t)) || is_some (first_copy r o t))
+
+-- ---- parties outside
+
+-- the pair of an address outside
+abbrev pub pair_at : Outsider → Pair
+pair_at a = record { site = a.site; application = a.application }
+
+-- p answers the order o, from the address a outside
+abbrev pub tells_from : PlainRecording → OrderData → Pair → Pdu → Bool
+tells_from r o a p = is_answer_to p o.request && (is_outside r p && is_from a p)
+
+-- TOLD FROM OUTSIDE: after it sent the order, which is its first one under the identifier, the maker receives at entry i an answer to it from the address a, which nobody recorded
+unfoldable pub is_told_from : PlainRecording → OrderData → Pair → ℕ → Bool
+is_told_from r o a i =
+    is_first_under_id r o && (nat_lt o.head i && option_map_or (tells_from r o a) (option_and_then (λ s. got_by r s i) o.maker) false)
+
+-- the identifier names this site and this application alone
+abbrev pub names : EntityId → Pair → Bool
+names id a = is_address a && ((id.site == a.site) && (id.application == a.application))
+
+-- the recorded station s has this address
+unfoldable pub is_at : PlainRecording → Pair → ℕ → Bool
+is_at r a s = nat_lt s (length r.setting.stations) && (((station_at r s).address.site == a.site) && ((station_at r s).address.application == a.application))
+
+-- a recorded station has this address
+unfoldable pub is_recorded_at : PlainRecording → Pair → Bool
+is_recorded_at r a = is_some (first_below (is_at r a) (length r.setting.stations))
+
+-- AN ADDRESS a OUTSIDE IS A PARTY: the order is one of a recorded station, nobody recorded a, and the order names it or was told from there
+unfoldable pub is_party_outside : PlainRecording → OrderData → Pair → Bool
+is_party_outside r o a =
+    is_open r.setting.form && (is_some o.maker && (not (is_recorded_at r a)
+    && (names o.request.target a || is_some (first_below (is_told_from r o a) (length r.entries)))))

@@ -1,0 +1,134 @@
+//! The entries of a recording, and what they send and receive.
+
+ghost use Rattle.std.specs.Prelude.{◌≡◌, ◌<◌, length, true, option_map, slice_get, IfSome};
+ghost use Rattle.siman_pdus.specs.Reading.{pdu_of};
+ghost use Rattle.exercise_model.specs.Entry.{is_entry};
+ghost use Rattle.exercise_model.specs.Held.{shown};
+ghost use Rattle.exercise_model.specs.Meaning.{meaning};
+ghost use Rattle.exercise_review.specs.Entries.{bytes_sent, bytes_got, sent_by, got_by, meant_at};
+
+use exercise_findings::Findings;
+use exercise_model::{EntryView, ExerciseLog, meaning_view};
+use siman_pdus::PduView;
+
+/// The entry of a number, if there is one.
+pub(crate) fn entry_at<'a, L: ExerciseLog>(
+    findings: &Findings<'a, L>,
+    entry: usize,
+) -> Option<EntryView<'a>>
+    ensures entry { option_map shown result ≡ slice_get findings.now.entries entry }
+    ensures within { IfSome result (λ _. entry < length findings.now.entries) }
+    ensures fits { let stations = length findings.now.setting.stations in IfSome result (λ view. is_entry stations (shown view) ≡ true) }
+{
+    let log = findings.log();
+    if entry < log.entry_count() {
+        Some(log.entry(entry))
+    } else {
+        None
+    }
+}
+
+/// How many entries there are.
+pub(crate) fn entry_count<L: ExerciseLog>(findings: &Findings<'_, L>) -> usize
+    ensures { result ≡ length findings.now.entries }
+{
+    findings.log().entry_count()
+}
+
+/// What a datagram means in the exercise of a recording.
+pub(crate) fn meant<'b, L: ExerciseLog>(
+    findings: &Findings<'_, L>,
+    bytes: &'b [u8],
+) -> Option<PduView<'b>>
+    ensures { option_map pdu_of result ≡ meaning findings.now.setting.exercise bytes.now }
+{
+    meaning_view(findings.log().exercise(), bytes)
+}
+
+/// The bytes that a station sends at an entry.
+#[tactic(auto, unfolding(crate::specs::Entries::bytes_sent))]
+pub(crate) fn bytes_sent<'a, L: ExerciseLog>(
+    findings: &Findings<'a, L>,
+    station: u16,
+    entry: usize,
+) -> Option<&'a [u8]>
+    ensures { option_map (λ bytes. bytes.now) result ≡ bytes_sent findings.now station entry }
+{
+    match entry_at(findings, entry) {
+        Some(
+            EntryView::Sent {
+                station: at,
+                bytes,
+                ..
+            },
+        ) if at == station => Some(bytes),
+        _ => None,
+    }
+}
+
+/// The bytes that a station receives at an entry.
+#[tactic(auto, unfolding(crate::specs::Entries::bytes_got))]
+pub(crate) fn bytes_got<'a, L: ExerciseLog>(
+    findings: &Findings<'a, L>,
+    station: u16,
+    entry: usize,
+) -> Option<&'a [u8]>
+    ensures { option_map (λ bytes. bytes.now) result ≡ bytes_got findings.now station entry }
+{
+    match entry_at(findings, entry) {
+        Some(
+            EntryView::Received {
+                station: at,
+                bytes,
+                ..
+            },
+        ) if at == station => Some(bytes),
+        _ => None,
+    }
+}
+
+/// The PDU that a station sends at an entry, if it sends something that is not "other".
+#[tactic(auto, unfolding(crate::specs::Entries::sent_by))]
+pub(crate) fn sent_by<'a, L: ExerciseLog>(
+    findings: &Findings<'a, L>,
+    station: u16,
+    entry: usize,
+) -> Option<PduView<'a>>
+    ensures { option_map pdu_of result ≡ sent_by findings.now station entry }
+{
+    match bytes_sent(findings, station, entry) {
+        Some(bytes) => meant(findings, bytes),
+        None => None,
+    }
+}
+
+/// The PDU that a station receives at an entry, if it receives something that is not "other".
+#[tactic(auto, unfolding(crate::specs::Entries::got_by))]
+pub(crate) fn got_by<'a, L: ExerciseLog>(
+    findings: &Findings<'a, L>,
+    station: u16,
+    entry: usize,
+) -> Option<PduView<'a>>
+    ensures { option_map pdu_of result ≡ got_by findings.now station entry }
+{
+    match bytes_got(findings, station, entry) {
+        Some(bytes) => meant(findings, bytes),
+        None => None,
+    }
+}
+
+/// The PDU of an entry, sent or received, at whatever station.
+#[tactic(auto, unfolding(crate::specs::Entries::meant_at))]
+pub(crate) fn meant_at<'a, L: ExerciseLog>(
+    findings: &Findings<'a, L>,
+    entry: usize,
+) -> Option<PduView<'a>>
+    ensures { option_map pdu_of result ≡ meant_at findings.now entry }
+{
+    match entry_at(findings, entry) {
+        Some(EntryView::Sent { bytes, .. } | EntryView::Received { bytes, .. }) => {
+            meant(findings, bytes)
+        }
+        Some(EntryView::Told { .. }) | None => None,
+    }
+}

@@ -1,0 +1,168 @@
+//! What became of an order at a party of it.
+
+ghost use Rattle.std.specs.Prelude.{◌≡◌};
+ghost use Rattle.exercise_review.specs.Order.{order_of};
+ghost use Rattle.exercise_review.specs.Fate.{fate_heard, fate_by, word_heard, has_replied, traces_of, fate_of, fate_text};
+
+use crate::entries::entry_count;
+use crate::order::Order;
+use crate::party::{Party, first_copy};
+use crate::question::first_below;
+use crate::reply::{News, Replies};
+use crate::word::{Word, first_settling, word_at};
+use exercise_findings::Findings;
+use exercise_model::ExerciseLog;
+use std::fmt;
+
+/// What became of an order at a party of it. Each row is judged only where every log that it asks
+/// is there.
+#[derive(Clone, Copy, Debug, PartialEq, Eq)]
+pub enum Fate {
+    /// The maker heard an answer of the party that settles, and that says able, complete or data.
+    Done,
+    /// It heard one that settles and says another word than those of done and refused.
+    Answered,
+    /// It heard one that settles, and that says unable or rejected.
+    Refused,
+    /// The party replied, and no reply settles.
+    Pending,
+    /// A reply settles, and the maker heard no answer of the party that settles.
+    Unheard,
+    /// The party received the order, and did not reply.
+    Unanswered,
+    /// The party did not receive the order.
+    Lost,
+    /// None of these, since a log is not there.
+    Unknown,
+    /// The order has no party at all.
+    Nobody,
+}
+
+/// What the logs of the maker and of a recorded party say of an order.
+#[derive(Clone, Copy, Debug, PartialEq, Eq)]
+pub struct Traces {
+    /// Whether the maker is recorded.
+    pub made: bool,
+    /// The word of the first answer of the party that the maker heard and that settles.
+    pub heard: Option<Word>,
+    /// Whether the party sent a reply that settles.
+    pub settled: bool,
+    /// Whether the party sent a reply.
+    pub replied: bool,
+    /// Whether the party received the order.
+    pub got: bool,
+}
+
+impl Fate {
+    /// The fate of an order whose maker heard this word in an answer that settles.
+    fn of_heard(word: Word) -> Fate
+        ensures { result ≡ fate_heard word }
+    {
+        match word {
+            Word::Able | Word::Complete | Word::Data => Fate::Done,
+            Word::Unable | Word::Rejected => Fate::Refused,
+            _ => Fate::Answered,
+        }
+    }
+
+    /// The fate that traces tell at a recorded party.
+    pub fn of(traces: &Traces) -> Fate
+        ensures { result ≡ fate_by traces.now }
+    {
+        match traces.heard {
+            Some(word) if traces.made => return Fate::of_heard(word),
+            _ => {}
+        }
+        if traces.made && traces.settled {
+            Fate::Unheard
+        } else if traces.replied && !traces.settled {
+            Fate::Pending
+        } else if traces.got && !traces.replied {
+            Fate::Unanswered
+        } else if !traces.got {
+            Fate::Lost
+        } else {
+            Fate::Unknown
+        }
+    }
+
+    /// Its name, as `done`.
+    fn name(self) -> &'static str
+        ensures { result.now ≡ fate_text self }
+    {
+        match self {
+            Fate::Done => "done",
+            Fate::Answered => "answered",
+            Fate::Refused => "refused",
+            Fate::Pending => "pending",
+            Fate::Unheard => "unheard",
+            Fate::Unanswered => "unanswered",
+            Fate::Lost => "lost",
+            Fate::Unknown => "unknown",
+            Fate::Nobody => "nobody",
+        }
+    }
+}
+
+/// Its name.
+impl fmt::Display for Fate {
+    ghost use Rattle.std.specs.Prelude.{Some};
+    ghost use Rattle.exercise_review.specs.Fate.{fate_text};
+
+    ghost output = { λ fate. Some (fate_text fate) };
+
+    fn fmt<W: fmt::Write>(&self, f: &mut fmt::Formatter<W>) -> fmt::Result {
+        f.write_str(self.name())
+    }
+}
+
+/// Whether a station replied to an order.
+fn has_replied<L: ExerciseLog>(replies: &Replies<'_, L>) -> bool
+    ensures { result ≡ has_replied replies.now.findings.now (order_of replies.now.order.now) replies.now.station }
+{
+    first_below(replies, entry_count(replies.findings)).is_some()
+}
+
+/// The word of the first answer of a station that the maker heard and that settles.
+fn heard<L: ExerciseLog>(replies: &Replies<'_, L>) -> Option<Word>
+    ensures { result ≡ word_heard replies.now.findings.now (order_of replies.now.order.now) replies.now.station }
+{
+    match first_settling(replies.findings, &News { replies }) {
+        Some(entry) => word_at(replies.findings, entry),
+        None => None,
+    }
+}
+
+/// The traces of an order at a recorded station. It takes no memory.
+#[tactic(auto, unfolding(crate::specs::Fate::traces_of))]
+pub fn traces_of<L: ExerciseLog>(
+    findings: &Findings<'_, L>,
+    order: &Order<'_>,
+    station: u16,
+) -> Traces
+    ensures { result ≡ traces_of findings.now (order_of order.now) station }
+{
+    let replies = Replies {
+        findings,
+        order,
+        station,
+    };
+    Traces {
+        made: order.maker.is_some(),
+        heard: heard(&replies),
+        settled: first_settling(findings, &replies).is_some(),
+        replied: has_replied(&replies),
+        got: first_copy(findings, order, station).is_some(),
+    }
+}
+
+/// The fate of an order at a party of it. It takes no memory.
+#[tactic(auto, unfolding(crate::specs::Fate::fate_of))]
+pub fn fate_of<L: ExerciseLog>(findings: &Findings<'_, L>, order: &Order<'_>, party: Party) -> Fate
+    ensures { result ≡ fate_of findings.now (order_of order.now) party }
+{
+    match party {
+        Party::Station(station) => Fate::of(&traces_of(findings, order, station)),
+        Party::Outside(_) => Fate::Unknown,
+    }
+}

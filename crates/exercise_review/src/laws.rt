@@ -1,0 +1,60 @@
+//! Laws of what the logs say of orders and of lives. Each function is a theorem: it has no body, and
+//! its contract is the law.
+
+ghost use Rattle.std.specs.Prelude.{◌≡◌, ◌<◌, ◌≤◌, ℕ, length, true, false, Some, None, is_some};
+ghost use Rattle.dis_records.specs.Address.{Pair};
+ghost use Rattle.exercise_model.specs.Recording.{PlainRecording, IsRecording};
+ghost use Rattle.exercise_model.specs.History.{History};
+ghost use Rattle.exercise_model.specs.Run.{Explains};
+ghost use Rattle.exercise_model.specs.Setting.{is_open};
+ghost use Rattle.exercise_review.specs.declared.party.Party.{Party};
+ghost use Rattle.exercise_review.specs.declared.party.Outsider.{Outsider};
+ghost use Rattle.exercise_review.specs.declared.party.Party.TheVariants.{Station, Outside};
+ghost use Rattle.exercise_review.specs.declared.fate.Fate.TheVariants.{Done, Answered, Refused, Pending, Unheard, Unanswered, Lost, Unknown};
+ghost use Rattle.exercise_review.specs.declared.word.Word.{Word};
+ghost use Rattle.exercise_review.specs.Order.{OrderData, order_at};
+ghost use Rattle.exercise_review.specs.Party.{is_party_outside};
+ghost use Rattle.exercise_review.specs.Fate.{fate_heard, fate_of, asks_both};
+ghost use Rattle.exercise_review.specs.InRuns.{Receives, HasReplied, HasSettled, Hears, HearsWord};
+ghost use Rattle.exercise_review.specs.Life.{state_before, lives_of, states_at, if_there};
+
+/// The law of one side: where the maker of an order was not recorded, or the party was not, its fate
+/// is none of done, refused, answered and unheard, which ask both logs. In a recording of the first
+/// form and in a closed one each order was made by a recorded station, and nobody outside is a party.
+pub fn one_side_is_not_enough()
+    ensures maker { (r : PlainRecording) (o : OrderData) (party : Party) → o.maker ≡ None → asks_both (fate_of r o party) ≡ false }
+    ensures party { (r : PlainRecording) (o : OrderData) (a : Outsider) → asks_both (fate_of r o (Outside a)) ≡ false }
+    ensures closed { (r : PlainRecording) (o : OrderData) (a : Pair) → is_open r.setting.form ≡ false → is_party_outside r o a ≡ false }
+    ensures inside { (r : PlainRecording) (i : ℕ) (o : OrderData) → is_open r.setting.form ≡ false → order_at r i ≡ Some o → is_some o.maker ≡ true }
+{}
+
+/// The law of lives: at each place of the log of a station, which lies before an entry or at the end,
+/// the stretches of an entity that cover the place tell its state there: one does where it is there,
+/// and none where it is Absent.
+pub fn lives_are_states()
+    ensures { (r : PlainRecording) (s e n : ℕ) → n ≤ length r.entries → states_at n (lives_of r s e) ≡ if_there (state_before r s e n) }
+{}
+
+/// The law of fates. Where the maker s of an order and its party t are recorded, the fate of the order
+/// there says, of every run that explains the recording: lost, that t did not receive it; unanswered,
+/// that t received it and did not reply; pending, that t replied, and with no answer that settles;
+/// unheard, that t replied with an answer that settles, and that s received none such of t; done,
+/// refused and answered, that s received one of t that settles, which says the word of that fate and
+/// which t had sent before. It is never unknown. Who did not receive an order did not reply to it.
+pub fn fates_hold()
+    ensures lost { (r : PlainRecording) (h : History) (o : OrderData) (s t : ℕ) → Explains r h → o.maker ≡ Some s → fate_of r o (Station t) ≡ Lost → Receives r h o t → ⊥ }
+    ensures unanswered { (r : PlainRecording) (h : History) (o : OrderData) (s t : ℕ) → Explains r h → o.maker ≡ Some s → fate_of r o (Station t) ≡ Unanswered
+        → Receives r h o t × (HasReplied r h o t → ⊥) }
+    ensures pending { (r : PlainRecording) (h : History) (o : OrderData) (s t : ℕ) → Explains r h → o.maker ≡ Some s → fate_of r o (Station t) ≡ Pending
+        → HasReplied r h o t × (HasSettled r h o t → ⊥) }
+    ensures unheard { (r : PlainRecording) (h : History) (o : OrderData) (s t : ℕ) → Explains r h → o.maker ≡ Some s → fate_of r o (Station t) ≡ Unheard
+        → HasSettled r h o t × (Hears r h o s t → ⊥) }
+    ensures done { (r : PlainRecording) (h : History) (o : OrderData) (s t : ℕ) → IsRecording r → Explains r h → t < length r.setting.stations → o.maker ≡ Some s
+        → fate_of r o (Station t) ≡ Done → (word : Word) × HearsWord r h o s t word × (fate_heard word ≡ Done) }
+    ensures refused { (r : PlainRecording) (h : History) (o : OrderData) (s t : ℕ) → IsRecording r → Explains r h → t < length r.setting.stations → o.maker ≡ Some s
+        → fate_of r o (Station t) ≡ Refused → (word : Word) × HearsWord r h o s t word × (fate_heard word ≡ Refused) }
+    ensures answered { (r : PlainRecording) (h : History) (o : OrderData) (s t : ℕ) → IsRecording r → Explains r h → t < length r.setting.stations → o.maker ≡ Some s
+        → fate_of r o (Station t) ≡ Answered → (word : Word) × HearsWord r h o s t word × (fate_heard word ≡ Answered) }
+    ensures known { (r : PlainRecording) (o : OrderData) (s t : ℕ) → o.maker ≡ Some s → fate_of r o (Station t) ≡ Unknown → ⊥ }
+    ensures copied { (r : PlainRecording) (h : History) (o : OrderData) (t : ℕ) → Explains r h → HasReplied r h o t → Receives r h o t }
+{}

@@ -1,0 +1,34 @@
+//! What became of each order of an exercise, and how its entities lived, read from the logs alone: no
+//! certificate and no order between stations is asked for.
+//!
+//! [`order_at`] is the order that first stands at an entry, [`is_party`] and [`is_party_outside`] say
+//! whom it was for, and [`fate_of`] tells what became of it there by what its maker and its party
+//! logged ([`traces_of`]): done, refused, answered, pending, unheard, unanswered, lost or unknown.
+//! [`lives_of`] is when an entity was there and in which state, and [`missing_at`] the datagram that a
+//! log received and no log sent. The laws: [`fates_hold`] says what each fate means in every run that
+//! explains the recording, [`one_side_is_not_enough`] which fates no single log can tell, and
+//! [`lives_are_states`] that the stretches of a life are the states of the entity at each place.
+//!
+//! The bodies are the plain ones that follow the definitions: some go over the log for each entry.
+#![tactic(auto)]
+
+mod entries;
+mod fate;
+mod laws;
+mod life;
+mod missing;
+mod order;
+mod party;
+mod question;
+mod reply;
+mod stations;
+mod word;
+
+pub use fate::{Fate, Traces, fate_of, traces_of};
+pub use laws::{fates_hold, lives_are_states, one_side_is_not_enough};
+pub use life::{Stretch, lives_of};
+pub use missing::{Missing, missing_at};
+pub use order::{Order, head_of, order_at};
+pub use party::{Outsider, Party, is_party, is_party_outside};
+pub use reply::change_of_order;
+pub use word::{Word, word_at};

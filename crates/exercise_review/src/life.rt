@@ -1,0 +1,104 @@
+//! How an entity lived: the stretches in which it had one state.
+
+ghost use Rattle.std.specs.Prelude.{◌≡◌, ◌<◌, ◌++◌, length, IfOk, OnOk};
+ghost use Rattle.exercise_review.specs.Life.{life_in, stretch_of, lived_on, life_before, lives_of};
+
+use crate::entries::entry_count;
+use dis_records::EntityState;
+use exercise_findings::Findings;
+use exercise_model::ExerciseLog;
+use std::alloc::{AllocError, Global};
+
+/// A stretch of a station's log in which an entity had one state other than Absent, and that no
+/// longer one holds.
+#[derive(Clone, Copy, PartialEq, Eq)]
+pub struct Stretch {
+    /// The state, Stopped or Running.
+    pub state: EntityState,
+    /// The entry of the change that began it; `None` where it goes on from the start.
+    pub from: Option<usize>,
+    /// The entry of the change that ended it; `None` where it goes on to the end.
+    pub until: Option<usize>,
+}
+
+/// A life so far: the stretches that ended, and the state since an entry, or since the start.
+#[derive(Drop)]
+pub(crate) struct Life {
+    pub ended: Vec<Stretch>,
+    pub state: EntityState,
+    pub since: Option<usize>,
+}
+
+/// Ends the stretch that a life is in, at an entry or with the log; there is none where the entity
+/// is Absent.
+fn end_stretch(life: &mut Life, until: Option<usize>) -> Result<(), AllocError>
+    ensures ended { OnOk result (life.new.ended.items ≡ life.old.ended.items ++ stretch_of (life_in life.old) until) }
+    ensures state { life.new.state ≡ life.old.state }
+    ensures since { life.new.since ≡ life.old.since }
+{
+    if life.state == EntityState::Absent {
+        return Ok(());
+    }
+    let stretch = Stretch {
+        state: life.state,
+        from: life.since,
+        until,
+    };
+    life.ended.push(stretch)?;
+    Ok(())
+}
+
+/// A life after an entry, which leaves the entity in a state.
+fn live_on(life: &mut Life, entry: usize, state: EntityState) -> Result<(), AllocError>
+    ensures { OnOk result (life_in life.new ≡ lived_on (life_in life.old) entry state) }
+{
+    if state == life.state {
+        return Ok(());
+    }
+    end_stretch(life, Some(entry))?;
+    life.state = state;
+    life.since = Some(entry);
+    Ok(())
+}
+
+/// The life of an entity of a station over its whole log.
+#[tactic(auto, using(crate::proofs::Lives::life_steps))]
+fn live<L: ExerciseLog>(
+    alloc: Global,
+    findings: &Findings<'_, L>,
+    station: u16,
+    entity: u16,
+) -> Result<Life, AllocError>
+    requires { station < length findings.now.setting.stations }
+    ensures { let r = findings.now in IfOk result (λ life. life_in life ≡ life_before r station entity (length r.entries)) }
+{
+    let mut life = Life {
+        ended: Vec::new(alloc),
+        state: findings.state_before(station, entity, 0),
+        since: None,
+    };
+    for entry in 0..entry_count(findings) {
+        let state = findings.state_before(station, entity, entry + 1);
+        live_on(&mut life, entry, state)?;
+    }
+    Ok(life)
+}
+
+/// How an entity of a station lived: the longest stretches of the station's log in which it has one
+/// state other than Absent, in their order. A number that no entity has is Absent throughout. It
+/// looks at the entries before each entry.
+#[tactic(auto, unfolding(crate::specs::Life::lives_of))]
+pub fn lives_of<L: ExerciseLog>(
+    alloc: Global,
+    findings: &Findings<'_, L>,
+    station: u16,
+    entity: u16,
+) -> Result<Vec<Stretch>, AllocError>
+    requires { station < length findings.now.setting.stations }
+    ensures { IfOk result (λ stretches. stretches.items ≡ lives_of findings.now station entity) }
+{
+    let mut life = live(alloc, findings, station, entity)?;
+    end_stretch(&mut life, None)?;
+    let Life { ended, .. } = life;
+    Ok(ended)
+}

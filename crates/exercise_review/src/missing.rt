@@ -1,0 +1,128 @@
+//! Datagrams that were received and that their senders' logs do not have.
+
+ghost use Rattle.std.specs.Prelude.{◌≡◌, ◌<◌, length};
+ghost use Rattle.siman_pdus.specs.Reading.{pdu_of};
+ghost use Rattle.exercise_model.specs.History.{station_at};
+ghost use Rattle.exercise_model.specs.Place.{brings_request};
+ghost use Rattle.exercise_review.specs.Missing.{gets_bytes, place_of, missing_pdu, is_first_receipt, missing_at};
+
+use crate::entries::{entry_at, entry_count, got_by, meant};
+use crate::question::{Question, first_below};
+use crate::stations::sender_of;
+use dis_records::Address;
+use exercise_findings::Findings;
+use exercise_model::{EntryView, ExerciseLog, is_answer, is_asked};
+use siman_pdus::PduView;
+
+/// A send that a log lacks.
+#[derive(Clone, Copy, Debug, PartialEq, Eq)]
+pub struct Missing {
+    /// The recorded station that the datagram comes from, by its index.
+    pub sender: u16,
+    /// The entry that it belongs right after: that of the request which it takes up. `None` where
+    /// it belongs at the start of the log.
+    pub after: Option<usize>,
+}
+
+/// Where any station receives these bytes.
+#[derive(Drop)]
+struct GetsBytes<'a, L: ExerciseLog> {
+    findings: &'a Findings<'a, L>,
+    bytes: &'a [u8],
+}
+
+impl<L: ExerciseLog> Question for GetsBytes<'_, L> {
+    ghost test = { λ q. gets_bytes q.findings.now q.bytes.now };
+
+    #[tactic(auto, unfolding(crate::specs::Missing::gets_bytes))]
+    fn passes(&self, entry: usize) -> bool {
+        match entry_at(self.findings, entry) {
+            Some(EntryView::Received { bytes, .. }) => self.bytes == bytes,
+            _ => false,
+        }
+    }
+}
+
+/// Where a station receives a request that an answer could take up.
+#[derive(Drop)]
+struct Brings<'a, L: ExerciseLog> {
+    findings: &'a Findings<'a, L>,
+    station: u16,
+    address: Address,
+    answer: &'a PduView<'a>,
+    ghost own: { address ≡ (station_at findings.now station).address },
+}
+
+impl<L: ExerciseLog> Question for Brings<'_, L> {
+    ghost test = { λ q. brings_request q.findings.now q.station (pdu_of q.answer.now) };
+
+    fn passes(&self, entry: usize) -> bool {
+        match got_by(self.findings, self.station, entry) {
+            Some(request) => is_asked(self.address, self.answer, &request),
+            None => false,
+        }
+    }
+}
+
+/// Where the send of a PDU belongs in the log of a station.
+#[tactic(auto, unfolding(exercise_model::specs::Place::entry_taken_up))]
+fn place_of<L: ExerciseLog>(
+    findings: &Findings<'_, L>,
+    station: u16,
+    pdu: &PduView<'_>,
+) -> Option<usize>
+    requires { station < length findings.now.setting.stations }
+    ensures { result ≡ place_of findings.now station (pdu_of pdu.now) }
+{
+    if !is_answer(pdu) {
+        return None;
+    }
+    let brings = Brings {
+        findings,
+        station,
+        address: findings.log().station(usize::from(station)).address(),
+        answer: pdu,
+    };
+    first_below(&brings, entry_count(findings))
+}
+
+/// The send of a PDU that the log of its sender lacks, where that is a recorded station.
+fn missing_pdu<L: ExerciseLog>(findings: &Findings<'_, L>, pdu: &PduView<'_>) -> Option<Missing>
+    ensures { result ≡ missing_pdu findings.now (pdu_of pdu.now) }
+{
+    match sender_of(findings, pdu) {
+        Some(sender) => Some(Missing {
+            sender,
+            after: place_of(findings, sender, pdu),
+        }),
+        None => None,
+    }
+}
+
+/// Whether no entry before one receives these bytes.
+fn is_first_receipt<L: ExerciseLog>(findings: &Findings<'_, L>, entry: usize, bytes: &[u8]) -> bool
+    ensures { result ≡ is_first_receipt findings.now entry bytes.now }
+{
+    first_below(&GetsBytes { findings, bytes }, entry).is_none()
+}
+
+/// The send that is missing by an entry: the entry is the first receipt of a datagram that comes from a
+/// recorded station, and no entry of that station sends the same bytes. `None` for all else and past
+/// the last entry. It takes no memory.
+#[tactic(auto, unfolding(crate::specs::Missing::missing_at))]
+pub fn missing_at<L: ExerciseLog>(findings: &Findings<'_, L>, entry: usize) -> Option<Missing>
+    ensures { result ≡ missing_at findings.now entry }
+{
+    if findings.source(entry).is_some() {
+        return None;
+    }
+    match entry_at(findings, entry) {
+        Some(EntryView::Received { bytes, .. }) if is_first_receipt(findings, entry, bytes) => {
+            match meant(findings, bytes) {
+                Some(pdu) => missing_pdu(findings, &pdu),
+                None => None,
+            }
+        }
+        _ => None,
+    }
+}

@@ -1,0 +1,230 @@
+//! Orders, each told by the entry at which it first stands.
+
+ghost use Rattle.std.specs.Prelude.{◌≡◌, option_map, Some, length};
+ghost use Rattle.siman_pdus.specs.Answers.{same_id};
+ghost use Rattle.siman_pdus.specs.Reading.{pdu_of};
+ghost use Rattle.exercise_review.specs.Order.{order_of, sends_order, gets_order, gets_anywhere, head_sent, head_got, head_of, order_at, sends_of, sends_under_id, is_first_under_id};
+
+use crate::entries::{entry_at, entry_count, got_by, meant, sent_by};
+use crate::question::{Question, count_below, first_below};
+use crate::stations::{is_for_station, is_outside};
+use exercise_findings::Findings;
+use exercise_model::{EntryView, ExerciseLog};
+use siman_pdus::{PduView, is_request, is_under_identifier, same_order};
+
+/// An order: a request, told by the entry at which it first stands.
+#[derive(Drop)]
+pub struct Order<'a> {
+    /// The entry at which its maker first sent it or, where it came from outside, the first at which
+    /// somebody received it.
+    pub head: usize,
+    /// The recorded station that made it, by its index; `None` where it came from outside.
+    pub maker: Option<u16>,
+    /// What it asks.
+    pub request: PduView<'a>,
+}
+
+/// Where a station sends an order.
+#[derive(Drop)]
+pub(crate) struct Sends<'a, L: ExerciseLog> {
+    pub findings: &'a Findings<'a, L>,
+    pub station: u16,
+    pub request: &'a PduView<'a>,
+}
+
+impl<L: ExerciseLog> Question for Sends<'_, L> {
+    ghost test = { λ q. sends_order q.findings.now q.station (pdu_of q.request.now) };
+
+    #[tactic(auto, unfolding(crate::specs::Order::sends_order))]
+    fn passes(&self, entry: usize) -> bool {
+        match sent_by(self.findings, self.station, entry) {
+            Some(pdu) => same_order(self.request, &pdu),
+            None => false,
+        }
+    }
+}
+
+/// Where a station receives an order.
+#[derive(Drop)]
+pub(crate) struct Gets<'a, L: ExerciseLog> {
+    pub findings: &'a Findings<'a, L>,
+    pub station: u16,
+    pub request: &'a PduView<'a>,
+}
+
+impl<L: ExerciseLog> Question for Gets<'_, L> {
+    ghost test = { λ q. gets_order q.findings.now q.station (pdu_of q.request.now) };
+
+    #[tactic(auto, unfolding(crate::specs::Order::gets_order))]
+    fn passes(&self, entry: usize) -> bool {
+        match got_by(self.findings, self.station, entry) {
+            Some(pdu) => same_order(self.request, &pdu),
+            None => false,
+        }
+    }
+}
+
+/// Where any station receives an order.
+#[derive(Drop)]
+struct GetsAnywhere<'a, L: ExerciseLog> {
+    findings: &'a Findings<'a, L>,
+    request: &'a PduView<'a>,
+}
+
+impl<L: ExerciseLog> Question for GetsAnywhere<'_, L> {
+    ghost test = { λ q. gets_anywhere q.findings.now (pdu_of q.request.now) };
+
+    #[tactic(auto, unfolding(crate::specs::Order::gets_anywhere))]
+    fn passes(&self, entry: usize) -> bool {
+        match entry_at(self.findings, entry) {
+            Some(EntryView::Received { bytes, .. }) => match meant(self.findings, bytes) {
+                Some(pdu) => same_order(self.request, &pdu),
+                None => false,
+            },
+            _ => false,
+        }
+    }
+}
+
+/// Where a station sends a request under the identifier of another.
+#[derive(Drop)]
+struct SendsUnderId<'a, L: ExerciseLog> {
+    findings: &'a Findings<'a, L>,
+    station: u16,
+    request: &'a PduView<'a>,
+}
+
+impl<L: ExerciseLog> Question for SendsUnderId<'_, L> {
+    ghost test = { λ q. sends_under_id q.findings.now q.station (pdu_of q.request.now) };
+
+    #[tactic(auto, unfolding(crate::specs::Order::sends_under_id))]
+    fn passes(&self, entry: usize) -> bool {
+        match sent_by(self.findings, self.station, entry) {
+            Some(pdu) => is_request(&pdu) && is_under_identifier(self.request, &pdu),
+            None => false,
+        }
+    }
+}
+
+/// The head of what a station sends, where it is a request.
+fn head_sent<L: ExerciseLog>(
+    findings: &Findings<'_, L>,
+    station: u16,
+    pdu: &PduView<'_>,
+) -> Option<usize>
+    ensures { result ≡ head_sent findings.now station (pdu_of pdu.now) }
+{
+    if !is_request(pdu) {
+        return None;
+    }
+    let sends = Sends {
+        findings,
+        station,
+        request: pdu,
+    };
+    first_below(&sends, entry_count(findings))
+}
+
+/// The head of what somebody receives, where it is a request from outside to a recorded station.
+fn head_got<L: ExerciseLog>(findings: &Findings<'_, L>, pdu: &PduView<'_>) -> Option<usize>
+    ensures { result ≡ head_got findings.now (pdu_of pdu.now) }
+{
+    if !is_request(pdu) || !is_outside(findings, pdu) || !is_for_station(findings, pdu) {
+        return None;
+    }
+    let gets = GetsAnywhere {
+        findings,
+        request: pdu,
+    };
+    first_below(&gets, entry_count(findings))
+}
+
+/// The head of an entry: where it sends a request, the first entry at which its station sends that
+/// order; where it receives one from outside that is for a recorded station, the first at which
+/// somebody receives it. `None` for all else and past the last entry. It takes no memory.
+#[tactic(auto, unfolding(crate::specs::Order::head_of))]
+pub fn head_of<L: ExerciseLog>(findings: &Findings<'_, L>, entry: usize) -> Option<usize>
+    ensures { result ≡ head_of findings.now entry }
+{
+    match entry_at(findings, entry) {
+        Some(EntryView::Sent { station, bytes, .. }) => match meant(findings, bytes) {
+            Some(pdu) => head_sent(findings, station, &pdu),
+            None => None,
+        },
+        Some(EntryView::Received { bytes, .. }) => match meant(findings, bytes) {
+            Some(pdu) => head_got(findings, &pdu),
+            None => None,
+        },
+        Some(EntryView::Told { .. }) | None => None,
+    }
+}
+
+/// Whether an entry is its own head.
+fn is_head<L: ExerciseLog>(findings: &Findings<'_, L>, entry: usize) -> bool
+    ensures { result ≡ same_id (head_of findings.now entry) (Some entry) }
+{
+    match head_of(findings, entry) {
+        Some(head) => head == entry,
+        None => false,
+    }
+}
+
+/// The order of which an entry is the head; `None` where it is no head. It takes no memory.
+#[tactic(auto, unfolding(crate::specs::Order::order_at))]
+pub fn order_at<'a, L: ExerciseLog>(findings: &Findings<'a, L>, entry: usize) -> Option<Order<'a>>
+    ensures { option_map order_of result ≡ order_at findings.now entry }
+{
+    if !is_head(findings, entry) {
+        return None;
+    }
+    let (maker, bytes) = match entry_at(findings, entry)? {
+        EntryView::Sent { station, bytes, .. } => (Some(station), bytes),
+        EntryView::Received { bytes, .. } => (None, bytes),
+        EntryView::Told { .. } => return None,
+    };
+    let request = meant(findings, bytes)?;
+    Some(Order {
+        head: entry,
+        maker,
+        request,
+    })
+}
+
+impl Order<'_> {
+    /// How often its maker sent it; 0 where it came from outside.
+    #[tactic(auto, unfolding(crate::specs::Order::sends_of))]
+    pub fn sends<L: ExerciseLog>(&self, findings: &Findings<'_, L>) -> usize
+        ensures { result ≡ sends_of findings.now (order_of self.now) }
+    {
+        match self.maker {
+            Some(station) => {
+                let sends = Sends {
+                    findings,
+                    station,
+                    request: &self.request,
+                };
+                count_below(&sends, entry_count(findings))
+            }
+            None => 0,
+        }
+    }
+
+    /// Whether it is the first order of its maker under its identifier.
+    #[tactic(auto, unfolding(crate::specs::Order::is_first_under_id))]
+    pub(crate) fn is_first_under_id<L: ExerciseLog>(&self, findings: &Findings<'_, L>) -> bool
+        ensures { result ≡ is_first_under_id findings.now (order_of self.now) }
+    {
+        let Some(station) = self.maker else {
+            return false;
+        };
+        let sends = SendsUnderId {
+            findings,
+            station,
+            request: &self.request,
+        };
+        match first_below(&sends, entry_count(findings)) {
+            Some(first) => first == self.head,
+            None => false,
+        }
+    }
+}

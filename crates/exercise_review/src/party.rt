@@ -1,0 +1,179 @@
+//! The parties of an order: whom it is for, and who answered it from outside.
+
+ghost use Rattle.std.specs.Prelude.{◌≡◌, Some};
+ghost use Rattle.siman_pdus.specs.Answers.{same_id};
+ghost use Rattle.siman_pdus.specs.Reading.{pdu_of};
+ghost use Rattle.exercise_review.specs.Order.{order_of};
+ghost use Rattle.exercise_review.specs.Party.{pair_at, first_copy, is_party, tells_from, is_told_from, names, is_at, is_recorded_at, is_party_outside};
+
+use crate::entries::{entry_count, got_by};
+use crate::order::{Gets, Order};
+use crate::question::{Question, first_below};
+use crate::stations::{Meant, is_outside};
+use dis_records::{EntityId, is_address_part};
+use exercise_findings::Findings;
+use exercise_model::{ExerciseLog, Form};
+use siman_pdus::{PduView, answers};
+
+/// A site and an application, each 0..=0xFFFF: those of an address that nobody recorded.
+#[derive(Clone, Copy, Debug, PartialEq, Eq)]
+pub struct Outsider {
+    pub site: u16,
+    pub application: u16,
+}
+
+/// Whom an order is for, or who answered it.
+#[derive(Clone, Copy, Debug, PartialEq, Eq)]
+pub enum Party {
+    /// A recorded station, by its index.
+    Station(u16),
+    /// An address that nobody recorded.
+    Outside(Outsider),
+}
+
+/// The first entry at which a station received an order.
+#[tactic(auto, unfolding(crate::specs::Party::first_copy))]
+pub(crate) fn first_copy<L: ExerciseLog>(
+    findings: &Findings<'_, L>,
+    order: &Order<'_>,
+    station: u16,
+) -> Option<usize>
+    ensures { result ≡ first_copy findings.now (order_of order.now) station }
+{
+    let gets = Gets {
+        findings,
+        station,
+        request: &order.request,
+    };
+    first_below(&gets, entry_count(findings))
+}
+
+/// Whether a recorded station is a party of an order: the order addresses it; its own maker is one
+/// only where it received the order. It takes no memory.
+#[tactic(auto, unfolding(crate::specs::Party::is_party))]
+pub fn is_party<L: ExerciseLog>(findings: &Findings<'_, L>, order: &Order<'_>, station: u16) -> bool
+    ensures { result ≡ is_party findings.now (order_of order.now) station }
+{
+    let meant = Meant {
+        findings,
+        pdu: &order.request,
+    };
+    meant.passes(usize::from(station))
+        && (!is_maker(order, station) || first_copy(findings, order, station).is_some())
+}
+
+/// Whether a recorded station made an order.
+fn is_maker(order: &Order<'_>, station: u16) -> bool
+    ensures { result ≡ same_id order.now.maker (Some station) }
+{
+    match order.maker {
+        Some(maker) => maker == station,
+        None => false,
+    }
+}
+
+/// Whether a PDU answers an order, from an address outside.
+fn tells_from<L: ExerciseLog>(
+    findings: &Findings<'_, L>,
+    order: &Order<'_>,
+    from: Outsider,
+    pdu: &PduView<'_>,
+) -> bool
+    ensures { result ≡ tells_from findings.now (order_of order.now) (pair_at from) (pdu_of pdu.now) }
+{
+    answers(pdu, &order.request)
+        && is_outside(findings, pdu)
+        && pdu.origin.site == from.site
+        && pdu.origin.application == from.application
+}
+
+/// Where the maker of an order was told of it from an address outside.
+#[derive(Drop)]
+pub(crate) struct ToldFrom<'a, L: ExerciseLog> {
+    pub findings: &'a Findings<'a, L>,
+    pub order: &'a Order<'a>,
+    pub from: Outsider,
+}
+
+impl<L: ExerciseLog> Question for ToldFrom<'_, L> {
+    ghost test = { λ q. is_told_from q.findings.now (order_of q.order.now) (pair_at q.from) };
+
+    #[tactic(auto, unfolding(crate::specs::Party::is_told_from))]
+    fn passes(&self, entry: usize) -> bool {
+        if !self.order.is_first_under_id(self.findings) || self.order.head >= entry {
+            return false;
+        }
+        let Some(maker) = self.order.maker else {
+            return false;
+        };
+        match got_by(self.findings, maker, entry) {
+            Some(pdu) => tells_from(self.findings, self.order, self.from, &pdu),
+            None => false,
+        }
+    }
+}
+
+/// Whether an identifier names this site and this application alone.
+fn names(id: EntityId, address: Outsider) -> bool
+    ensures { result ≡ names id (pair_at address) }
+{
+    is_address_part(address.site)
+        && is_address_part(address.application)
+        && id.site == address.site
+        && id.application == address.application
+}
+
+/// Which recorded stations have an address.
+#[derive(Drop)]
+struct At<'a, L: ExerciseLog> {
+    findings: &'a Findings<'a, L>,
+    address: Outsider,
+}
+
+impl<L: ExerciseLog> Question for At<'_, L> {
+    ghost test = { λ q. is_at q.findings.now (pair_at q.address) };
+
+    #[tactic(auto, unfolding(crate::specs::Party::is_at))]
+    fn passes(&self, station: usize) -> bool {
+        let log = self.findings.log();
+        if station >= log.station_count() {
+            return false;
+        }
+        let at = log.station(station).address();
+        at.site() == self.address.site && at.application() == self.address.application
+    }
+}
+
+/// Whether a recorded station has this address.
+#[tactic(auto, unfolding(crate::specs::Party::is_recorded_at))]
+fn is_recorded_at<L: ExerciseLog>(findings: &Findings<'_, L>, address: Outsider) -> bool
+    ensures { result ≡ is_recorded_at findings.now (pair_at address) }
+{
+    let stations = findings.log().station_count();
+    first_below(&At { findings, address }, stations).is_some()
+}
+
+/// Whether an address is a party of an order that a recorded station made, though nobody recorded
+/// it: the recording is open, and the order names the address, or was told from there. It takes no
+/// memory.
+#[tactic(auto, unfolding(crate::specs::Party::is_party_outside))]
+pub fn is_party_outside<L: ExerciseLog>(
+    findings: &Findings<'_, L>,
+    order: &Order<'_>,
+    address: Outsider,
+) -> bool
+    ensures { result ≡ is_party_outside findings.now (order_of order.now) (pair_at address) }
+{
+    if findings.log().form() != Form::Open
+        || order.maker.is_none()
+        || is_recorded_at(findings, address)
+    {
+        return false;
+    }
+    let told = ToldFrom {
+        findings,
+        order,
+        from: address,
+    };
+    names(order.request.target, address) || first_below(&told, entry_count(findings)).is_some()
+}

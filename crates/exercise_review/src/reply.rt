@@ -1,0 +1,149 @@
+//! What a party replied to an order, and what its maker heard of that.
+
+ghost use Rattle.std.specs.Prelude.{◌≡◌};
+ghost use Rattle.exercise_review.specs.Order.{order_of};
+ghost use Rattle.exercise_review.specs.Reply.{answers_order, takes_copy, is_reply, is_changing_reply, change_of_order, replies_in, has_reply_in, is_news};
+
+use crate::entries::{bytes_got, bytes_sent, entry_count, sent_by};
+use crate::order::{Gets, Order};
+use crate::question::{Question, first_below};
+use exercise_findings::Findings;
+use exercise_model::ExerciseLog;
+use siman_pdus::answers;
+
+/// Where a station replies to an order.
+#[derive(Drop)]
+pub(crate) struct Replies<'a, L: ExerciseLog> {
+    pub findings: &'a Findings<'a, L>,
+    pub order: &'a Order<'a>,
+    pub station: u16,
+}
+
+impl<L: ExerciseLog> Replies<'_, L> {
+    /// Whether an entry of the station sends an answer to the order.
+    fn is_answer(&self, entry: usize) -> bool
+        ensures { result ≡ answers_order self.now.findings.now (order_of self.now.order.now) self.now.station entry }
+    {
+        match sent_by(self.findings, self.station, entry) {
+            Some(pdu) => answers(&pdu, &self.order.request),
+            None => false,
+        }
+    }
+
+    /// Whether the request that an entry takes up is a copy of the order.
+    fn takes_copy(&self, entry: usize) -> bool
+        ensures { result ≡ takes_copy self.now.findings.now (order_of self.now.order.now) self.now.station entry }
+    {
+        let copies = Gets {
+            findings: self.findings,
+            station: self.station,
+            request: &self.order.request,
+        };
+        match self.findings.pair(entry) {
+            Some(taken) => copies.passes(taken as usize),
+            None => false,
+        }
+    }
+}
+
+impl<L: ExerciseLog> Question for Replies<'_, L> {
+    ghost test = { λ q. is_reply q.findings.now (order_of q.order.now) q.station };
+
+    #[tactic(auto, unfolding(crate::specs::Reply::is_reply))]
+    fn passes(&self, entry: usize) -> bool {
+        self.is_answer(entry) && self.takes_copy(entry)
+    }
+}
+
+/// Where a reply of a station to an order changes something there.
+#[derive(Drop)]
+struct ChangingReplies<'a, L: ExerciseLog> {
+    replies: &'a Replies<'a, L>,
+}
+
+impl<L: ExerciseLog> Question for ChangingReplies<'_, L> {
+    ghost test = { λ q. is_changing_reply q.replies.now.findings.now (order_of q.replies.now.order.now) q.replies.now.station };
+
+    #[tactic(auto, unfolding(crate::specs::Reply::is_changing_reply))]
+    fn passes(&self, entry: usize) -> bool {
+        self.replies.passes(entry) && self.replies.findings.change(entry).is_some()
+    }
+}
+
+/// The change that an order made at a station: the first of its replies that changes something
+/// there. It takes no memory.
+#[tactic(auto, unfolding(crate::specs::Reply::change_of_order))]
+pub fn change_of_order<L: ExerciseLog>(
+    findings: &Findings<'_, L>,
+    order: &Order<'_>,
+    station: u16,
+) -> Option<usize>
+    ensures { result ≡ change_of_order findings.now (order_of order.now) station }
+{
+    let replies = Replies {
+        findings,
+        order,
+        station,
+    };
+    first_below(
+        &ChangingReplies { replies: &replies },
+        entry_count(findings),
+    )
+}
+
+/// Where a station replies to an order in these bytes.
+#[derive(Drop)]
+struct RepliesIn<'a, L: ExerciseLog> {
+    replies: &'a Replies<'a, L>,
+    bytes: &'a [u8],
+}
+
+impl<L: ExerciseLog> Question for RepliesIn<'_, L> {
+    ghost test = { λ q. replies_in q.replies.now.findings.now (order_of q.replies.now.order.now) q.replies.now.station q.bytes.now };
+
+    #[tactic(auto, unfolding(crate::specs::Reply::replies_in))]
+    fn passes(&self, entry: usize) -> bool {
+        if !self.replies.passes(entry) {
+            return false;
+        }
+        match bytes_sent(self.replies.findings, self.replies.station, entry) {
+            Some(sent) => self.bytes == sent,
+            None => false,
+        }
+    }
+}
+
+/// Where the maker of an order receives the bytes of a reply of a station.
+#[derive(Drop)]
+pub(crate) struct News<'a, L: ExerciseLog> {
+    pub replies: &'a Replies<'a, L>,
+}
+
+impl<L: ExerciseLog> News<'_, L> {
+    /// Whether a reply of the station has these bytes.
+    #[tactic(auto, unfolding(crate::specs::Reply::has_reply_in))]
+    fn has_reply_in(&self, bytes: &[u8]) -> bool
+        ensures { result ≡ has_reply_in self.now.replies.now.findings.now (order_of self.now.replies.now.order.now) self.now.replies.now.station bytes.now }
+    {
+        let replies = RepliesIn {
+            replies: self.replies,
+            bytes,
+        };
+        first_below(&replies, entry_count(self.replies.findings)).is_some()
+    }
+}
+
+impl<L: ExerciseLog> Question for News<'_, L> {
+    ghost test = { λ q. is_news q.replies.now.findings.now (order_of q.replies.now.order.now) q.replies.now.station };
+
+    #[tactic(auto, unfolding(crate::specs::Reply::is_news))]
+    fn passes(&self, entry: usize) -> bool {
+        let Some(maker) = self.replies.order.maker else {
+            return false;
+        };
+        match bytes_got(self.replies.findings, maker, entry) {
+            Some(bytes) => self.has_reply_in(bytes),
+            None => false,
+        }
+    }
+}

@@ -1,0 +1,175 @@
+//! The words of answers, and which of several counts.
+
+ghost use Rattle.std.specs.Prelude.{◌≡◌, ◌<◌, length, option_map, IfSome};
+ghost use Rattle.siman_pdus.specs.Reading.{body_of};
+ghost use Rattle.exercise_review.specs.Word.{response_word, status_word, word_of, settles, word_at, settles_at, is_settling, first_settling, telling, word_text};
+
+use crate::entries::{entry_count, meant_at};
+use crate::question::{Question, first_below, last_below};
+use exercise_findings::Findings;
+use exercise_model::ExerciseLog;
+use siman_pdus::BodyView;
+use std::fmt;
+
+/// What an answer says: the response flag of an Acknowledge, the request status of an Action
+/// Response, or that it is a Data.
+#[derive(Clone, Copy, Debug, PartialEq, Eq)]
+pub enum Word {
+    /// Response flag 0, or request status 0.
+    Other,
+    /// Response flag 1: able to comply.
+    Able,
+    /// Response flag 2: unable to comply.
+    Unable,
+    /// Response flag 3, or request status 1: pending.
+    Pending,
+    /// Request status 2: executing.
+    Executing,
+    /// Request status 3: partially complete.
+    PartiallyComplete,
+    /// Request status 4: complete.
+    Complete,
+    /// Request status 5: request rejected.
+    Rejected,
+    /// A Data.
+    Data,
+    /// A flag or a status without a name.
+    Number(u32),
+}
+
+impl Word {
+    /// The word of an Acknowledge with this response flag.
+    fn of_response(response: u16) -> Word
+        ensures { result ≡ response_word response }
+    {
+        match response {
+            0 => Word::Other,
+            1 => Word::Able,
+            2 => Word::Unable,
+            3 => Word::Pending,
+            _ => Word::Number(u32::from(response)),
+        }
+    }
+
+    /// The word of an Action Response with this request status.
+    fn of_status(status: u32) -> Word
+        ensures { result ≡ status_word status }
+    {
+        match status {
+            0 => Word::Other,
+            1 => Word::Pending,
+            2 => Word::Executing,
+            3 => Word::PartiallyComplete,
+            4 => Word::Complete,
+            5 => Word::Rejected,
+            _ => Word::Number(status),
+        }
+    }
+
+    /// The word of an answer with this body; `None` for all but an Acknowledge, an Action Response
+    /// and a Data.
+    pub fn of(body: &BodyView<'_>) -> Option<Word>
+        ensures { result ≡ word_of (body_of body.now) }
+    {
+        match body {
+            BodyView::Acknowledge { response, .. } => Some(Word::of_response(*response)),
+            BodyView::ActionResponse { result, .. } => Some(Word::of_status(*result)),
+            BodyView::DataPdu { .. } => Some(Word::Data),
+            _ => None,
+        }
+    }
+}
+
+/// As `able` or `partially-complete`; a number without a name in decimal.
+impl fmt::Display for Word {
+    ghost use Rattle.std.specs.Prelude.{Some};
+    ghost use Rattle.exercise_review.specs.Word.{word_text};
+
+    ghost output = { λ word. Some (word_text word) };
+
+    fn fmt<W: fmt::Write>(&self, f: &mut fmt::Formatter<W>) -> fmt::Result {
+        match self {
+            Word::Other => write!(f, "other"),
+            Word::Able => write!(f, "able"),
+            Word::Unable => write!(f, "unable"),
+            Word::Pending => write!(f, "pending"),
+            Word::Executing => write!(f, "executing"),
+            Word::PartiallyComplete => write!(f, "partially-complete"),
+            Word::Complete => write!(f, "complete"),
+            Word::Rejected => write!(f, "rejected"),
+            Word::Data => write!(f, "data"),
+            Word::Number(number) => write!(f, "{number}"),
+        }
+    }
+}
+
+/// Whether an answer with this body settles the order that it answers.
+fn settles(body: &BodyView<'_>) -> bool
+    ensures { result ≡ settles (body_of body.now) }
+{
+    match body {
+        BodyView::Acknowledge { response, .. } => *response == 1 || *response == 2,
+        BodyView::ActionResponse { result, .. } => !(*result == 1 || *result == 2 || *result == 3),
+        BodyView::DataPdu { .. } => true,
+        _ => false,
+    }
+}
+
+/// The word of what an entry sends or receives; `None` where that is no answer, and past the last
+/// entry.
+#[tactic(auto, unfolding(crate::specs::Word::word_at))]
+pub fn word_at<L: ExerciseLog>(findings: &Findings<'_, L>, entry: usize) -> Option<Word>
+    ensures { result ≡ word_at findings.now entry }
+{
+    match meant_at(findings, entry) {
+        Some(pdu) => Word::of(&pdu.body),
+        None => None,
+    }
+}
+
+/// Where entries pass and settle.
+#[derive(Drop)]
+struct Settling<'a, L: ExerciseLog, Q: Question> {
+    findings: &'a Findings<'a, L>,
+    question: &'a Q,
+}
+
+impl<L: ExerciseLog, Q: Question> Question for Settling<'_, L, Q> {
+    ghost test = { λ q. is_settling q.findings.now (Q.test q.question.now) };
+
+    #[tactic(auto, unfolding(crate::specs::Word::settles_at))]
+    fn passes(&self, entry: usize) -> bool {
+        if !self.question.passes(entry) {
+            return false;
+        }
+        match meant_at(self.findings, entry) {
+            Some(pdu) => settles(&pdu.body),
+            None => false,
+        }
+    }
+}
+
+/// The first entry that passes and settles.
+#[tactic(auto, unfolding(crate::specs::Word::first_settling))]
+pub(crate) fn first_settling<L: ExerciseLog, Q: Question>(
+    findings: &Findings<'_, L>,
+    question: &Q,
+) -> Option<usize>
+    ensures first { result ≡ first_settling findings.now (Q.test question.now) }
+{
+    first_below(&Settling { findings, question }, entry_count(findings))
+}
+
+/// The entry whose word counts among those that pass: the first that settles, else the last.
+#[tactic(auto, unfolding(crate::specs::Word::telling))]
+pub(crate) fn telling<L: ExerciseLog, Q: Question>(
+    findings: &Findings<'_, L>,
+    question: &Q,
+) -> Option<usize>
+    ensures { result ≡ telling findings.now (Q.test question.now) }
+{
+    match first_settling(findings, question) {
+        Some(entry) => Some(entry),
+        None => last_below(question, entry_count(findings)),
+    }
+}

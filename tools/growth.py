@@ -12,10 +12,10 @@ some 16 MiB is not seen: so much this script has itself; and times of a few mill
 longer than --seconds is not timed at the sizes above. The built program is taken as it is: `./siman --build` proves
 and builds it first. It is no part of the gate.
 
-With --judge, `check` and `audit` may grow with an exponent of 1.4 at most, in time and in memory; they may take 5 times
-what the plain program takes, where that is there; and no longer than --seconds. What is more is told on standard error,
-and the status is 1. All of it is judged from 0.05 seconds and 32 MiB on, which small sizes do not come to: below that
-a measure says little.
+With --judge, `check` and `audit` may grow with an exponent of 1.4 at most, in time and in memory, from the first size
+that takes 0.02 seconds or 32 MiB to the last, two doublings further at least: what lies nearer says little. They may
+take 5 times what the plain program takes, where that is there and takes 0.05 seconds, and no longer than --seconds.
+What is more is told on standard error, and the status is 1.
 """
 import argparse
 import math
@@ -34,8 +34,10 @@ PROGRAM = TOP / "crates" / "siman" / "out" / "siman"
 PLAIN = TOP / "tools" / "plain" / "plain.rs"
 # What the datagrams leave room for in 268,435,456 bytes.
 MOST = {"large": 15}
-# What is judged: the largest exponent and how many times the plain program's time, from so many seconds and MiB on.
-MOST_GROWTH, MOST_TIMES, LEAST_JUDGED = 1.4, 5, (0.05, 32)
+# What is judged: the largest exponent, from so many seconds and MiB on and over so many doublings; and how many times
+# the plain program's time, from so many seconds on.
+MOST_GROWTH, LEAST_JUDGED, LEAST_DOUBLINGS = 1.4, (0.02, 32), 2
+MOST_TIMES, LEAST_PLAIN = 5, 0.05
 JUDGED = ("check", "audit")
 
 
@@ -98,24 +100,28 @@ def growth(now, before, doublings):
     return "   " if found is None else f"{found:.1f}"
 
 
-def excesses(name, taken, before, step):
-    """What of a command is more than it may be: what it is, and how much."""
-    for what, now, last, least in zip(("time", "memory"), taken[name], before.get(name, (None, None)), LEAST_JUDGED):
-        found = exponent(now, last, step, least)
-        if found is not None and found > MOST_GROWTH:
-            yield f"the {what} of {name} grows by {found:.2f}"
-    own, (plain, _) = taken[name][0], taken.get("plain " + name, (0, 0))
-    if plain >= LEAST_JUDGED[0] and own > MOST_TIMES * plain:
-        yield f"{name} takes {own / plain:.1f} times the plain program's time"
+def excesses(name, seen):
+    """What of a command is more than it may be, by the sizes that were measured: each power with what was taken."""
+    for place, what in enumerate(("time", "memory")):
+        rows = [(power, taken[name][place]) for power, taken in seen if name in taken]
+        rows = [(power, much) for power, much in rows if much >= LEAST_JUDGED[place]]
+        if rows and rows[-1][0] - rows[0][0] >= LEAST_DOUBLINGS:
+            found = exponent(rows[-1][1], rows[0][1], rows[-1][0] - rows[0][0])
+            if found > MOST_GROWTH:
+                yield f"the {what} of {name} grows by {found:.2f} from 2^{rows[0][0]} to 2^{rows[-1][0]}"
+    for power, taken in seen:
+        own, (plain, _) = taken.get(name, (0, 0))[0], taken.get("plain " + name, (0, 0))
+        if plain >= LEAST_PLAIN and own > MOST_TIMES * plain:
+            yield f"{name} takes {own / plain:.1f} times the plain program's time at 2^{power}"
 
 
-def judge(kind, power, taken, before, given, slow):
+def judge(kind, seen, given, slow):
     """Tells what of siman's own commands is more than it may be."""
     told = [f"{name} takes more than {given.seconds} seconds" for name in JUDGED if name in slow]
-    for name in set(JUDGED) - slow:
-        told += excesses(name, taken, before, given.step)
+    for name in JUDGED:
+        told += excesses(name, seen)
     for line in told:
-        print(f"growth: {kind} 2^{power}: {line}", file=sys.stderr)
+        print(f"growth: {kind}: {line}", file=sys.stderr)
     given.wrong += len(told)
 
 
@@ -226,13 +232,14 @@ def main():
         columns = list(commands_of(plain, folder, given))
         print_head(columns)
         for kind in given.kinds or kinds.KINDS:
-            before, slow = {}, set()
+            before, slow, seen = {}, set(), []
             for power in range(given.least, min(given.most, MOST.get(kind, 20)) + 1, given.step):
                 taken = measure(kind, power, plain, folder, given, slow)
                 print(line_of(kind, power, taken, before, given.step, columns), flush=True)
-                if given.judge:
-                    judge(kind, power, taken, before, given, slow)
+                seen.append((power, taken))
                 before = taken
+            if given.judge:
+                judge(kind, seen, given, slow)
     sys.exit(1 if given.wrong else 0)
 
 

@@ -3,4 +3,5 @@ mod Wrong
 mod Fields
 mod Repeats
 mod Writes
+mod Lost
 pub mod Offered

@@ -1,8 +1,8 @@
 //! Fetching what a reader has, to its end or to one byte more than it may have.
 
-ghost use Rattle.std.specs.Prelude.{◌≤◌, ◌<◌, ◌≡◌, ◌+◌, ◌++◌, length, take, vec_len, IfSome, IfOk};
+ghost use Rattle.std.specs.Prelude.{◌≤◌, ◌<◌, ◌≡◌, ◌+◌, ◌++◌, length, take, vec_len, IfSome, IfOk, OnErr};
 ghost use Rattle.std.specs.Io.KnownBytes.{Consumes, IsAtEnd};
-ghost use Rattle.byte_files.specs.Fetching.{fetched};
+ghost use Rattle.byte_files.specs.Fetching.{fetched, LosesAtMost};
 
 use crate::filling::{ReadFailed, fill};
 use std::alloc::{AllocError, Global};
@@ -44,6 +44,7 @@ fn fetch_more<R: Read>(
     ensures grown { IfOk result (λ n. vec_len bytes.new ≡ vec_len bytes.old + n) }
     ensures taken { IfOk result (λ n. Consumes (R.remaining reader.old) (R.remaining reader.new) (take n chunk.new)) }
     ensures end { IfOk result (λ n. n < length chunk.new → IsAtEnd (R.remaining reader.new)) }
+    ensures failed { OnErr result (LosesAtMost (length chunk.new) (R.remaining reader.old) (R.remaining reader.new)) }
 {
     let filled = fill(reader, chunk)?;
     bytes.extend_from_slice(&chunk[..filled])?;
@@ -79,6 +80,7 @@ fn fetch_chunks<R: Read>(
     ensures text { IfOk result (λ bytes. IfSome (R.remaining reader.old) (λ there. bytes.items ≡ fetched most there)) }
     ensures taken { IfOk result (λ bytes. Consumes (R.remaining reader.old) (R.remaining reader.new) bytes.items) }
     ensures limit { IfOk result (λ bytes. vec_len bytes ≤ most + 1) }
+    ensures failed { OnErr result (LosesAtMost (most + 1) (R.remaining reader.old) (R.remaining reader.new)) }
 {
     let mut bytes = Vec::new(alloc);
     for _ in 0..u64::MAX {
@@ -94,12 +96,13 @@ fn fetch_chunks<R: Read>(
     Err(FetchFault::Read)
 }
 
-/// What a reader has, of which no more is read than one byte past the most that it may have. What is
-/// held grows as it comes.
+/// What a reader has, of which no more is taken than one byte past the most that it may have, with a
+/// fault, too. What is held grows as it comes.
 pub fn fetch<R: Read>(alloc: Global, reader: &mut R, most: u64) -> Result<Vec<u8>, FetchFault>
     ensures text { IfOk result (λ bytes. IfSome (R.remaining reader.old) (λ there. bytes.items ≡ fetched most there)) }
     ensures taken { IfOk result (λ bytes. Consumes (R.remaining reader.old) (R.remaining reader.new) bytes.items) }
     ensures limit { IfOk result (λ bytes. vec_len bytes ≤ most + 1) }
+    ensures failed { OnErr result (LosesAtMost (most + 1) (R.remaining reader.old) (R.remaining reader.new)) }
 {
     let mut chunk = vec![in alloc; 0u8; CHUNK]?;
     fetch_chunks(alloc, reader, &mut chunk, most)

@@ -260,7 +260,7 @@ fn put_pdu(out: &mut Vec<u8>, pdu: &Pdu, length: u16)
 
 /// Appends the canonical text of a PDU: its spelling in which padding is zero. The status of a
 /// version whose headers have none is not written. It takes no memory where the vector's spare
-/// capacity holds the text, and an error leaves the vector unchanged.
+/// capacity holds the text, and an error leaves the vector and its capacity unchanged.
 pub fn encode(pdu: &Pdu, out: &mut Vec<u8>) -> Result<(), EncodeFault>
     ensures ok { OnOk result (out.new.items ≡ out.old.items ++ pdu_text pdu.now) }
     // What is written is decoded again, to the same PDU, exactly where its status is 0 or its
@@ -272,6 +272,7 @@ pub fn encode(pdu: &Pdu, out: &mut Vec<u8>) -> Result<(), EncodeFault>
     // It lacks memory only where the room that is spare does not do.
     ensures memory { result ≡ Err EncodeFault.Memory → vec_capacity out.old < vec_len out.old + pdu_size pdu.now }
     ensures err { OnErr result (out.new.items ≡ out.old.items) }
+    ensures kept { OnErr result (vec_capacity out.new ≡ vec_capacity out.old) }
 {
     let Some(size) = encoded_size(pdu) else {
         return Err(EncodeFault::TooLong);

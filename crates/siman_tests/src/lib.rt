@@ -14,6 +14,8 @@ mod lines;
 #[cfg(test)]
 mod managers;
 #[cfg(test)]
+mod mending;
+#[cfg(test)]
 mod pdus;
 #[cfg(test)]
 mod recordings;

@@ -22,6 +22,8 @@ mod recordings;
 #[cfg(test)]
 mod records;
 #[cfg(test)]
+mod reviews;
+#[cfg(test)]
 mod scripts;
 #[cfg(test)]
 mod worlds;

@@ -7,6 +7,7 @@ use Rattle.std.proofs.Math.Numerals.{add-one}
 use Rattle.std.proofs.lemmas.Bool.{eqb-true, eq-eqb, lt-ltb, le-ltb}
 use Rattle.std.proofs.lemmas.Bool.Decides.{nat_tests, Decides-and, Decides-eqb, Decides-like, same_from_decides}
 use Rattle.std.specs.Bool.{Decides}
+use Rattle.exercise_findings.specs.Decided.{key_decides}
 use Rattle.indexmap.specs.IndexMap.{get}
 use Rattle.std.proofs.lemmas.Option.{same_Some}
 use Rattle.dis_records.specs.Address.{Pair}
@@ -432,33 +433,6 @@ unfolding first_able first_under
 first_able_by_key r s k = same_first (sends_able r s k) (has_key r (acknowledged_key s able k)) (sent_at r s able k (sent_able s k)) (length r.entries)
 
 -- ---- one entry on
-
-number_and : (m n : ℕ) (rest : Bool) (P : Type 0) → Decides rest P → Decides (nat_eq m n && rest) ((m ≡ n) × P)
-number_and m n rest P d = Decides-and (nat_eq m n) rest (Decides-eqb m n) d
-
-key_fields : (k l : Key) → k.role ≡ l.role → k.response ≡ l.response → k.station ≡ l.station → k.flag ≡ l.flag → k.request ≡ l.request
-    → k.site ≡ l.site → k.application ≡ l.application → k.entity ≡ l.entity → k ≡ l
-key_fields k l a b c d e f g h = rw (a, b, c, d, e, f, g, h) refl
-
-key_decides : (k l : Key) → Decides (same_key k l) (k ≡ l)
-key_decides k l =
-    Decides-like (same_key k l)
-    (λ p. key_fields k l p.0 p.1.0 p.1.1.0 p.1.1.1.0 p.1.1.1.1.0 p.1.1.1.1.1.0 p.1.1.1.1.1.1.0 p.1.1.1.1.1.1.1)
-    (λ e. (
-      ap (λ (x : Key). x.role) e,
-      (
-        ap (λ (x : Key). x.response) e,
-        (
-          ap (λ (x : Key). x.station) e,
-          (
-            ap (λ (x : Key). x.flag) e,
-            (ap (λ (x : Key). x.request) e, (ap (λ (x : Key). x.site) e, (ap (λ (x : Key). x.application) e, ap (λ (x : Key). x.entity) e))),
-          ),
-        ),
-      ),
-    ))
-    (number_and k.role l.role _ _ (number_and k.response l.response _ _ (number_and k.station l.station _ _ (number_and k.flag l.flag _ _
-    (number_and k.request l.request _ _ (number_and k.site l.site _ _ (number_and k.application l.application _ _ (Decides-eqb k.entity l.entity))))))))
 
 key-comm : (k l : Key) → same_key k l ≡ same_key l k
 key-comm k l = same_from_decides _ _ (key_decides k l) (Decides-like (same_key l k) sym sym (key_decides l k))

@@ -6,6 +6,7 @@ use Rattle.std.specs.List.{list_any}
 use Rattle.std.proofs.Math.Numerals.{add-one}
 use Rattle.std.proofs.lemmas.Bool.{eqb-true, eq-eqb, cases_lt}
 use Rattle.std.proofs.lemmas.Bool.Decides.{nat_tests, Decides-and, Decides-eqb, Decides-like, same_from_decides}
+use Rattle.exercise_findings.specs.Decided.{identifier_decides}
 use Rattle.std.proofs.lemmas.Option.{same_Some}
 use Rattle.indexmap.specs.IndexMap.{get}
 use Rattle.siman_pdus.specs.declared.pdu.Pdu.{Pdu}
@@ -382,15 +383,6 @@ identifier-comm : (k l : Identifier) → same_identifier k l ≡ same_identifier
 identifier-comm k l =
     ap (λ b. b && nat_eq k.request l.request) (nat_eq-comm k.station l.station) ∙ ap (λ b. nat_eq l.station k.station && b) (nat_eq-comm k.request l.request)
 
-same_parts : (k l : Identifier) → k.station ≡ l.station → k.request ≡ l.request → k ≡ l
-same_parts k l p q = rw (p, q) refl
-
-one_identifier : (k l : Identifier) → same_identifier k l ≡ true → k ≡ l
-one_identifier k l e =
-    let both = (Decides-and (nat_eq k.station l.station) (nat_eq k.request l.request) (Decides-eqb k.station l.station)
-    (Decides-eqb k.request l.request)).0 e in
-    same_parts k l both.0 both.1
-
 -- the request is at its identifier
 pub request_own : (r : PlainRecording) (n s : ℕ) (q : Pdu) (k : Identifier) → IsSendOf r n s q → identifier_of s q ≡ Some k → request_at r k n ≡ Some q
 request_own r n s q k send is =
@@ -413,7 +405,7 @@ pub requests_more : (r : PlainRecording) (n s : ℕ) (q : Pdu) (l : Identifier) 
 requests_more r n s q l v old new send is kept writes tied k =
     writes k
     ∙ elim (same_identifier l k) as (λ b. same_identifier l k ≡ b → cond b (Some v) (get same_identifier old k) ≡ kept_under r k (suc n)) [
-      | true ↦ λ same. subst (λ m. Some v ≡ kept_under r m (suc n)) (one_identifier l k same) (sym kept)
+      | true ↦ λ same. subst (λ m. Some v ≡ kept_under r m (suc n)) ((identifier_decides l k).0 same) (sym kept)
       | false ↦ λ apart. tied k ∙ sym (kept_still r k n (request_here r n s q send k
           ∙ ap (λ o. cond (option_map_or (same_identifier k) o false) (Some q) None) is
           ∙ ap (λ b. cond b (Some q) None) (identifier-comm k l ∙ apart)))

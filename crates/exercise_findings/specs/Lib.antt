@@ -5,6 +5,8 @@ pub mod Firsts
 pub mod Behind
 pub mod TakenUp
 pub mod Requests
+pub mod Decided
+pub mod Hashed
 pub mod Source
 pub mod Senders
 pub mod States

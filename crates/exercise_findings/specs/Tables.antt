@@ -16,7 +16,6 @@ use Rattle.exercise_findings.specs.Firsts.{key_at, AreFirsts}
 use Rattle.exercise_findings.specs.Number.{IsNumberOf}
 use Rattle.exercise_findings.specs.Column.{IsColumn}
 use Rattle.exercise_findings.specs.Behind.{behind_at, AreBehind}
-use Rattle.exercise_findings.specs.Requests.{AreRequests}
 use Rattle.exercise_findings.specs.Source.{source_at}
 use Rattle.exercise_findings.specs.Senders.{AreSenders}
 use Rattle.exercise_findings.specs.States.{AreStates}
@@ -55,7 +54,6 @@ pub record IsFound (r : PlainRecording) (n : ℕ) (f : Found) : Type 0 where
 -- WHAT A PASS FINDS in the entries below n
 pub record IsPass (r : PlainRecording) (n : ℕ) (f : Pass) : Type 0 where
   pub tied : AreTied r n f.tables
-  pub requests : AreRequests r n f.requests
   pub causes : IsColumn None (IsOwnCause r) n f.causes.items
   pub pairs : IsColumn 0 (IsNumberOf (pair_of r)) n f.pairs.items
   pub ables : AreBehind r n f.ables.items

@@ -1,16 +1,21 @@
 //! What entries of a station are looked up by.
 
 ghost use Rattle.std.specs.Prelude.{◌≡◌};
+ghost use Rattle.std.proofs.Common.{ap};
 ghost use Rattle.siman_pdus.specs.Reading.{pdu_of};
 ghost use Rattle.exercise_findings.specs.Firsts.{acknowledged_key, sent_key, received_key, answered_key};
+ghost use Rattle.exercise_findings.specs.Hashed.{key_fed};
+ghost use Rattle.exercise_findings.specs.Decided.{key_decides};
 
+use crate::hashed::word;
 use dis_records::{Address, addressed};
 use exercise_model::{AcknowledgeKey, key_of, responds};
 use siman_pdus::{ABLE, Message, PduView, UNABLE, is_request, request_id};
+use std::hash::{Hash, Hasher};
 
 /// What entries of one station have in common that are looked up together: requests that it
 /// received, or Acknowledges that it sent.
-#[derive(Clone, Copy, PartialEq, Eq, Hash)]
+#[derive(Clone, Copy, PartialEq, Eq)]
 pub(crate) struct Key {
     /// 0 for a request, 1 for an Acknowledge.
     pub role: u16,
@@ -28,6 +33,18 @@ pub(crate) struct Key {
     pub application: u16,
     /// The originating entity number of an Acknowledge, 0 for a request.
     pub entity: u16,
+}
+
+impl Hash for Key {
+    ghost hash_input = { key_fed };
+
+    ghost respects_eq = { λ k l same. ap key_fed ((key_decides k l).0 same) };
+
+    fn hash<H: Hasher>(&self, state: &mut H) {
+        state.write_u64(word(u32::from(self.role), self.response, self.station));
+        state.write_u64(word(self.request, self.site, self.application));
+        state.write_u64(word(u32::from(self.entity), self.flag, 0));
+    }
 }
 
 /// The key of an Acknowledge that a station sends with this response flag under a key.

@@ -19,6 +19,7 @@ mod exchange;
 mod findings;
 mod firsts;
 mod found;
+mod hashed;
 mod key;
 mod made;
 mod number;

@@ -1,6 +1,7 @@
 //! One pass over a log, which finds what the log of each station says of its own entries.
 
 ghost use Rattle.std.specs.Prelude.{◌≡◌, ◌<◌, ◌+◌, length, OnOk, IfOk, if◌then◌else◌};
+ghost use Rattle.exercise_findings.specs.Requests.{AreRequests};
 ghost use Rattle.exercise_findings.specs.Tables.{IsPass, AreFindings};
 
 use crate::behind::{Able, note_behind};
@@ -17,8 +18,6 @@ use std::alloc::{AllocError, Global};
 pub(crate) struct Pass<'a> {
     /// What is kept of the entries.
     pub tables: Tables,
-    /// What is kept under each request identifier.
-    pub requests: Requests,
     /// The first cause that its station's log has against each entry.
     pub causes: Vec<Option<Cause>>,
     /// The number of the request that each answer takes up.
@@ -38,7 +37,6 @@ fn nothing_found<'a, L: ExerciseLog>(alloc: Global, log: &'a L) -> Result<Pass<'
     let tables = no_tables(alloc, log)?;
     Ok(Pass {
         tables,
-        requests: no_requests(alloc),
         causes: Vec::new(alloc),
         pairs: Vec::new(alloc),
         ables: Vec::new(alloc),
@@ -57,15 +55,18 @@ fn one_if(so: bool) -> u32
 /// Finds what the next entry is.
 fn find_entry<'a, L: ExerciseLog>(
     found: &mut Pass<'a>,
+    requests: &mut Requests,
     log: &'a L,
     entry: usize,
 ) -> Result<(), AllocError>
     requires few { entry < 4294967295 }
     requires within { entry < length (L.recording log.now).entries }
     requires found { IsPass (L.recording log.now) entry found.old }
-    ensures { OnOk result (IsPass (L.recording log.now) (entry + 1) found.new) }
+    requires requests { AreRequests (L.recording log.now) entry requests.old }
+    ensures found { OnOk result (IsPass (L.recording log.now) (entry + 1) found.new) }
+    ensures requests { OnOk result (AreRequests (L.recording log.now) (entry + 1) requests.new) }
 {
-    let here = find_at(log, &found.tables, &mut found.requests, entry)?;
+    let here = find_at(log, &found.tables, requests, entry)?;
     found.causes.push(here.cause)?;
     found.pairs.push(entry_number(here.pair))?;
     found.others += one_if(here.other);
@@ -74,13 +75,14 @@ fn find_entry<'a, L: ExerciseLog>(
     note_tables(&mut found.tables, log, entry, here.change, here.key)
 }
 
-/// What all entries are found to be.
+/// What all entries are found to be. What is kept of requests is not asked for after that.
 pub(crate) fn find<'a, L: ExerciseLog>(alloc: Global, log: &'a L) -> Result<Pass<'a>, AllocError>
     ensures { IfOk result (AreFindings (L.recording log.now)) }
 {
     let mut found = nothing_found(alloc, log)?;
+    let mut requests = no_requests(alloc);
     for entry in 0..log.entry_count() {
-        find_entry(&mut found, log, entry)?;
+        find_entry(&mut found, &mut requests, log, entry)?;
     }
     Ok(found)
 }

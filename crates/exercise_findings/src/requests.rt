@@ -2,6 +2,7 @@
 
 ghost use Rattle.std.specs.Prelude.{◌≡◌, ◌<◌, ◌+◌, ◌&&◌, not, true, length, option_map, option_and_then, OnOk, IfOk, None, Some, false, if◌then◌else◌};
 ghost use Rattle.std.specs.Option.{option_map_or};
+ghost use Rattle.std.proofs.Common.{ap};
 ghost use Rattle.siman_pdus.specs.Reading.{pdu_of};
 ghost use Rattle.siman_pdus.specs.Role.{is_request_body};
 ghost use Rattle.siman_pdus.specs.Same.{is_same_order};
@@ -12,21 +13,34 @@ ghost use Rattle.exercise_findings.specs.Sent.{meant_by_send};
 ghost use Rattle.exercise_findings.specs.declared.requests.Identifier.{Identifier};
 ghost use Rattle.exercise_findings.specs.declared.requests.KeptIdentifier.{KeptIdentifier};
 ghost use Rattle.exercise_findings.specs.Requests.{same_identifier, identifier_of, AreRequests, IsSendOf};
+ghost use Rattle.exercise_findings.specs.Hashed.{identifier_fed};
+ghost use Rattle.exercise_findings.specs.Decided.{identifier_decides};
 
 use crate::change::sent_by;
+use crate::hashed::word;
 use crate::table::{Table, keep_first};
 use exercise_model::ExerciseLog;
 use siman_pdus::{PduView, is_request, request_id, same_order};
 use std::alloc::{AllocError, Global};
-use std::hash::BuildHasherDefault;
+use std::hash::{BuildHasherDefault, Hash, Hasher};
 
 /// What the requests of one station have in common that are looked up together.
-#[derive(Clone, Copy, PartialEq, Eq, Hash)]
+#[derive(Clone, Copy, PartialEq, Eq)]
 pub(crate) struct Identifier {
     /// The station, from 0.
     pub station: u16,
     /// The request identifier.
     pub request: u32,
+}
+
+impl Hash for Identifier {
+    ghost hash_input = { identifier_fed };
+
+    ghost respects_eq = { λ k l same. ap identifier_fed ((identifier_decides k l).0 same) };
+
+    fn hash<H: Hasher>(&self, state: &mut H) {
+        state.write_u64(word(self.request, self.station, 0));
+    }
 }
 
 /// What is kept of the requests under one identifier.

@@ -8,7 +8,6 @@ use Rattle.exercise_findings.specs.Behind.{AreBehind}
 use Rattle.exercise_findings.specs.Tables.{IsOwnCause}
 use Rattle.exercise_findings.proofs.Ables.{behind_none}
 use Rattle.exercise_findings.proofs.Columns.{column_none}
-use Rattle.exercise_findings.proofs.Reused.{none_kept}
 use Rattle.exercise_findings.proofs.Sources.{no_senders}
 use Rattle.exercise_findings.proofs.pass.nothing_found.Goals as goal
 
@@ -17,7 +16,6 @@ returns g c =
     let r = g.L.ExerciseLog.recording c.args.log.now in
     record {
       tied = c.in_ok-tables.ensures;
-      requests = none_kept r c.no_requests.result c.no_requests.ensures;
       causes = subst (λ (xs : List (Option Cause)). IsColumn None (IsOwnCause r) 0 xs) (sym c.new.ensures.items) (column_none None (IsOwnCause r));
       pairs = subst (λ (xs : List ℕ). IsColumn 0 (IsNumberOf (pair_of r)) 0 xs) (sym c.new-2.ensures.items) (column_none 0 (IsNumberOf (pair_of r)));
       ables = subst (λ (xs : List Able). AreBehind r 0 xs) (sym c.new-3.ensures.items) (behind_none r);

@@ -126,11 +126,19 @@ impl<'a, L: ExerciseLog> Course<'a, L> {
         }
     }
 
+    /// What was found in the log. What is kept of the steps is given back.
+    fn into_found(self) -> Findings<'a, L>
+        ensures { result ≡ self.entry.recording }
+    {
+        let Course { found, .. } = self;
+        found
+    }
+
     /// What the recording says.
     pub fn into_account(self, alloc: Global) -> Result<Account, AllocError>
         ensures { IfOk result (λ account. TellsAccount self.entry.recording account) }
     {
-        let Course { found, .. } = self;
+        let found = self.into_found();
         found.into_account(alloc)
     }
 

@@ -46,7 +46,7 @@ def sources(crate):
 def exported(text):
     """The names that lib.rt exports of its own modules."""
     names = set()
-    for path, braced, single in re.findall(r"^pub use (\w+)::(?:\{([^}]*)\}|(\w+));", text, re.MULTILINE):
+    for path, braced, single in re.findall(r"^pub use (?:\w+::)*(\w+)::(?:\{([^}]*)\}|(\w+));", text, re.MULTILINE):
         names |= {(path, name) for name in re.findall(r"\w+", braced or single)}
     return names
 

@@ -8,8 +8,8 @@ use Rattle.siman_scripts.specs.declared.script_fault.ScriptFault.TheVariants.{Ba
 use Rattle.siman_scripts.specs.Script.{script_at}
 use Rattle.byte_files.specs.Fetching.{fetched}
 use Rattle.siman_console.specs.Outside.{Has}
-use Rattle.siman_console.specs.World.{Scripted}
-use Rattle.siman_console.specs.Check.{Recorded}
+use Rattle.siman_console.specs.Program.World.{Scripted}
+use Rattle.siman_console.specs.Program.Check.{Recorded}
 use Rattle.byte_files.specs.Fields.{Fails}
 use Rattle.exercise_recording.specs.declared.format_fault.RecordingFault.{RecordingFault}
 use Rattle.exercise_recording.specs.Reading.{recording_at, format_of}

@@ -8,9 +8,9 @@ use Rattle.exercise_model.specs.declared.recording.TheConstants.{MOST_ENTRIES}
 use Rattle.siman_scripts.specs.declared.act.Act.{Act}
 use Rattle.siman_stations.specs.declared.turn.Node.{Node}
 use Rattle.siman_worlds.specs.declared.world_fault.MoveFault.{MoveFault}
-use Rattle.siman_console.specs.declared.live_moves.Halt.{Halt}
-use Rattle.siman_console.specs.declared.live_moves.Halt.TheVariants as halts
-use Rattle.siman_console.specs.LiveMoves.{live_fault, judged, Gives}
+use Rattle.siman_console.specs.declared.program.live.moves.Halt.{Halt}
+use Rattle.siman_console.specs.declared.program.live.moves.Halt.TheVariants as halts
+use Rattle.siman_console.specs.Program.Live.Moves.{live_fault, judged, Gives}
 
 -- what stands at a place
 pub stands_at : {X : Type 0} (xs : List X) (i s : ℕ) (x : X) → i < length xs → i ≡ s → x ≡ get_or xs i x → slice_get xs s ≡ Some x

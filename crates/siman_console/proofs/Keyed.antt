@@ -8,7 +8,7 @@ use Rattle.siman_texts.specs.Line.{Number, Field, Bare, Line, opened_line}
 use Rattle.exercise_model.specs.Entry.{Entry, Sent, Received, Told}
 use Rattle.exercise_model.specs.Meaning.{meaning}
 use Rattle.siman_console.specs.Head.{head_line, header_fields, identifier_field, kind_field, body_fields}
-use Rattle.siman_console.specs.Show.{done_fields, meant_fields, entry_line}
+use Rattle.siman_console.specs.Program.Show.{done_fields, meant_fields, entry_line}
 
 -- the fields of a head, with this body
 abbrev fields_with : Pdu → Body → List Field

@@ -6,7 +6,7 @@ use Rattle.std.proofs.KnownBytes.{Consumes-trans}
 use Rattle.std.proofs.lemmas.Bool.Decides.{nat_tests}
 use Rattle.std.proofs.lemmas.List.{length-take, take_more_set, take-append-le}
 use Rattle.siman_scripts.specs.Text.{lines_of}
-use Rattle.siman_console.specs.Pdus.{IsOneLine, ReadsLine, HoldsLine}
+use Rattle.siman_console.specs.Program.Pdus.{IsOneLine, ReadsLine, HoldsLine}
 
 no_end-more : (bs : List ℕ) (b : ℕ) → IsOneLine bs → b ≢ 10 → IsOneLine (bs ++ b ∷ [])
 no_end-more [] b none other = (other, tt)

@@ -10,13 +10,13 @@ use Rattle.byte_files.proofs.Offered.{writes_part, writes_later}
 use Rattle.siman_console.specs.declared.fault.Fault.{Fault}
 use Rattle.siman_console.specs.declared.fault.Fault.TheVariants.{Memory}
 use Rattle.siman_console.specs.Report.{texts_below}
-use Rattle.siman_console.specs.Show.{IsPassedOn, PassesOn}
+use Rattle.siman_console.specs.Program.Show.{IsPassedOn, PassesOn}
 use Rattle.siman_console.proofs.Texts.{texts-none, texts_below-more}
 use Rattle.exercise_model.specs.Recording.{PlainRecording}
 use Rattle.exercise_recording.specs.Text.{recording_text}
 use Rattle.siman_console.specs.Making.{SaysSettled}
 use Rattle.siman_console.specs.Outside.{Stream}
-use Rattle.siman_console.specs.World.{world_text, PutsWorld}
+use Rattle.siman_console.specs.Program.World.{world_text, PutsWorld}
 
 -- what was passed on, and then a prefix of what was held and more
 part-then : (old mid new : Option (List ℕ)) (held text more : List ℕ) → IsPassedOn old mid held text → WritesPart mid new (held ++ more)

@@ -10,7 +10,7 @@ use Rattle.siman_console.specs.declared.hex_text.TheConstants.{LONGEST_HEX}
 use Rattle.hex.specs.Hex.{IsBytes, encode_lower, lower_digits, decode_of}
 use Rattle.hex.proofs.HexLemmas.{decode_of-encode_lower, length-encode_with}
 use Rattle.siman_console.specs.HexText.{bytes_of}
-use Rattle.siman_console.specs.Pdus.{told_of_said, told_of_line}
+use Rattle.siman_console.specs.Program.Pdus.{told_of_said, told_of_line}
 
 -- a datagram that reads as a PDU is shown as that PDU
 pub said_of-read : (refusal : Option PduFault) (pdu read : Pdu) → Some read ≡ unless_refused refusal pdu → said_of_reading refusal pdu ≡ said_of_pdu read

@@ -12,14 +12,14 @@ use Rattle.byte_files.specs.Fields.{Fails}
 use Rattle.exercise_audit.specs.declared.blocks.Block.{Block}
 use Rattle.exercise_audit.specs.Audit.{AreBlocks, IsBlocked}
 use Rattle.siman_console.specs.declared.fault.Fault.{Fault}
-use Rattle.siman_console.specs.declared.audit.Finding.{Finding}
-use Rattle.siman_console.specs.Check.{Recorded}
+use Rattle.siman_console.specs.declared.program.audit.Finding.{Finding}
+use Rattle.siman_console.specs.Program.Check.{Recorded}
 use Rattle.siman_console.specs.Ending.{of_recording, of_convert}
-use Rattle.siman_console.specs.Audit.{IsUnsearched, Searches}
+use Rattle.siman_console.specs.Program.Audit.{IsUnsearched, Searches}
 use Rattle.exercise_recording.specs.declared.conversion.ConvertFault.{ConvertFault}
 use Rattle.exercise_recording.specs.declared.conversion.ConvertFault.TheVariants as converts
 use Rattle.exercise_recording.specs.Conversion.{ConversionData, IsOld, IsUnconverted, Readies}
-use Rattle.siman_console.specs.Convert.{converted_text, IsUncarried, CarriesTexts}
+use Rattle.siman_console.specs.Program.Convert.{converted_text, IsUncarried, CarriesTexts}
 
 -- each block is of one of the stations
 are_within : (r : PlainRecording) (h : History) (n : ℕ) (blocks : List Block) → AreBlocks r h n blocks → All (λ (b : Block). b.station < n) blocks

@@ -14,15 +14,15 @@ use Rattle.siman_scripts.specs.Text.{lines_of}
 use Rattle.siman_console.specs.declared.hex_text.TheConstants.{LONGEST_HEX}
 use Rattle.siman_console.specs.declared.fault.Fault.{Fault}
 use Rattle.siman_console.specs.declared.fault.Fault.TheVariants.{NotBytePairs, Input, Output, Memory}
-use Rattle.siman_console.specs.declared.pdus.Stop.{Stop}
-use Rattle.siman_console.specs.declared.pdus.Stop.TheVariants as stops
+use Rattle.siman_console.specs.declared.program.pdus.Stop.{Stop}
+use Rattle.siman_console.specs.declared.program.pdus.Stop.TheVariants as stops
 use Rattle.siman_console.specs.Answer.{not_byte_pairs, said_of_reading, said_of_bytes, said_of_hex, IsSaid}
 use Rattle.siman_console.specs.HexText.{bytes_of}
 use Rattle.siman_console.specs.Outside.{Has, Stream}
 use Rattle.siman_console.proofs.LineReadings.{line_cut}
 use Rattle.siman_console.proofs.Readings.{told_of_line-some}
 use Rattle.siman_console.proofs.Inputs.{over}
-use Rattle.siman_console.specs.Pdus.{LinesTold, untold, and_then, told_of_said, told_of_line, told_of, IsWritten, WritesTorn, StopsAfter, TellsLines, TellsBad, TellsLine, IsOneLine, ReadsLine, ReadsLines, HoldsLine}
+use Rattle.siman_console.specs.Program.Pdus.{LinesTold, untold, and_then, told_of_said, told_of_line, told_of, IsWritten, WritesTorn, StopsAfter, TellsLines, TellsBad, TellsLine, IsOneLine, ReadsLine, ReadsLines, HoldsLine}
 
 -- ---- what is told
 

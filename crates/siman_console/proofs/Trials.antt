@@ -5,8 +5,8 @@ use Rattle.byte_files.specs.Writing.{WritesPart}
 use Rattle.exercise_check.specs.declared.certificate.Step.{Step}
 use Rattle.exercise_check.specs.Goodness.{IsGood}
 use Rattle.siman_scripts.specs.Script.{ScriptData}
-use Rattle.siman_console.specs.Trial.{trial_text, IsClosed, IsTried, IsTriedInPart}
-use Rattle.siman_console.specs.World.{recording_of, refusal_of}
+use Rattle.siman_console.specs.Program.ScriptTrial.{trial_text, IsClosed, IsTried, IsTriedInPart}
+use Rattle.siman_console.specs.Program.World.{recording_of, refusal_of}
 use Rattle.exercise_model.specs.History.{past, log_at, log_of}
 use Rattle.exercise_model.specs.Recording.{PlainRecording}
 use Rattle.exercise_model.specs.Run.{IsRun, Explains}

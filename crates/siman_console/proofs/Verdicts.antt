@@ -14,7 +14,7 @@ use Rattle.exercise_check.specs.declared.checker.CheckFault.TheVariants.{Bad}
 use Rattle.exercise_check.specs.Goodness.{IsGood, Refuses}
 use Rattle.exercise_check.specs.Certificate as certificate
 use Rattle.siman_console.specs.declared.files_fault.FilesFault.{FilesFault}
-use Rattle.siman_console.specs.Check.{Recorded, Certified, Judges, of_recording, of_certificate}
+use Rattle.siman_console.specs.Program.Check.{Recorded, Certified, Judges, of_recording, of_certificate}
 
 -- what is refused is not good
 pub not_good : (r : PlainRecording) (steps : List Step) (k : ℕ) (cause : Cause) → Refuses r steps (Bad k cause) → ¬ IsGood r steps

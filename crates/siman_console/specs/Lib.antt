@@ -3,17 +3,8 @@ pub mod Records
 pub mod HexText
 pub mod Answer
 pub mod Report
-pub mod Check
-pub mod Show
 pub mod Ending
 pub mod Outside
-pub mod Audit
-pub mod Convert
-pub mod World
-pub mod LiveMoves
-pub mod Live
-pub mod Trial
-pub mod Pdus
 pub mod Program
 pub mod CountLine
 pub mod Making

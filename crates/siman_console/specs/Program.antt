@@ -1,44 +1,49 @@
 -- How the program ends, from the words of its command line to its status.
+pub mod Audit
+pub mod Check
+pub mod Convert
+pub mod Live
+pub mod Pdus
+pub mod Show
+pub mod ScriptTrial
+pub mod World
 use Rattle.std.specs.Prelude.{◌≡◌, ◌⊎◌, ℕ, List, [], Option, Some, None, Result, Ok, Err, map, string_bytes, Vec, String, Bool, true, false}
 use Rattle.std.specs.declared.alloc.Global.{Global}
 use Rattle.std.specs.Io.KnownBytes.{Keeps}
 use Rattle.std.specs.declared.io.ErrorKind.{ErrorKind}
 use Rattle.siman_scripts.specs.Text.{lines_of}
 use Rattle.siman_words.specs.declared.commands.NoWord.{NoWord}
-use Rattle.siman_words.specs.declared.commands.NoWord.TheVariants.{Pdus}
 use Rattle.siman_words.specs.declared.commands.OneWord.{OneWord}
-use Rattle.siman_words.specs.declared.commands.OneWord.TheVariants.{Pdu, Show}
 use Rattle.siman_words.specs.declared.commands.TwoWords.{TwoWords}
-use Rattle.siman_words.specs.declared.commands.TwoWords.TheVariants.{Check, Audit, World, Live, Convert}
 use Rattle.siman_words.specs.Words.{Asked, Trial, Bare, One, Two, asked, asks_help}
 use Rattle.siman_console.specs.declared.fault.Fault.{Fault}
 use Rattle.siman_console.specs.declared.fault.Fault.TheVariants.{Words, Output, Memory}
 use Rattle.siman_console.specs.Answer.{said_of_hex, IsSaid}
-use Rattle.siman_console.specs.Audit.{SearchesFile, MakesFinding}
-use Rattle.siman_console.specs.Check.{ChecksFiles}
-use Rattle.siman_console.specs.Convert.{CarriesFile, MakesConverted}
+use Rattle.siman_console.specs.Program.Audit.{SearchesFile, MakesFinding}
+use Rattle.siman_console.specs.Program.Check.{ChecksFiles}
+use Rattle.siman_console.specs.Program.Convert.{CarriesFile, MakesConverted}
 use Rattle.siman_console.specs.Ending.{Ends, IsToldAs}
 use Rattle.siman_console.specs.Outside.{Has, Stream, Outcome, Deed}
-use Rattle.siman_console.specs.Live.{BeginsFile, LivesBegun}
+use Rattle.siman_console.specs.Program.Live.{BeginsFile, LivesBegun}
 use Rattle.siman_console.specs.Making.{Answered}
 use Rattle.siman_console.specs.Opening.{WorksOn}
-use Rattle.siman_console.specs.Pdus.{EndsLines}
+use Rattle.siman_console.specs.Program.Pdus.{EndsLines}
 use Rattle.siman_console.specs.Saying.{SaysOfFile, SaysOfFiles}
-use Rattle.siman_console.specs.Show.{ShowsFile}
-use Rattle.siman_console.specs.Trial.{TriesInput}
-use Rattle.siman_console.specs.World.{RunsFile, MakesWorld}
+use Rattle.siman_console.specs.Program.Show.{ShowsFile}
+use Rattle.siman_console.specs.Program.ScriptTrial.{TriesInput}
+use Rattle.siman_console.specs.Program.World.{RunsFile, MakesWorld}
 
 -- WHAT A COMMAND DOES: which files it opened and made, in their order, what it answered or the fault that it met, and what it left on the writer of answers
 abbrev pub DoesOne : OneWord → (word : List ℕ) → List Deed → Answered → Stream → Type 0
-DoesOne Pdu hex deeds answered out = (deeds ≡ []) × IsSaid (said_of_hex hex) answered out.old out.new
-DoesOne Show recording deeds answered out = SaysOfFile ShowsFile recording deeds answered out
+DoesOne OneWord.Pdu hex deeds answered out = (deeds ≡ []) × IsSaid (said_of_hex hex) answered out.old out.new
+DoesOne OneWord.Show recording deeds answered out = SaysOfFile ShowsFile recording deeds answered out
 
 abbrev pub DoesTwo : TwoWords → (first second : List ℕ) → List Deed → Answered → Stream → Type 0
-DoesTwo Check recording certificate = SaysOfFiles ChecksFiles recording certificate
-DoesTwo Audit recording certificate = WorksOn SearchesFile MakesFinding recording certificate
-DoesTwo World script recording = WorksOn RunsFile MakesWorld script recording
-DoesTwo Live script recording = WorksOn BeginsFile LivesBegun script recording
-DoesTwo Convert old new = WorksOn CarriesFile MakesConverted old new
+DoesTwo TwoWords.Check recording certificate = SaysOfFiles ChecksFiles recording certificate
+DoesTwo TwoWords.Audit recording certificate = WorksOn SearchesFile MakesFinding recording certificate
+DoesTwo TwoWords.World script recording = WorksOn RunsFile MakesWorld script recording
+DoesTwo TwoWords.Live script recording = WorksOn BeginsFile LivesBegun script recording
+DoesTwo TwoWords.Convert old new = WorksOn CarriesFile MakesConverted old new
 
 -- with the status of what was answered, or with that of the fault that was met, which is then told
 abbrev pub EndsAs : (Answered → Stream → Type 0) → Outcome → Type 0
@@ -46,7 +51,7 @@ EndsAs Tells o = (answered : Answered) × Tells answered o.out × Ends answered 
 
 -- how a command ends that takes no words, and reads standard input, which has these bytes where they are known
 abbrev pub EndsBare : NoWord → Option (List ℕ) → Outcome → Type 0
-EndsBare Pdus input o = (bytes : List ℕ) × Has input bytes × EndsLines (lines_of bytes) o
+EndsBare NoWord.Pdus input o = (bytes : List ℕ) × Has input bytes × EndsLines (lines_of bytes) o
 
 -- HOW A TASK ENDS
 abbrev pub EndsTask : Asked → List Deed → Option (List ℕ) → Outcome → Type 0

@@ -6,7 +6,7 @@ ghost use Rattle.siman_pdus.specs.declared.pdu.Pdu.{Pdu};
 ghost use Rattle.siman_pdus.specs.Spelling.{Spells};
 ghost use Rattle.siman_texts.specs.Spelled.{line_text};
 ghost use Rattle.siman_console.specs.Answer.{refusal_line, answer_to, said_of_hex, said_of_pdu};
-ghost use Rattle.siman_console.specs.Pdus.{told_of_said, told_of_line};
+ghost use Rattle.siman_console.specs.Program.Pdus.{told_of_said, told_of_line};
 
 use crate::records::pdu_lines;
 use siman_pdus::{PduFault, spellings_are_apart, view};

@@ -2,7 +2,7 @@
 
 ghost use Rattle.std.specs.Prelude.{◌≡◌, Some};
 ghost use Rattle.siman_console.specs.declared.files_fault.FilesFault.TheVariants.{Memory};
-ghost use Rattle.siman_console.specs.Check.{of_recording, of_certificate, files_fault_status};
+ghost use Rattle.siman_console.specs.Program.Check.{of_recording, of_certificate, files_fault_status};
 ghost use Rattle.siman_console.specs.Ending.{of_files, fault_text};
 
 use crate::fault::Fault;

@@ -5,7 +5,7 @@ ghost use Rattle.siman_pdus.specs.declared.pdu.Pdu.{Pdu};
 ghost use Rattle.exercise_model.specs.Entry.{Entry};
 ghost use Rattle.siman_texts.specs.Keys.{has_no_key_twice};
 ghost use Rattle.siman_console.specs.Head.{head_line};
-ghost use Rattle.siman_console.specs.Show.{entry_line};
+ghost use Rattle.siman_console.specs.Program.Show.{entry_line};
 
 /// Laws of the lines in JSON: the head of a PDU has no key twice, and neither has the line of an entry.
 pub fn keys_come_once()

@@ -11,9 +11,6 @@
 #![tactic(auto)]
 
 mod answer;
-mod audit;
-mod check;
-mod convert;
 mod count_line;
 mod entry_lines;
 mod fault;
@@ -22,13 +19,9 @@ mod head;
 mod hex_text;
 mod input;
 mod keys;
-mod live;
-mod live_moves;
 mod making;
 mod opening;
 mod outside;
-mod pdu;
-mod pdus;
 mod place;
 mod product;
 mod program;
@@ -36,29 +29,26 @@ mod recording_file;
 mod records;
 mod report;
 mod saying;
-mod script_trial;
-mod show;
 mod trial_fault;
 mod usage;
-mod world;
 
 pub use answer::answers_follow_the_grammar;
-pub use audit::audit_command;
-pub use check::{LARGEST_CERTIFICATE, check_command, check_files};
-pub use convert::LARGEST_OLD_RECORDING;
 pub use fault::Ended;
 pub use files_fault::FilesFault;
 pub use keys::keys_come_once;
 pub use outside::Outside;
-pub use pdu::pdu_command;
-pub use pdus::pdus_command;
+pub use program::audit::audit_command;
+pub use program::check::{LARGEST_CERTIFICATE, check_command, check_files};
+pub use program::convert::LARGEST_OLD_RECORDING;
+pub use program::pdu::pdu_command;
+pub use program::pdus::pdus_command;
 pub use program::run;
-pub use script_trial::{perform, trial};
-pub use show::{LARGEST_RECORDING, show_command};
+pub use program::script_trial::{perform, trial};
+pub use program::show::{LARGEST_RECORDING, show_command};
+pub use program::world::world_command;
 pub use siman_scripts::{
     Act, LARGEST_SCRIPT, Move, Script, ScriptFault, WorldStation, read_script,
 };
 pub use siman_words::{NoWord, OneWord, Task, TwoWords, asks_help, read_words};
 pub use siman_worlds::{MoveFault, WorldFault, run_world};
 pub use trial_fault::TrialFault;
-pub use world::world_command;

@@ -7,18 +7,28 @@ ghost use Rattle.siman_console.specs.Outside.{Deed, Adds, WasHeld, Stream, Outco
 ghost use Rattle.siman_console.specs.Program.{DoesOne, DoesTwo, EndsTask, EndsProgram, words_by};
 ghost use Rattle.siman_words.specs.Words.{asked_by};
 
-use crate::audit::Finding;
-use crate::check::CheckCommand;
-use crate::convert::Carried;
+pub(crate) mod audit;
+pub(crate) mod check;
+pub(crate) mod convert;
+mod live;
+pub(crate) mod pdu;
+pub(crate) mod pdus;
+pub(crate) mod script_trial;
+pub(crate) mod show;
+pub(crate) mod world;
+
 use crate::fault::{Ended, Fault, end, of_error};
-use crate::live::Begun;
 use crate::outside::Outside;
-use crate::pdu::tell_word;
-use crate::pdus::end_lines;
 use crate::product::make_of_file;
+use crate::program::audit::Finding;
+use crate::program::check::CheckCommand;
+use crate::program::convert::Carried;
+use crate::program::live::Begun;
+use crate::program::pdu::tell_word;
+use crate::program::pdus::end_lines;
+use crate::program::script_trial::TrialCommand;
+use crate::program::show::ShowCommand;
 use crate::saying::{OfFile, say_of_file, say_of_files};
-use crate::script_trial::TrialCommand;
-use crate::show::ShowCommand;
 use crate::usage::end_usage;
 use exercise_model::Recording;
 use siman_words::{NoWord, OneWord, Task, TwoWords, asks_help, read_words};

@@ -3,7 +3,7 @@
 ghost use Rattle.std.specs.Prelude.{◌≡◌, Some};
 ghost use Rattle.siman_console.specs.declared.trial_fault.TrialFault.TheVariants.{Memory};
 ghost use Rattle.siman_console.specs.Ending.{fault_text, fault_status, of_trial};
-ghost use Rattle.siman_console.specs.Trial.{script_refused, world_refused};
+ghost use Rattle.siman_console.specs.Program.ScriptTrial.{script_refused, world_refused};
 
 use crate::fault::Fault;
 use siman_scripts::ScriptFault;

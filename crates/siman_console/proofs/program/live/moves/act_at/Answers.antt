@@ -1,0 +1,15 @@
+-- What a station did not do is why its move is not made.
+use Rattle.std.specs.Prelude.{None}
+use Rattle.siman_stations.specs.Asked.{order_fault, tell_fault}
+use Rattle.siman_console.proofs.program.live.moves.act_at.Goals as goal
+
+pub returns-in-Command-clause-fault : goal.returns-in-Command-clause-fault
+returns-in-Command-clause-fault g c =
+    rw c.in-Command.is
+    (c.of_station.ensures.fault (order_fault c.args.station.now.node.manager c.args.now c.in-Command.order) c.order_at.ensures.fault)
+
+pub returns-in-Tick-clause-fault : goal.returns-in-Tick-clause-fault
+returns-in-Tick-clause-fault g c = rw c.in-Tick.is (c.of_station-in-Tick.ensures.fault None c.repeat_at.ensures.fault)
+
+pub returns-in-Tell-clause-fault : goal.returns-in-Tell-clause-fault
+returns-in-Tell-clause-fault g c = rw c.in-Tell.is (c.of_station-in-Tell.ensures.fault (tell_fault c.in-Tell.entity) c.tell_at.ensures.fault)

@@ -1,0 +1,22 @@
+-- The halves of the station decide.
+use Rattle.std.proofs.Common.{◌∙◌, None, arith}
+use Rattle.siman_console.proofs.Judged.{stands_at, judged_there, passes_on, on_any, served_any}
+use Rattle.siman_console.proofs.program.live.moves.judge_and_make.Goals as goal
+
+pub returns-in_err-act_at-clause-fault : goal.returns-in_err-act_at-clause-fault
+returns-in_err-act_at-clause-fault g c =
+    let p = c.index_mut.result.now in
+    let there = stands_at c.args.stations.now.items c.from-2.result c.args.step.station p (omega arith) c.from-2.ensures c.index_mut.ensures.value in
+    passes_on c.from_residual.result c.in_err-act_at.field-0.0 _ _
+    (judged_there (λ p. p.node) p c.args.recorder.now.entries _ c.args.step.now c.args.step.act (omega arith) there)
+    c.from_residual.ensures.1 c.in_err-act_at.ensures.fault
+
+pub returns-clause-made : goal.returns-clause-made
+returns-clause-made g c =
+    let p = c.index_mut.result.now in
+    let there = stands_at c.args.stations.now.items c.from-2.result c.args.step.station p (omega arith) c.from-2.ensures c.index_mut.ensures.value in
+    on_any c.of_station.result
+    (judged_there (λ p. p.node) p c.args.recorder.now.entries _ c.args.step.now c.args.step.act (omega arith) there ∙ c.in_ok-act_at.ensures.made)
+
+pub returns-clause-fault : goal.returns-clause-fault
+returns-clause-fault g c = served_any c.of_station.result _ (c.of_station.ensures.fault None c.serve_rounds.ensures)

@@ -1,5 +1,5 @@
 -- When two keys are the same, and two identifiers: where all their parts are.
-use Rattle.std.proofs.Common.{◌≡◌, ℕ, Bool, true, refl, ap}
+use Rattle.std.proofs.Common.{◌≡◌, ℕ, Bool, refl, ap}
 use Rattle.std.specs.Prelude.{nat_eq, ◌&&◌}
 use Rattle.std.proofs.lemmas.Bool.Decides.{Decides-and, Decides-eqb, Decides-like}
 use Rattle.std.specs.Bool.{Decides}

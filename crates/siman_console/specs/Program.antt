@@ -3,6 +3,7 @@ pub mod Audit
 pub mod Check
 pub mod Convert
 pub mod Live
+pub mod Mend
 pub mod Pdus
 pub mod Show
 pub mod ScriptTrial
@@ -26,6 +27,7 @@ use Rattle.siman_console.specs.Ending.{Ends, IsToldAs}
 use Rattle.siman_console.specs.Outside.{Has, Stream, Outcome, Deed}
 use Rattle.siman_console.specs.Program.Live.{BeginsFile, LivesBegun}
 use Rattle.siman_console.specs.Making.{Answered}
+use Rattle.siman_console.specs.Program.Mend.{MendsFile, MakesMended}
 use Rattle.siman_console.specs.Opening.{WorksOn}
 use Rattle.siman_console.specs.Program.Pdus.{EndsLines}
 use Rattle.siman_console.specs.Saying.{SaysOfFile, SaysOfFiles}
@@ -44,6 +46,7 @@ DoesTwo TwoWords.Audit recording certificate = WorksOn SearchesFile MakesFinding
 DoesTwo TwoWords.World script recording = WorksOn RunsFile MakesWorld script recording
 DoesTwo TwoWords.Live script recording = WorksOn BeginsFile LivesBegun script recording
 DoesTwo TwoWords.Convert old new = WorksOn CarriesFile MakesConverted old new
+DoesTwo TwoWords.Mend old new = WorksOn MendsFile MakesMended old new
 
 -- with the status of what was answered, or with that of the fault that was met, which is then told
 abbrev pub EndsAs : (Answered → Stream → Type 0) → Outcome → Type 0

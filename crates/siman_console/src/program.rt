@@ -11,6 +11,7 @@ pub(crate) mod audit;
 pub(crate) mod check;
 pub(crate) mod convert;
 mod live;
+mod mend;
 pub(crate) mod pdu;
 pub(crate) mod pdus;
 pub(crate) mod script_trial;
@@ -24,6 +25,7 @@ use crate::program::audit::Finding;
 use crate::program::check::CheckCommand;
 use crate::program::convert::Carried;
 use crate::program::live::Begun;
+use crate::program::mend::MendedFile;
 use crate::program::pdu::tell_word;
 use crate::program::pdus::end_lines;
 use crate::program::script_trial::TrialCommand;
@@ -70,6 +72,7 @@ fn do_two<'a, O: Outside, W: Write>(
         TwoWords::World => make_of_file::<Recording, O, W>(alloc, words, outside, out),
         TwoWords::Live => make_of_file::<Begun, O, W>(alloc, words, outside, out),
         TwoWords::Convert => make_of_file::<Carried, O, W>(alloc, words, outside, out),
+        TwoWords::Mend => make_of_file::<MendedFile, O, W>(alloc, words, outside, out),
     }
 }
 

@@ -31,6 +31,8 @@ pub enum TwoWords {
     Live,
     /// Carry the recording of the first file over to the second format, and make the second of it.
     Convert,
+    /// Keep what of the recording of the first file stands whole, and make the second of it.
+    Mend,
 }
 
 /// What the words of a command line ask for.
@@ -68,7 +70,7 @@ pub(crate) struct Row {
 }
 
 /// The table of the commands, in the order of the help.
-pub(crate) const ROWS: [Row; 8] = [
+pub(crate) const ROWS: [Row; 9] = [
     Row {
         name: "pdu",
         takes: Takes::One(OneWord::Pdu),
@@ -146,6 +148,19 @@ pub(crate) const ROWS: [Row; 8] = [
             (
                 "NEW",
                 "The file of the same recording in the second format, which is made anew",
+            ),
+        ],
+    },
+    Row {
+        name: "mend",
+        takes: Takes::Two(TwoWords::Mend),
+        about: "Keeps the entries of a torn recording that stand whole, and writes them with an end",
+        example: "Example:\n  siman mend torn.dsrc mended.dsrc",
+        words: &[
+            ("OLD", "The file of the recording, whose end may be torn"),
+            (
+                "NEW",
+                "The file of what stands whole of it, which is made anew",
             ),
         ],
     },

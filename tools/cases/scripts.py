@@ -1,4 +1,4 @@
-"""The scripts that write recordings: the recorder of FORMATS.md, the closing of one, and exchanges of any number."""
+"""The scripts that write recordings: the recorder of FORMATS.md, and exchanges of any number."""
 import os
 import re
 import subprocess
@@ -32,24 +32,6 @@ def try_recorder(trials):
     trials.expect(["show", names[0]], pages.answer_to_show(read(trials, names[0])))
 
 
-def try_closing(trials):
-    whole = read(trials, "examples/created_and_started.dsrc")
-    ends = [23, 64, 105, 150, 195, 252, 309, 354, 399, 405]  # of the stations, and of each entry
-    for size in [end + more for end in ends for more in (-1, 0, 1, 4)][1:]:
-        entries = sum(end <= size for end in ends[1:])
-        cut, closed = trials.file(whole[:size]), f"closed.{size}"
-        told = f"{entries} entries, {size - ends[entries]} bytes left out\n".encode()
-        came = script(trials, "tools/close_recording.py", cut, closed)
-        trials.state(f"close_recording.py of {size} bytes", Outcome(0, told, b""), came)
-        text = whole[: ends[entries]] + b"\0" + entries.to_bytes(4, "big")
-        trials.state(f"what it closed of {size} bytes", text, read(trials, closed))
-    trials.expect(["show", "closed.196"], pages.answer_to_show(read(trials, "closed.196")))
-    for words in [[], ["none", "new"], [trials.file(whole), "new"], [trials.file(whole[:22]), "new"], [cut, closed]]:
-        came = script(trials, "tools/close_recording.py", *words)
-        trials.state(f"the status of close_recording.py {words}", 2, came.status)
-    trials.state("what close_recording.py made of them", False, os.path.exists(trials.folder / "new"))
-
-
 def try_exchanges(trials):
     for count in ("0", "1", "9"):
         names = f"exchanges.{count}.dsrc", f"exchanges.{count}.dsct"
@@ -67,5 +49,4 @@ def try_exchanges(trials):
 
 def try_all(trials, _):
     try_recorder(trials)
-    try_closing(trials)
     try_exchanges(trials)

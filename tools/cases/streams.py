@@ -63,6 +63,7 @@ def answers(trials, examples):
         (["world", WORKED_SCRIPT, f"{new}.world"], b"", Outcome(0, WORKED_LINE, b"")),
         (["live", WORKED_SCRIPT, f"{new}.live"], b"", Outcome(0, b"live records=13\n", b"")),
         (["convert", good, f"{new}.convert"], b"", Outcome(0, b"converted records=9\n", b"")),
+        (["mend", good, f"{new}.mend"], b"", Outcome(0, b"whole records=9\n", b"")),
     ]
 
 

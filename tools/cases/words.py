@@ -21,6 +21,7 @@ def try_words(trials):
         ["pd"], ["-"], ["--", "pdu"], ["world"], ["world", "a"], ["world", "a", "b", "c"], ["world", "-a", "b"],
         ["live"], ["live", "a"], ["live", "a", "b", "c"], ["live", "-a", "b"],
         ["convert"], ["convert", "a"], ["convert", "a", "b", "c"], ["convert", "-a", "b"], ["convert", recording, "-a"],
+        ["mend"], ["mend", "a"], ["mend", "a", "b", "c"], ["mend", "-a", "b"], ["mend", recording, "-a"],
         ["pdus", "07"], ["pdus", ""], ["pdus", "-x"], ["trial"], ["audit"], ["audit", recording], ["audit", recording, "a", "b"], ["audit", recording, "-a"],
     ]:  # fmt: skip
         trials.expect(words, usage)

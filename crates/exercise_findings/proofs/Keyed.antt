@@ -518,7 +518,7 @@ pub first_earlier : (f : ℕ → Bool) (n : ℕ) → IfSome (first_below f n) (�
 first_earlier f n =
     elim (first_below f n) as (λ o. first_below f n ≡ o → IfSome o (λ e. e < n)) [ None ↦ λ _. tt | Some e ↦ λ is. (passes f n e is).0 ] refl
 
-first_before : (f : ℕ → Bool) (n d : ℕ) → before_entry n (first_below f (n + d)) ≡ first_below f n
+pub first_before : (f : ℕ → Bool) (n d : ℕ) → before_entry n (first_below f (n + d)) ≡ first_below f n
 unfolding first_below
 first_before f n zero =
     let same : n + 0 ≡ n = omega arith in

@@ -1,10 +1,11 @@
 -- Where a datagram was sent first by the station that it comes from.
 use Rattle.std.proofs.Common.{◌≡◌, ℕ, zero, suc, ◌+◌, ◌<◌, List, [], ◌∷◌, length, cond, Bool, Option, Some, None, true, false, refl, sym, ap, ◌∙◌, arith}
-use Rattle.std.specs.Prelude.{slice_get, nat_eq, bytes_eq, option_and_then, unwrap_or, IfSome, if◌then◌else◌}
+use Rattle.std.specs.Prelude.{◌≤◌, ◌-◌, slice_get, nat_eq, nat_lt, bytes_eq, option_and_then, unwrap_or, IfSome, if◌then◌else◌}
 use Rattle.std.specs.Option.{option_map_or, option_or}
 use Rattle.std.specs.Cmp.Lexicographic.{bytes_decides}
 use Rattle.std.proofs.Math.Numerals.{add-one}
 use Rattle.std.proofs.lemmas.Bool.{eqb-true, eq-eqb}
+use Rattle.std.proofs.lemmas.Option.{cond_some}
 use Rattle.std.proofs.lemmas.Bool.Decides.{Decides-like, same_from_decides}
 use Rattle.indexmap.specs.IndexMap.{get}
 use Rattle.siman_pdus.specs.declared.pdu.Pdu.{Pdu}
@@ -18,6 +19,9 @@ use Rattle.exercise_model.specs.Place.{event_at, own_event, first_below}
 use Rattle.exercise_model.specs.Account.{sender_of}
 use Rattle.exercise_model.proofs.Offered.{IsFirst, first_found, sender_found}
 use Rattle.exercise_findings.specs.declared.senders.Datagram.{Datagram}
+use Rattle.exercise_findings.specs.Number.{entry_of, entry_number}
+use Rattle.exercise_findings.specs.Firsts.{before_entry}
+use Rattle.exercise_findings.proofs.Keyed.{first_before}
 use Rattle.exercise_findings.specs.Senders.{Senders, same_datagram, AreSenders}
 use Rattle.exercise_findings.specs.Source.{sends_here, first_send, source_of_pdu, source_of_bytes, source_of_entry, source_of, is_source, first_source, source_by, source_at}
 use Rattle.exercise_findings.proofs.Keyed.{no_first, first_earlier}
@@ -203,3 +207,27 @@ source_within r i =
         | Told s x y ↦ tt
       ]
     ]
+
+-- ---- a source that stands before
+
+before_some : (n : ℕ) (o : Option ℕ) (e : ℕ) → before_entry n o ≡ Some e → o ≡ Some e
+before_some n None e h = absurd (cc)
+before_some n (Some x) e h = ap Some ((cond_some (nat_lt x n) x e h).1)
+
+-- the first source among fewer entries is the first among more
+source_stays : (r : PlainRecording) (b : List ℕ) (n m e : ℕ) → n ≤ m → first_source r b n ≡ Some e → first_source r b m ≡ Some e
+unfolding first_source
+source_stays r b n m e le is =
+    let same : m ≡ n + (m - n) = omega (arith, le) in
+    ap (first_below (is_source r b)) same
+    ∙ before_some n (first_below (is_source r b) (n + (m - n))) e (first_before (is_source r b) n (m - n) ∙ is)
+
+pub source_if_any : (r : PlainRecording) (i s stamp n : ℕ) (b : List ℕ) (o : Option ℕ) → slice_get r.entries i ≡ Some (Received s stamp b)
+    → n ≤ length r.entries → o ≡ first_source r b n → IfSome o (λ e. source_of r i ≡ Some e)
+source_if_any r i s stamp n b None at le is = tt
+source_if_any r i s stamp n b (Some e) at le is =
+    source_here r i (Received s stamp b) at ∙ sym (source_whole r b) ∙ source_stays r b n (length r.entries) e le (sym is)
+
+pub number_if_any : (P : ℕ → Type 0) (o : Option ℕ) → IfSome o P → IfSome (entry_of (entry_number o)) P
+number_if_any P None holds = tt
+number_if_any P (Some e) holds = elim (nat_eq e 0xFFFFFFFF) as (λ b. IfSome (cond b None (Some e)) P) [ true ↦ tt | false ↦ holds ]

@@ -16,7 +16,7 @@ use Rattle.exercise_findings.specs.Firsts.{key_at, AreFirsts}
 use Rattle.exercise_findings.specs.Number.{IsNumberOf}
 use Rattle.exercise_findings.specs.Column.{IsColumn}
 use Rattle.exercise_findings.specs.Behind.{behind_at, AreBehind}
-use Rattle.exercise_findings.specs.Source.{source_at}
+use Rattle.exercise_findings.specs.Source.{source_at, IsSourceIfAny}
 use Rattle.exercise_findings.specs.Senders.{AreSenders}
 use Rattle.exercise_findings.specs.States.{AreStates}
 
@@ -56,6 +56,7 @@ pub record IsPass (r : PlainRecording) (n : ℕ) (f : Pass) : Type 0 where
   pub tied : AreTied r n f.tables
   pub causes : IsColumn None (IsOwnCause r) n f.causes.items
   pub pairs : IsColumn 0 (IsNumberOf (pair_of r)) n f.pairs.items
+  pub sources : IsColumn 0 (IsSourceIfAny r) n f.sources.items
   pub ables : AreBehind r n f.ables.items
   pub senders : AreSenders r n f.senders
   pub others : f.others ≡ others_among r.setting.exercise (take n r.entries)

@@ -86,6 +86,9 @@ impl<'a, L: ExerciseLog> Findings<'a, L> {
         if entry >= self.log.entry_count() {
             return None;
         }
+        if let Some(source) = entry_of(self.found.sources[entry]) {
+            return Some(source);
+        }
         match self.log.entry(entry) {
             EntryView::Received { bytes, .. } => first_source(&self.found.senders, bytes),
             EntryView::Sent { .. } | EntryView::Told { .. } => None,

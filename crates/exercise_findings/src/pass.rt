@@ -8,7 +8,7 @@ use crate::behind::{Able, note_behind};
 use crate::found::find_at;
 use crate::number::entry_number;
 use crate::requests::{Requests, no_requests};
-use crate::senders::{Senders, no_senders, note_sender};
+use crate::senders::{Senders, no_senders, note_sender, source_before};
 use crate::tables::{Tables, no_tables, note_tables};
 use exercise_model::{Cause, ExerciseLog};
 use std::alloc::{AllocError, Global};
@@ -22,6 +22,8 @@ pub(crate) struct Pass<'a> {
     pub causes: Vec<Option<Cause>>,
     /// The number of the request that each answer takes up.
     pub pairs: Vec<u32>,
+    /// The number of the source of each datagram that was received, where it stands before.
+    pub sources: Vec<u32>,
     /// What the changes behind the Ables that were received are looked up by.
     pub ables: Vec<Able>,
     /// The entry by which each datagram was sent first by the station that it comes from.
@@ -39,6 +41,7 @@ fn nothing_found<'a, L: ExerciseLog>(alloc: Global, log: &'a L) -> Result<Pass<'
         tables,
         causes: Vec::new(alloc),
         pairs: Vec::new(alloc),
+        sources: Vec::new(alloc),
         ables: Vec::new(alloc),
         senders: no_senders(alloc),
         others: 0,
@@ -69,6 +72,8 @@ fn find_entry<'a, L: ExerciseLog>(
     let here = find_at(log, &found.tables, requests, entry)?;
     found.causes.push(here.cause)?;
     found.pairs.push(entry_number(here.pair))?;
+    let source = source_before(&found.senders, log, entry);
+    found.sources.push(entry_number(source))?;
     found.others += one_if(here.other);
     note_sender(&mut found.senders, log, entry, here.is_source)?;
     note_behind(&mut found.ables, log, entry, here.behind)?;

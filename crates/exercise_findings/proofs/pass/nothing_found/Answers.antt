@@ -5,6 +5,7 @@ use Rattle.exercise_findings.specs.declared.behind.Able.{Able}
 use Rattle.exercise_findings.specs.Column.{IsColumn}
 use Rattle.exercise_findings.specs.Number.{IsNumberOf}
 use Rattle.exercise_findings.specs.Behind.{AreBehind}
+use Rattle.exercise_findings.specs.Source.{IsSourceIfAny}
 use Rattle.exercise_findings.specs.Tables.{IsOwnCause}
 use Rattle.exercise_findings.proofs.Ables.{behind_none}
 use Rattle.exercise_findings.proofs.Columns.{column_none}
@@ -18,7 +19,8 @@ returns g c =
       tied = c.in_ok-tables.ensures;
       causes = subst (λ (xs : List (Option Cause)). IsColumn None (IsOwnCause r) 0 xs) (sym c.new.ensures.items) (column_none None (IsOwnCause r));
       pairs = subst (λ (xs : List ℕ). IsColumn 0 (IsNumberOf (pair_of r)) 0 xs) (sym c.new-2.ensures.items) (column_none 0 (IsNumberOf (pair_of r)));
-      ables = subst (λ (xs : List Able). AreBehind r 0 xs) (sym c.new-3.ensures.items) (behind_none r);
+      sources = subst (λ (xs : List ℕ). IsColumn 0 (IsSourceIfAny r) 0 xs) (sym c.new-3.ensures.items) (column_none 0 (IsSourceIfAny r));
+      ables = subst (λ (xs : List Able). AreBehind r 0 xs) (sym c.new-4.ensures.items) (behind_none r);
       senders = no_senders r c.no_senders.result c.no_senders.ensures;
       others = refl;
       few = omega arith;

@@ -32,16 +32,20 @@ pub(crate) struct Pass<'a> {
     pub others: u32,
 }
 
-/// What was found before the first entry.
+/// What was found before the first entry, with room in the columns for all.
 fn nothing_found<'a, L: ExerciseLog>(alloc: Global, log: &'a L) -> Result<Pass<'a>, AllocError>
     ensures { IfOk result (λ found. IsPass (L.recording log.now) 0 found) }
 {
+    let entries = log.entry_count();
+    let causes = Vec::with_capacity(alloc, entries)?;
+    let pairs = Vec::with_capacity(alloc, entries)?;
+    let sources = Vec::with_capacity(alloc, entries)?;
     let tables = no_tables(alloc, log)?;
     Ok(Pass {
         tables,
-        causes: Vec::new(alloc),
-        pairs: Vec::new(alloc),
-        sources: Vec::new(alloc),
+        causes,
+        pairs,
+        sources,
         ables: Vec::new(alloc),
         senders: no_senders(alloc),
         others: 0,

@@ -17,10 +17,10 @@ returns g c =
     let r = g.L.ExerciseLog.recording c.args.log.now in
     record {
       tied = c.in_ok-tables.ensures;
-      causes = subst (λ (xs : List (Option Cause)). IsColumn None (IsOwnCause r) 0 xs) (sym c.new.ensures.items) (column_none None (IsOwnCause r));
-      pairs = subst (λ (xs : List ℕ). IsColumn 0 (IsNumberOf (pair_of r)) 0 xs) (sym c.new-2.ensures.items) (column_none 0 (IsNumberOf (pair_of r)));
-      sources = subst (λ (xs : List ℕ). IsColumn 0 (IsSourceIfAny r) 0 xs) (sym c.new-3.ensures.items) (column_none 0 (IsSourceIfAny r));
-      ables = subst (λ (xs : List Able). AreBehind r 0 xs) (sym c.new-4.ensures.items) (behind_none r);
+      causes = subst (λ (xs : List (Option Cause)). IsColumn None (IsOwnCause r) 0 xs) (sym c.in_ok-causes.ensures.items) (column_none None (IsOwnCause r));
+      pairs = subst (λ (xs : List ℕ). IsColumn 0 (IsNumberOf (pair_of r)) 0 xs) (sym c.in_ok-pairs.ensures.items) (column_none 0 (IsNumberOf (pair_of r)));
+      sources = subst (λ (xs : List ℕ). IsColumn 0 (IsSourceIfAny r) 0 xs) (sym c.in_ok-sources.ensures.items) (column_none 0 (IsSourceIfAny r));
+      ables = subst (λ (xs : List Able). AreBehind r 0 xs) (sym c.new.ensures.items) (behind_none r);
       senders = no_senders r c.no_senders.result c.no_senders.ensures;
       others = refl;
       few = omega arith;

@@ -55,9 +55,10 @@ impl<'a, L: ExerciseLog> Course<'a, L> {
     {
         let found = Findings::of(alloc, log)?;
         let cursors = first_cursors(alloc, log)?;
+        let steps = Vec::with_capacity(alloc, log.entry_count())?;
         Ok(Course {
             found,
-            steps: Vec::new(alloc),
+            steps,
             cursors,
         })
     }

@@ -7,8 +7,8 @@ use Rattle.exercise_check.proofs.course.Course.begin.Goals as goal
 pub invariant_of-result : goal.invariant_of-result
 invariant_of-result g c =
     let cursors = c.in_ok-cursors.cursors in
-    subst (λ (r : PlainRecording). Keeps r c.new.result.items cursors) (sym c.in_ok-found.ensures.findings)
-    (subst (λ (xs : List Step). Keeps (g.L.ExerciseLog.recording c.args.log.now) xs cursors) (sym c.new.ensures.items)
+    subst (λ (r : PlainRecording). Keeps r c.in_ok-steps.steps.items cursors) (sym c.in_ok-found.ensures.findings)
+    (subst (λ (xs : List Step). Keeps (g.L.ExerciseLog.recording c.args.log.now) xs cursors) (sym c.in_ok-steps.ensures.items)
     (record {
       course = record { limits = c.in_ok-found.ensures.limits; good = λ k l. absurd (omega arith) };
       next = c.in_ok-cursors.ensures;

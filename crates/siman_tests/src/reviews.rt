@@ -131,6 +131,9 @@ fn has_lived(
     let Ok(findings) = Findings::of(alloc, &log) else {
         return false;
     };
+    if usize::from(station) >= log.station_count() {
+        return false;
+    }
     let Ok(lives) = lives_of(alloc, &findings, station, entity) else {
         return false;
     };

@@ -1,11 +1,11 @@
 -- Columns: one value for each entry.
-use Rattle.std.proofs.Common.{◌≡◌, ℕ, ◌+◌, ◌<◌, ◌≤◌, List, [], ◌∷◌, ◌++◌, map, Option, Some, None, refl, sym, ap, ◌∙◌, subst, ⊎_elim, arith}
-use Rattle.std.specs.Prelude.{slice_index_or, IfSome, OnOk, OnErr, Result, Ok, Err, if◌then◌else◌}
+use Rattle.std.proofs.Common.{◌≡◌, ℕ, ◌+◌, ◌<◌, ◌≤◌, List, [], ◌∷◌, ◌++◌, length, map, Option, Some, None, refl, sym, ap, ◌∙◌, subst, ⊎_elim, arith}
+use Rattle.std.specs.Prelude.{slice_index_or, nat_eq, IfSome, OnOk, OnErr, Result, Ok, Err, if◌then◌else◌}
 use Rattle.std.proofs.Math.ListN.{get_or-eq_default}
 use Rattle.std.proofs.lemmas.List.{length_push, get_or_append_left, get_or_at, get_or-map, length-map}
-use Rattle.std.proofs.lemmas.Bool.{cases_lt, ne_eqb}
+use Rattle.std.proofs.lemmas.Bool.{cases_lt, cases_eq, eq-eqb, ne_eqb}
 use Rattle.exercise_findings.specs.Number.{entry_number, entry_of, IsNumberOf}
-use Rattle.exercise_findings.specs.Column.{IsColumn}
+use Rattle.exercise_findings.specs.Column.{IsColumn, IsTurned}
 
 -- a column without entries
 pub column_none : {X : Type 0} (d : X) (P : ℕ → X → Type 0) → IsColumn d P 0 []
@@ -22,6 +22,52 @@ column_more d P n xs x column here = record {
       subst (λ m. P m (slice_index_or (xs ++ x ∷ []) m d)) same (subst (P n) (sym (get_or_at xs x [] d n column.count)) here))
       (cases_lt j n);
 }
+
+-- ---- a column that is gone over
+
+pub turned_none : {X : Type 0} (d : X) (P Q : ℕ → X → Type 0) (m : ℕ) (xs : List X) → IsColumn d P m xs → IsColumn d (IsTurned P Q 0) m xs
+turned_none d P Q m xs column = record { count = column.count; each = λ j l. (λ below. absurd (omega (arith, below)), λ _. column.each j l) }
+
+pub turned_all : {X : Type 0} (d : X) (P Q : ℕ → X → Type 0) (n m : ℕ) (xs : List X) → n ≡ m → IsColumn d (IsTurned P Q n) m xs → IsColumn d Q m xs
+turned_all d P Q n m xs end column = record { count = column.count; each = λ j l. (column.each j l).0 (omega (arith, l, end)) }
+
+-- one more is gone over
+turned_one : {X : Type 0} (P Q : ℕ → X → Type 0) (n j : ℕ) (x : X) → IsTurned P Q n j x → (n ≡ j → Q j x) → IsTurned P Q (n + 1) j x
+turned_one P Q n j x before here = (
+  λ below. ⊎_elim
+      (λ (l : j < n). before.0 l)
+      (λ (past : n ≤ j). here (omega (arith, below, past)))
+      (cases_lt j n),
+  λ past. before.1 (omega (arith, past)),
+)
+
+-- and stays
+pub turned_kept : {X : Type 0} (d : X) (P Q : ℕ → X → Type 0) (n m : ℕ) (xs : List X) → ((x : X) → P n x → Q n x)
+    → IsColumn d (IsTurned P Q n) m xs → IsColumn d (IsTurned P Q (n + 1)) m xs
+turned_kept d P Q n m xs own column = record {
+  count = column.count;
+  each = λ j l. turned_one P Q n j (slice_index_or xs j d) (column.each j l) (λ (same : n ≡ j).
+      subst (λ k. Q k (slice_index_or xs j d)) same
+      (own (slice_index_or xs j d) (subst (λ k. P k (slice_index_or xs j d)) (sym same) ((column.each j l).1 (omega (arith, same))))));
+}
+
+-- or is written
+pub turned_written : (P Q : ℕ → ℕ → Type 0) (n m x : ℕ) (old new : List ℕ) → length new ≡ length old
+    → ((j : ℕ) → slice_index_or new j 0 ≡ (if nat_eq j n then x else slice_index_or old j 0)) → Q n x
+    → IsColumn 0 (IsTurned P Q n) m old → IsColumn 0 (IsTurned P Q (n + 1)) m new
+turned_written P Q n m x old new count written here column = record {
+  count = count ∙ column.count;
+  each = λ j l. ⊎_elim
+      (λ (same : j ≡ n).
+      let is : slice_index_or new j 0 ≡ x = written j ∙ ap (λ q. if q then x else slice_index_or old j 0) (eq-eqb j n same) in
+      (λ _. subst (Q j) (sym is) (subst (λ k. Q k x) (sym same) here), λ past. absurd (omega (arith, past, same))))
+      (λ apart.
+      let is : slice_index_or new j 0 ≡ slice_index_or old j 0 = written j ∙ ap (λ q. if q then x else slice_index_or old j 0) (ne_eqb j n apart) in
+      subst (IsTurned P Q (n + 1) j) (sym is) (turned_one P Q n j (slice_index_or old j 0) (column.each j l) (λ same. absurd (apart (sym same)))))
+      (cases_eq j n);
+}
+
+-- ---- numbers of entries
 
 -- the number of an entry, which is below the one that stands for none, gives the entry
 pub number_back : (o : Option ℕ) → IfSome o (λ e. e < 4294967295) → entry_of (entry_number o) ≡ o

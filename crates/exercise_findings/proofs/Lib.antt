@@ -9,4 +9,5 @@ mod Reported
 mod Reused
 mod Sources
 mod Looks
+mod EarlierEntries
 pub mod Offered

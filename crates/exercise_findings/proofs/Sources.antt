@@ -17,7 +17,7 @@ use Rattle.exercise_model.specs.Setting.{is_from}
 use Rattle.exercise_model.specs.Cause.{sends}
 use Rattle.exercise_model.specs.Place.{event_at, own_event, first_below}
 use Rattle.exercise_model.specs.Account.{sender_of}
-use Rattle.exercise_model.proofs.Offered.{IsFirst, first_found, sender_found}
+use Rattle.exercise_model.proofs.Offered.{first_found, sender_found}
 use Rattle.exercise_findings.specs.declared.senders.Datagram.{Datagram}
 use Rattle.exercise_findings.specs.Number.{entry_of, entry_number}
 use Rattle.exercise_findings.specs.Firsts.{before_entry}
@@ -215,18 +215,12 @@ before_some n None e h = absurd (cc)
 before_some n (Some x) e h = ap Some ((cond_some (nat_lt x n) x e h).1)
 
 -- the first source among fewer entries is the first among more
-source_stays : (r : PlainRecording) (b : List ℕ) (n m e : ℕ) → n ≤ m → first_source r b n ≡ Some e → first_source r b m ≡ Some e
+pub source_stays : (r : PlainRecording) (b : List ℕ) (n m e : ℕ) → n ≤ m → first_source r b n ≡ Some e → first_source r b m ≡ Some e
 unfolding first_source
 source_stays r b n m e le is =
     let same : m ≡ n + (m - n) = omega (arith, le) in
     ap (first_below (is_source r b)) same
     ∙ before_some n (first_below (is_source r b) (n + (m - n))) e (first_before (is_source r b) n (m - n) ∙ is)
-
-pub source_if_any : (r : PlainRecording) (i s stamp n : ℕ) (b : List ℕ) (o : Option ℕ) → slice_get r.entries i ≡ Some (Received s stamp b)
-    → n ≤ length r.entries → o ≡ first_source r b n → IfSome o (λ e. source_of r i ≡ Some e)
-source_if_any r i s stamp n b None at le is = tt
-source_if_any r i s stamp n b (Some e) at le is =
-    source_here r i (Received s stamp b) at ∙ sym (source_whole r b) ∙ source_stays r b n (length r.entries) e le (sym is)
 
 pub number_if_any : (P : ℕ → Type 0) (o : Option ℕ) → IfSome o P → IfSome (entry_of (entry_number o)) P
 number_if_any P None holds = tt

@@ -9,6 +9,7 @@ pub mod Decided
 pub mod Hashed
 pub mod Source
 pub mod Senders
+pub mod Earlier
 pub mod States
 pub mod Tables
 pub mod Account

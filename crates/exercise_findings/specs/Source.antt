@@ -1,5 +1,5 @@
 -- Where a datagram that was received comes from, read from each station's log alone (profile).
-use Rattle.std.specs.Prelude.{◌≡◌, ℕ, List, length, Bool, false, ◌==◌, Option, Some, None, IfSome, option_and_then, slice_get}
+use Rattle.std.specs.Prelude.{ℕ, List, length, Bool, false, Option, None, option_and_then, slice_get}
 use Rattle.std.specs.Option.{option_map_or}
 use Rattle.siman_pdus.specs.declared.pdu.Pdu.{Pdu}
 use Rattle.exercise_model.specs.Entry.{Entry, Sent, Received, Told}
@@ -8,7 +8,6 @@ use Rattle.exercise_model.specs.Meaning.{meaning}
 use Rattle.exercise_model.specs.Cause.{sends}
 use Rattle.exercise_model.specs.Place.{own_event, first_below}
 use Rattle.exercise_model.specs.Account.{sender_of}
-use Rattle.exercise_findings.specs.Number.{entry_of}
 
 -- entry j is one of station t, which sends a datagram of these bytes
 abbrev pub sends_here : PlainRecording → List ℕ → ℕ → ℕ → Bool
@@ -52,7 +51,3 @@ source_by r j (Told s e y) = false
 
 unfoldable pub source_at : PlainRecording → ℕ → Bool
 source_at r j = option_map_or (source_by r j) (slice_get r.entries j) false
-
--- a number that stands for the source of entry j, or for none
-abbrev pub IsSourceIfAny : PlainRecording → ℕ → ℕ → Type 0
-IsSourceIfAny r j number = IfSome (entry_of number) (λ source. source_of r j ≡ Some source)

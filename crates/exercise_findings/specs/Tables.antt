@@ -11,12 +11,13 @@ use Rattle.exercise_model.specs.Place.{log_before}
 use Rattle.exercise_model.specs.Account.{pair_of, change_at, is_other, others_among}
 use Rattle.exercise_findings.specs.declared.tables.Tables.{Tables}
 use Rattle.exercise_findings.specs.declared.pass.Pass.{Pass}
+use Rattle.exercise_findings.specs.declared.pass.Passed.{Passed}
 use Rattle.exercise_findings.specs.declared.found.Found.{Found}
 use Rattle.exercise_findings.specs.Firsts.{key_at, AreFirsts}
-use Rattle.exercise_findings.specs.Number.{IsNumberOf}
 use Rattle.exercise_findings.specs.Column.{IsColumn}
 use Rattle.exercise_findings.specs.Behind.{behind_at, AreBehind}
-use Rattle.exercise_findings.specs.Source.{source_at, IsSourceIfAny}
+use Rattle.exercise_findings.specs.Source.{source_at}
+use Rattle.exercise_findings.specs.Earlier.{IsEarlierAt, IsSoFarAt}
 use Rattle.exercise_findings.specs.Senders.{AreSenders}
 use Rattle.exercise_findings.specs.States.{AreStates}
 
@@ -55,14 +56,17 @@ pub record IsFound (r : PlainRecording) (n : ℕ) (f : Found) : Type 0 where
 pub record IsPass (r : PlainRecording) (n : ℕ) (f : Pass) : Type 0 where
   pub tied : AreTied r n f.tables
   pub causes : IsColumn None (IsOwnCause r) n f.causes.items
-  pub pairs : IsColumn 0 (IsNumberOf (pair_of r)) n f.pairs.items
-  pub sources : IsColumn 0 (IsSourceIfAny r) n f.sources.items
+  pub earlier : IsColumn 0 (IsSoFarAt r) n f.earlier.items
   pub ables : AreBehind r n f.ables.items
   pub senders : AreSenders r n f.senders
   pub others : f.others ≡ others_among r.setting.exercise (take n r.entries)
   pub few : f.others ≤ n
 
 -- WHAT IS FOUND in a whole log
-pub record AreFindings (r : PlainRecording) (f : Pass) : Type 0 where
+pub record AreFindings (r : PlainRecording) (f : Passed) : Type 0 where
   pub limits : IsRecording r
-  pub whole : IsPass r (length r.entries) f
+  pub tied : AreTied r (length r.entries) f.tables
+  pub causes : IsColumn None (IsOwnCause r) (length r.entries) f.causes.items
+  pub earlier : IsColumn 0 (IsEarlierAt r) (length r.entries) f.earlier.items
+  pub ables : AreBehind r (length r.entries) f.ables.items
+  pub others : f.others ≡ others_among r.setting.exercise (take (length r.entries) r.entries)

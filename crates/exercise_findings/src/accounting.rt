@@ -5,11 +5,12 @@ ghost use Rattle.exercise_model.specs.Account.{change_behind, entities_of, value
 ghost use Rattle.exercise_findings.specs.Account.{TellsAccount};
 ghost use Rattle.exercise_findings.specs.Column.{IsColumn};
 ghost use Rattle.exercise_findings.specs.Number.{IsNumberOf};
-ghost use Rattle.exercise_findings.specs.Tables.{AreTied, IsPass};
+ghost use Rattle.exercise_findings.specs.Tables.{AreTied, AreFindings};
 
 use crate::account::Account;
 use crate::behind::changes_behind;
-use crate::pass::Pass;
+use crate::earlier::pairs_of;
+use crate::pass::Passed;
 use crate::state::entities;
 use crate::tables::Tables;
 use dis_records::EntityState;
@@ -37,9 +38,9 @@ fn states<L: ExerciseLog>(
 fn states_and_changes<L: ExerciseLog>(
     alloc: Global,
     log: &L,
-    found: &Pass<'_>,
+    found: &Passed,
 ) -> Result<(Vec<Vec<(u16, EntityState)>>, Vec<u32>), AllocError>
-    requires { let r = L.recording log.now in IsPass r (length r.entries) found.now }
+    requires { AreFindings (L.recording log.now) found.now }
     ensures states { let r = L.recording log.now in IfOk result (λ told. map (λ v. v.items) told.0.items ≡ values_below (entities_of r) (length r.setting.stations)) }
     ensures changes { let r = L.recording log.now in IfOk result (λ told. IsColumn 0 (IsNumberOf (change_behind r)) (length r.entries) told.1.items) }
 {
@@ -52,12 +53,17 @@ fn states_and_changes<L: ExerciseLog>(
 pub(crate) fn account<L: ExerciseLog>(
     alloc: Global,
     log: &L,
-    found: Pass<'_>,
+    found: Passed,
 ) -> Result<Account, AllocError>
-    requires { let r = L.recording log.now in IsPass r (length r.entries) found }
+    requires { AreFindings (L.recording log.now) found }
     ensures { IfOk result (λ checked. TellsAccount (L.recording log.now) checked) }
 {
     let told = states_and_changes(alloc, log, &found)?;
-    let Pass { pairs, others, .. } = found;
+    let Passed {
+        earlier,
+        others,
+        ..
+    } = found;
+    let pairs = pairs_of(log, earlier);
     Ok(Account::of(told.0, pairs, told.1, others))
 }

@@ -14,8 +14,7 @@ use crate::account::Account;
 use crate::accounting::account;
 use crate::made::{change_made_at, state_made_before};
 use crate::number::entry_of;
-use crate::pass::{Pass, find};
-use crate::senders::first_source;
+use crate::pass::{Passed, find};
 use dis_records::EntityState;
 use exercise_model::{Cause, Change, EntryView, ExerciseLog};
 use std::alloc::{AllocError, Global};
@@ -26,7 +25,7 @@ use std::marker::Model;
 #[derive(Drop)]
 pub struct Findings<'a, L: ExerciseLog> {
     log: &'a L,
-    found: Pass<'a>,
+    found: Passed,
 }
 
 impl<'a, L: ExerciseLog> Model for Findings<'a, L> {
@@ -71,9 +70,12 @@ impl<'a, L: ExerciseLog> Findings<'a, L> {
     pub fn pair(&self, entry: usize) -> Option<u32>
         ensures { result ≡ pair_of self.now entry }
     {
-        match self.found.pairs.get(entry) {
-            Some(pair) => entry_of(*pair),
-            None => None,
+        if entry >= self.log.entry_count() {
+            return None;
+        }
+        match self.log.entry(entry) {
+            EntryView::Sent { .. } => entry_of(self.found.earlier[entry]),
+            EntryView::Received { .. } | EntryView::Told { .. } => None,
         }
     }
 
@@ -86,11 +88,8 @@ impl<'a, L: ExerciseLog> Findings<'a, L> {
         if entry >= self.log.entry_count() {
             return None;
         }
-        if let Some(source) = entry_of(self.found.sources[entry]) {
-            return Some(source);
-        }
         match self.log.entry(entry) {
-            EntryView::Received { bytes, .. } => first_source(&self.found.senders, bytes),
+            EntryView::Received { .. } => entry_of(self.found.earlier[entry]),
             EntryView::Sent { .. } | EntryView::Told { .. } => None,
         }
     }

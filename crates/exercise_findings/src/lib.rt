@@ -15,6 +15,7 @@ mod behind;
 mod cause;
 mod change;
 mod column;
+mod earlier;
 mod exchange;
 mod findings;
 mod firsts;

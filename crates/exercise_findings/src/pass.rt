@@ -1,14 +1,15 @@
 //! One pass over a log, which finds what the log of each station says of its own entries.
 
 ghost use Rattle.std.specs.Prelude.{◌≡◌, ◌<◌, ◌+◌, length, OnOk, IfOk, if◌then◌else◌};
+ghost use Rattle.exercise_model.specs.Recording.{IsRecording};
 ghost use Rattle.exercise_findings.specs.Requests.{AreRequests};
 ghost use Rattle.exercise_findings.specs.Tables.{IsPass, AreFindings};
 
 use crate::behind::{Able, note_behind};
+use crate::earlier::{all_earlier, earlier_so_far};
 use crate::found::find_at;
-use crate::number::entry_number;
 use crate::requests::{Requests, no_requests};
-use crate::senders::{Senders, no_senders, note_sender, source_before};
+use crate::senders::{Senders, no_senders, note_sender};
 use crate::tables::{Tables, no_tables, note_tables};
 use exercise_model::{Cause, ExerciseLog};
 use std::alloc::{AllocError, Global};
@@ -20,14 +21,30 @@ pub(crate) struct Pass<'a> {
     pub tables: Tables,
     /// The first cause that its station's log has against each entry.
     pub causes: Vec<Option<Cause>>,
-    /// The number of the request that each answer takes up.
-    pub pairs: Vec<u32>,
-    /// The number of the source of each datagram that was received, where it stands before.
-    pub sources: Vec<u32>,
+    /// The number of what each entry goes back to: of an answer the request that it takes up, of
+    /// what was received its source, where that was found.
+    pub earlier: Vec<u32>,
+    /// How many of the last sources that were looked for were not found.
+    pub misses: u32,
     /// What the changes behind the Ables that were received are looked up by.
     pub ables: Vec<Able>,
     /// The entry by which each datagram was sent first by the station that it comes from.
     pub senders: Senders<'a>,
+    /// How many datagrams are "other".
+    pub others: u32,
+}
+
+/// What all entries were found to be.
+#[derive(Drop)]
+pub(crate) struct Passed {
+    /// What is kept of the entries.
+    pub tables: Tables,
+    /// The first cause that its station's log has against each entry.
+    pub causes: Vec<Option<Cause>>,
+    /// The number of what each entry goes back to.
+    pub earlier: Vec<u32>,
+    /// What the changes behind the Ables that were received are looked up by.
+    pub ables: Vec<Able>,
     /// How many datagrams are "other".
     pub others: u32,
 }
@@ -38,14 +55,13 @@ fn nothing_found<'a, L: ExerciseLog>(alloc: Global, log: &'a L) -> Result<Pass<'
 {
     let entries = log.entry_count();
     let causes = Vec::with_capacity(alloc, entries)?;
-    let pairs = Vec::with_capacity(alloc, entries)?;
-    let sources = Vec::with_capacity(alloc, entries)?;
+    let earlier = Vec::with_capacity(alloc, entries)?;
     let tables = no_tables(alloc, log)?;
     Ok(Pass {
         tables,
         causes,
-        pairs,
-        sources,
+        earlier,
+        misses: 0,
         ables: Vec::new(alloc),
         senders: no_senders(alloc),
         others: 0,
@@ -75,18 +91,18 @@ fn find_entry<'a, L: ExerciseLog>(
 {
     let here = find_at(log, &found.tables, requests, entry)?;
     found.causes.push(here.cause)?;
-    found.pairs.push(entry_number(here.pair))?;
-    let source = source_before(&found.senders, log, entry);
-    found.sources.push(entry_number(source))?;
+    let earlier = earlier_so_far(&found.senders, &mut found.misses, log, entry, here.pair);
+    found.earlier.push(earlier)?;
     found.others += one_if(here.other);
     note_sender(&mut found.senders, log, entry, here.is_source)?;
     note_behind(&mut found.ables, log, entry, here.behind)?;
     note_tables(&mut found.tables, log, entry, here.change, here.key)
 }
 
-/// What all entries are found to be. What is kept of requests is not asked for after that.
-pub(crate) fn find<'a, L: ExerciseLog>(alloc: Global, log: &'a L) -> Result<Pass<'a>, AllocError>
-    ensures { IfOk result (AreFindings (L.recording log.now)) }
+/// Passes over all entries. What is kept of requests is not asked for after that.
+fn pass_over<'a, L: ExerciseLog>(alloc: Global, log: &'a L) -> Result<Pass<'a>, AllocError>
+    ensures found { let r = L.recording log.now in IfOk result (IsPass r (length r.entries)) }
+    ensures limits { OnOk result (IsRecording (L.recording log.now)) }
 {
     let mut found = nothing_found(alloc, log)?;
     let mut requests = no_requests(alloc);
@@ -94,4 +110,27 @@ pub(crate) fn find<'a, L: ExerciseLog>(alloc: Global, log: &'a L) -> Result<Pass
         find_entry(&mut found, &mut requests, log, entry)?;
     }
     Ok(found)
+}
+
+/// What all entries are found to be. Once the sources are found it is not asked for any more where a
+/// datagram was sent first.
+pub(crate) fn find<L: ExerciseLog>(alloc: Global, log: &L) -> Result<Passed, AllocError>
+    ensures { IfOk result (AreFindings (L.recording log.now)) }
+{
+    let Pass {
+        tables,
+        causes,
+        earlier,
+        ables,
+        senders,
+        others,
+        ..
+    } = pass_over(alloc, log)?;
+    Ok(Passed {
+        tables,
+        causes,
+        earlier: all_earlier(&senders, log, earlier),
+        ables,
+        others,
+    })
 }

@@ -1,13 +1,13 @@
 //! Where each datagram was sent first, kept in a table under its bytes.
 
-ghost use Rattle.std.specs.Prelude.{◌≡◌, ◌<◌, ◌+◌, ◌∷◌, [], ℕ, None, Some, length, OnOk, IfSome, bytes_eq};
+ghost use Rattle.std.specs.Prelude.{◌≡◌, ◌<◌, ◌+◌, ◌∷◌, [], ℕ, None, length, OnOk, bytes_eq};
 ghost use Rattle.std.specs.Cmp.Rules.{comparing, hashing};
 ghost use Rattle.std.specs.Cmp.Lexicographic.{bytes_decides};
 ghost use Rattle.std.proofs.Common.{ap};
 ghost use Rattle.indexmap.specs.IndexMap.{get};
 ghost use Rattle.exercise_model.specs.Recording.{PlainRecording};
 ghost use Rattle.exercise_findings.specs.declared.senders.Datagram.{Datagram};
-ghost use Rattle.exercise_findings.specs.Source.{source_at, source_of, first_source};
+ghost use Rattle.exercise_findings.specs.Source.{source_at, first_source};
 ghost use Rattle.exercise_findings.specs.Senders.{same_datagram, AreSenders};
 ghost use borrow.Author.Rules.{rules};
 
@@ -90,22 +90,5 @@ pub(crate) fn first_source(senders: &Senders<'_>, datagram: &[u8]) -> Option<u32
     match senders.get(&Datagram { bytes: datagram }) {
         Some(entry) => Some(*entry),
         None => None,
-    }
-}
-
-/// The source of what an entry receives, where it stands before the entry: what was sent lately is
-/// found faster than all at the end.
-pub(crate) fn source_before<L: ExerciseLog>(
-    senders: &Senders<'_>,
-    log: &L,
-    entry: usize,
-) -> Option<u32>
-    requires within { entry < length (L.recording log.now).entries }
-    requires tied { AreSenders (L.recording log.now) entry senders.now }
-    ensures { IfSome result (λ source. source_of (L.recording log.now) entry ≡ Some source) }
-{
-    match log.entry(entry) {
-        EntryView::Received { bytes, .. } => first_source(senders, bytes),
-        EntryView::Sent { .. } | EntryView::Told { .. } => None,
     }
 }

@@ -13,7 +13,7 @@ returns g c =
     let n = length r.entries in
     record {
       states = λ s. ap (λ checked. slice_index_or checked.states s []) c.of.ensures ∙ ap (λ xs. slice_index_or xs s []) c.in_ok-told.ensures.states ∙ states-all r s;
-      pairs = λ i. ap (λ checked. slice_index_or checked.pairs i None) c.of.ensures ∙ column_told (pair_of r) n i c.args.found.pairs.items c.requires.pairs (pair_past r);
+      pairs = λ i. ap (λ checked. slice_index_or checked.pairs i None) c.of.ensures ∙ column_told (pair_of r) n i c.pairs_of-pairs.result.items c.pairs_of-pairs.ensures (pair_past r);
       causes = λ i. ap (λ checked. slice_index_or checked.causes i None) c.of.ensures
           ∙ column_told (change_behind r) n i c.in_ok-told.told.1.items c.in_ok-told.ensures.changes (behind_past r);
       others = ap (λ checked. checked.others) c.of.ensures ∙ c.requires.others ∙ others_whole r;

@@ -1,4 +1,4 @@
-use Rattle.std.proofs.Common.{length, arith}
+use Rattle.std.proofs.Common.{arith}
 use Rattle.exercise_findings.proofs.Keyed.{firsts_tell}
 use Rattle.exercise_findings.proofs.cause.is_impossible.Goals as goal
 

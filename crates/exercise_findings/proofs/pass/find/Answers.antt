@@ -1,14 +1,11 @@
-use Rattle.std.proofs.Common.{◌≡◌, length, arith, subst}
-use Rattle.exercise_findings.specs.Tables.{IsPass}
-use Rattle.exercise_findings.proofs.Reused.{none_kept}
 use Rattle.exercise_findings.proofs.pass.find.Goals as goal
 
-pub loop-entry-init : goal.loop-entry-init
-loop-entry-init g c = (c.in_ok-found.ensures, none_kept (g.L.ExerciseLog.recording c.args.log.now) c.no_requests-requests.result c.no_requests-requests.ensures)
-
 pub returns : goal.returns
-returns g c =
-    let r = g.L.ExerciseLog.recording c.args.log.now in
-    let end : c.loop-entry.entry ≡ length r.entries =
-    omega (arith, c.loop-entry-test.false, c.loop-entry.auto.entry-end, c.entry_count-entry-end.ensures.count) in
-    record { limits = c.entry_count-entry-end.ensures.limits; whole = subst (λ n. IsPass r n c.loop-entry.found) end c.loop-entry.invariant.0 }
+returns g c = record {
+  limits = c.in_ok-tables.ensures.limits;
+  tied = c.in_ok-tables.ensures.found.tied;
+  causes = c.in_ok-tables.ensures.found.causes;
+  earlier = c.all_earlier.ensures;
+  ables = c.in_ok-tables.ensures.found.ables;
+  others = c.in_ok-tables.ensures.found.others;
+}

@@ -1,11 +1,9 @@
 use Rattle.std.proofs.Common.{ℕ, List, Option, None, refl, sym, subst, arith}
 use Rattle.exercise_model.specs.declared.cause.Cause.{Cause}
-use Rattle.exercise_model.specs.Account.{pair_of}
 use Rattle.exercise_findings.specs.declared.behind.Able.{Able}
 use Rattle.exercise_findings.specs.Column.{IsColumn}
-use Rattle.exercise_findings.specs.Number.{IsNumberOf}
 use Rattle.exercise_findings.specs.Behind.{AreBehind}
-use Rattle.exercise_findings.specs.Source.{IsSourceIfAny}
+use Rattle.exercise_findings.specs.Earlier.{IsSoFarAt}
 use Rattle.exercise_findings.specs.Tables.{IsOwnCause}
 use Rattle.exercise_findings.proofs.Ables.{behind_none}
 use Rattle.exercise_findings.proofs.Columns.{column_none}
@@ -18,8 +16,7 @@ returns g c =
     record {
       tied = c.in_ok-tables.ensures;
       causes = subst (λ (xs : List (Option Cause)). IsColumn None (IsOwnCause r) 0 xs) (sym c.in_ok-causes.ensures.items) (column_none None (IsOwnCause r));
-      pairs = subst (λ (xs : List ℕ). IsColumn 0 (IsNumberOf (pair_of r)) 0 xs) (sym c.in_ok-pairs.ensures.items) (column_none 0 (IsNumberOf (pair_of r)));
-      sources = subst (λ (xs : List ℕ). IsColumn 0 (IsSourceIfAny r) 0 xs) (sym c.in_ok-sources.ensures.items) (column_none 0 (IsSourceIfAny r));
+      earlier = subst (λ (xs : List ℕ). IsColumn 0 (IsSoFarAt r) 0 xs) (sym c.in_ok-earlier.ensures.items) (column_none 0 (IsSoFarAt r));
       ables = subst (λ (xs : List Able). AreBehind r 0 xs) (sym c.new.ensures.items) (behind_none r);
       senders = no_senders r c.no_senders.result c.no_senders.ensures;
       others = refl;

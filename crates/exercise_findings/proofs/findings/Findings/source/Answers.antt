@@ -1,12 +1,12 @@
-use Rattle.std.proofs.Common.{◌≡◌, length, Some, sym, ap, ◌∙◌, ◌<◌, subst, arith, ⊎_elim}
+use Rattle.std.proofs.Common.{◌<◌, length, Some, sym, ap, ◌∙◌, subst, arith, ⊎_elim}
 use Rattle.std.specs.Prelude.{IfSome}
 use Rattle.std.proofs.lemmas.List.{get_or_default}
 use Rattle.std.proofs.lemmas.Option.{slice_get_past}
-use Rattle.exercise_model.specs.Entry.{Sent, Received, Told}
+use Rattle.exercise_model.specs.Entry.{Sent, Told}
 use Rattle.exercise_model.specs.Held.{shown}
 use Rattle.exercise_findings.specs.Number.{entry_of}
-use Rattle.exercise_findings.specs.Source.{source_of}
-use Rattle.exercise_findings.proofs.Sources.{source_here, source_past, source_whole, source_within}
+use Rattle.exercise_findings.proofs.EarlierEntries.{of_received}
+use Rattle.exercise_findings.proofs.Sources.{source_here, source_past, source_within}
 use Rattle.exercise_findings.proofs.findings.Findings.source.Goals as goal
 
 pub returns-then-entry-entry_count-clause-source : goal.returns-then-entry-entry_count-clause-source
@@ -17,10 +17,13 @@ returns-then-entry-entry_count-clause-source g c =
 pub returns-in-Received-clause-source : goal.returns-in-Received-clause-source
 returns-in-Received-clause-source g c =
     let r = g.L.ExerciseLog.recording c.self.inside.log.now in
-    let b = c.in-Received.bytes.now in
-    let at = c.entry.ensures.entry ∙ ap (λ e. Some (shown e)) c.in-Received.is in
-    rw (← c.self.view_is) (c.first_source.ensures r (length r.entries) c.self.invariant.whole.senders
-    ∙ source_whole r b ∙ sym (source_here r c.args.entry (Received c.in-Received.station c.in-Received.stamp b) at))
+    let i = c.args.entry in
+    let here : i < length r.entries = omega (arith, c.entry_count.ensures.count, c.if-entry-entry_count.false) in
+    let column = c.self.invariant.earlier in
+    let at = c.index.ensures ∙ get_or_default c.self.inside.found.earlier.items i _ 0 (omega (arith, here, column.count)) in
+    rw (← c.self.view_is) (c.entry_of.ensures ∙ ap entry_of at
+    ∙ of_received r i c.in-Received.station c.in-Received.stamp _ c.in-Received.bytes.now (c.entry.ensures.entry ∙ ap (λ e. Some (shown e)) c.in-Received.is)
+    (column.each i here))
 
 pub returns-in-Sent-clause-source : goal.returns-in-Sent-clause-source
 returns-in-Sent-clause-source g c =
@@ -33,19 +36,10 @@ returns-in-Sent-clause-source g c =
 pub returns-in-Received-clause-within : goal.returns-in-Received-clause-within
 returns-in-Received-clause-within g c =
     let r = g.L.ExerciseLog.recording c.self.inside.log.now in
-    let b = c.in-Received.bytes.now in
-    let at = c.entry.ensures.entry ∙ ap (λ e. Some (shown e)) c.in-Received.is in
-    rw (← c.self.view_is) (subst (λ o. IfSome o (λ e. e < length r.entries))
-    (sym (c.first_source.ensures r (length r.entries) c.self.invariant.whole.senders
-    ∙ source_whole r b ∙ sym (source_here r c.args.entry (Received c.in-Received.station c.in-Received.stamp b) at)))
-    (source_within r c.args.entry))
-
-pub returns-in-Some-clause-within : goal.returns-in-Some-clause-within
-returns-in-Some-clause-within g c =
-    let r = g.L.ExerciseLog.recording c.self.inside.log.now in
-    let here : c.args.entry < length r.entries = omega (arith, c.entry_count.ensures.count, c.if-entry-entry_count.false) in
-    let column = c.self.invariant.whole.sources in
-    let kept = column.each c.args.entry here in
-    let at = c.index.ensures ∙ get_or_default c.self.inside.found.sources.items c.args.entry _ 0 (omega (arith, here, column.count)) in
-    let is = subst (λ o. IfSome o (λ e. source_of r c.args.entry ≡ Some e)) (ap entry_of (sym at) ∙ sym c.entry_of.ensures ∙ c.in-Some.is) kept in
-    rw (← c.self.view_is) (subst (λ o. IfSome o (λ e. e < length r.entries)) is (source_within r c.args.entry))
+    let i = c.args.entry in
+    let here : i < length r.entries = omega (arith, c.entry_count.ensures.count, c.if-entry-entry_count.false) in
+    let column = c.self.invariant.earlier in
+    let at = c.index.ensures ∙ get_or_default c.self.inside.found.earlier.items i _ 0 (omega (arith, here, column.count)) in
+    rw (← c.self.view_is) (subst (λ o. IfSome o (λ e. e < length r.entries)) (sym (c.entry_of.ensures ∙ ap entry_of at
+    ∙ of_received r i c.in-Received.station c.in-Received.stamp _ c.in-Received.bytes.now (c.entry.ensures.entry ∙ ap (λ e. Some (shown e)) c.in-Received.is)
+    (column.each i here))) (source_within r i))

@@ -1,6 +1,6 @@
 use Rattle.exercise_findings.specs.Requests.{AreRequests}
 use Rattle.exercise_findings.specs.Tables.{IsPass}
-use Rattle.exercise_findings.proofs.pass.find.Given as goal
+use Rattle.exercise_findings.proofs.pass.pass_over.Given as goal
 
 -- What was found so far is what a pass finds in the entries so far, and so is what is kept of requests.
 abbrev pub invariant-loop-entry : goal.invariant-loop-entry

@@ -4,7 +4,7 @@ use Rattle.std.specs.Prelude.{slice_index_or, nat_eq, IfSome, OnOk, OnErr, Resul
 use Rattle.std.proofs.Math.ListN.{get_or-eq_default}
 use Rattle.std.proofs.lemmas.List.{length_push, get_or_append_left, get_or_at, get_or-map, length-map}
 use Rattle.std.proofs.lemmas.Bool.{cases_lt, cases_eq, eq-eqb, ne_eqb}
-use Rattle.exercise_findings.specs.Number.{entry_number, entry_of, IsNumberOf}
+use Rattle.exercise_findings.specs.Number.{entry_number, entry_of}
 use Rattle.exercise_findings.specs.Column.{IsColumn, IsTurned}
 
 -- a column without entries
@@ -42,13 +42,13 @@ turned_one P Q n j x before here = (
 )
 
 -- and stays
-pub turned_kept : {X : Type 0} (d : X) (P Q : ℕ → X → Type 0) (n m : ℕ) (xs : List X) → ((x : X) → P n x → Q n x)
-    → IsColumn d (IsTurned P Q n) m xs → IsColumn d (IsTurned P Q (n + 1)) m xs
+pub turned_kept : {X : Type 0} (d : X) (P Q : ℕ → X → Type 0) (n m : ℕ) (xs : List X)
+    → (P n (slice_index_or xs n d) → Q n (slice_index_or xs n d)) → IsColumn d (IsTurned P Q n) m xs → IsColumn d (IsTurned P Q (n + 1)) m xs
 turned_kept d P Q n m xs own column = record {
   count = column.count;
   each = λ j l. turned_one P Q n j (slice_index_or xs j d) (column.each j l) (λ (same : n ≡ j).
-      subst (λ k. Q k (slice_index_or xs j d)) same
-      (own (slice_index_or xs j d) (subst (λ k. P k (slice_index_or xs j d)) (sym same) ((column.each j l).1 (omega (arith, same))))));
+      subst (λ k. Q k (slice_index_or xs k d)) same
+      (own (subst (λ k. P k (slice_index_or xs k d)) (sym same) ((column.each j l).1 (omega (arith, same))))));
 }
 
 -- or is written
@@ -75,11 +75,11 @@ number_back None few = refl
 number_back (Some e) few = ap (λ b. if b then None else Some e) (ne_eqb e 4294967295 (λ same. absurd (omega (arith, few, same))))
 
 -- what a column of numbers says at any place, where nothing is said past its end
-pub column_told : (f : ℕ → Option ℕ) (n i : ℕ) (xs : List ℕ) → IsColumn 0 (IsNumberOf f) n xs → ((k : ℕ) → n ≤ k → f k ≡ None)
-    → slice_index_or (map entry_of xs) i None ≡ f i
-column_told f n i xs column none = ⊎_elim
-    (λ (below : i < n). get_or-map entry_of xs i 0 None (omega (arith, below, column.count)) ∙ column.each i below)
-    (λ (past : n ≤ i). get_or-eq_default (map entry_of xs) None (omega (arith, past, column.count, length-map xs entry_of)) ∙ sym (none i past))
+pub column_told : (read f : ℕ → Option ℕ) (n i : ℕ) (xs : List ℕ) → IsColumn 0 (λ j x. read x ≡ f j) n xs → ((k : ℕ) → n ≤ k → f k ≡ None)
+    → slice_index_or (map read xs) i None ≡ f i
+column_told read f n i xs column none = ⊎_elim
+    (λ (below : i < n). get_or-map read xs i 0 None (omega (arith, below, column.count)) ∙ column.each i below)
+    (λ (past : n ≤ i). get_or-eq_default (map read xs) None (omega (arith, past, column.count, length-map xs read)) ∙ sym (none i past))
     (cases_lt i n)
 
 pub on_ok : {A E : Type 0} {P Q : Type 0} (result : Result A E) → (P → Q) → OnOk result P → OnOk result Q

@@ -1,94 +1,101 @@
--- What each entry goes back to, in one column: while the log is passed, when all sources are found, and the requests alone.
-use Rattle.std.proofs.Common.{◌≡◌, ℕ, ◌≤◌, ◌<◌, List, length, Option, Some, None, refl, sym, ap, ◌∙◌, subst, arith}
-use Rattle.std.specs.Prelude.{IfSome, is_some, slice_get, if◌then◌else◌}
+-- What each entry goes back to, in one column: while the log is passed, and when all sources are found.
+use Rattle.std.proofs.Common.{◌≡◌, ℕ, ◌+◌, ◌-◌, ◌<◌, ◌≤◌, List, length, Option, Some, None, refl, sym, ap, ◌∙◌, subst, arith}
+use Rattle.std.specs.Prelude.{◌≢◌, IfSome, slice_get, nat_lt, unwrap_or, option_map, if◌then◌else◌}
+use Rattle.std.proofs.lemmas.Bool.{lt-ltb, le-ltb}
 use Rattle.dis_records.specs.declared.entity_state.EntityState.{EntityState}
 use Rattle.exercise_model.specs.Entry.{Sent, Received, Told}
 use Rattle.exercise_model.specs.Recording.{PlainRecording}
 use Rattle.exercise_model.specs.Account.{pair_of}
-use Rattle.exercise_findings.specs.Number.{entry_number, entry_of, IsNumberOf}
+use Rattle.exercise_findings.specs.Column.{IsColumn}
+use Rattle.exercise_findings.specs.Number.{entry_number}
 use Rattle.exercise_findings.specs.Source.{source_of, first_source}
-use Rattle.exercise_findings.specs.Earlier.{IsEarlierOf, IsEarlierAt, IsSoFarOf, IsSoFarAt}
-use Rattle.exercise_findings.proofs.Columns.{number_back}
-use Rattle.exercise_findings.proofs.Sources.{source_here, source_whole, source_within, source_stays, number_if_any}
-use Rattle.exercise_findings.proofs.Looks.{below, pair_here, pair_number}
+use Rattle.exercise_findings.specs.Earlier.{request_in, source_in, IsEarlierAt, IsSoFarAt}
+use Rattle.exercise_findings.proofs.Sources.{source_here, source_whole, source_stays, source_below}
+use Rattle.exercise_findings.proofs.Looks.{below, pair_here, pair_earlier}
+
+-- ---- numbers
+
+-- a request below 2^31 stands for itself, and for no source
+pub request_back : (o : Option ℕ) → IfSome o (λ e. e < 2147483648) → request_in (entry_number o) ≡ o
+request_back None few = refl
+request_back (Some e) few = ap (λ b. if b then Some e else None) (lt-ltb e 2147483648 few)
+
+request_no_source : (o : Option ℕ) → IfSome o (λ e. e < 2147483648) → source_in (entry_number o) ≡ None
+request_no_source None few = refl
+request_no_source (Some e) few = ap (λ b. if b then None else (if nat_lt e 0xFFFFFFFE then Some (e - 0x80000000) else None)) (lt-ltb e 2147483648 few)
+
+-- a source stands for itself, and for no request
+abbrev pub numbered : Option ℕ → ℕ → ℕ
+numbered o none = unwrap_or (option_map (λ s. s + 2147483648) o) none
+
+source_back : (e : ℕ) → e < 1048576 → source_in (e + 2147483648) ≡ Some e
+source_back e few =
+    let same : e + 2147483648 - 2147483648 ≡ e = omega arith in
+    ap (λ b. if b then None else (if nat_lt (e + 2147483648) 0xFFFFFFFE then Some (e + 2147483648 - 0x80000000) else None)) (le-ltb (e + 2147483648) 2147483648 (omega arith))
+    ∙ ap (λ b. if b then Some (e + 2147483648 - 0x80000000) else None) (lt-ltb (e + 2147483648) 4294967294 (omega (arith, few)))
+    ∙ ap Some same
+
+source_no_request : (e : ℕ) → request_in (e + 2147483648) ≡ None
+source_no_request e = ap (λ b. if b then Some (e + 2147483648) else None) (le-ltb (e + 2147483648) 2147483648 (omega arith))
 
 -- ---- while the log is passed
 
-source_if_any : (r : PlainRecording) (i s stamp n : ℕ) (b : List ℕ) (o : Option ℕ) → slice_get r.entries i ≡ Some (Received s stamp b)
-    → n ≤ length r.entries → IfSome o (λ e. first_source r b n ≡ Some e) → IfSome o (λ e. source_of r i ≡ Some e)
-source_if_any r i s stamp n b None at le found = tt
-source_if_any r i s stamp n b (Some e) at le found =
-    source_here r i (Received s stamp b) at ∙ sym (source_whole r b) ∙ source_stays r b n (length r.entries) e le found
+pub received_so_far : (r : PlainRecording) (i s stamp n : ℕ) (b : List ℕ) (o : Option ℕ) → slice_get r.entries i ≡ Some (Received s stamp b)
+    → n ≤ length r.entries → length r.entries ≤ 1048576 → IfSome o (λ e. first_source r b n ≡ Some e) → IsSoFarAt r i (numbered o 4294967294)
+received_so_far r i s stamp n b None at le few found = record {
+  pair = sym (pair_here r i (Received s stamp b) at);
+  source = λ apart. absurd (apart refl);
+}
+received_so_far r i s stamp n b (Some e) at le few found = record {
+  pair = source_no_request e ∙ sym (pair_here r i (Received s stamp b) at);
+  source = λ _. source_back e (omega (arith, le, few, subst (λ o. IfSome o (λ x. x < n)) found (source_below r b n)))
+      ∙ sym (source_here r i (Received s stamp b) at ∙ sym (source_whole r b) ∙ source_stays r b n (length r.entries) e le found);
+}
 
-pub received_so_far : (r : PlainRecording) (i s stamp n number : ℕ) (b : List ℕ) (o : Option ℕ) → slice_get r.entries i ≡ Some (Received s stamp b)
-    → n ≤ length r.entries → IfSome o (λ e. first_source r b n ≡ Some e) → number ≡ entry_number o → IsSoFarAt r i number
-received_so_far r i s stamp n number b o at le found is =
-    subst (IsSoFarAt r i) (sym is)
-    (subst (λ x. IfSome x (λ e. IsSoFarOf r i e (entry_number o))) (sym at)
-    (number_if_any (λ e. source_of r i ≡ Some e) o (source_if_any r i s stamp n b o at le found)))
+pub found_below : (r : PlainRecording) (b : List ℕ) (n : ℕ) (o : Option ℕ) → n ≤ 1048576 → IfSome o (λ e. first_source r b n ≡ Some e) → IfSome o (λ e. e < 1048576)
+found_below r b n None le found = tt
+found_below r b n (Some e) le found = omega (arith, le, subst (λ o. IfSome o (λ x. x < n)) found (source_below r b n))
 
-pair_at : (r : PlainRecording) (i number : ℕ) → i < 4294967295 → number ≡ entry_number (pair_of r i) → IsNumberOf (pair_of r) i number
-pair_at r i number few is = ap entry_of is ∙ pair_number r i few
+pub source_few : (r : PlainRecording) (b : List ℕ) → length r.entries ≤ 1048576 → IfSome (first_source r b (length r.entries)) (λ e. e < 1048576)
+source_few r b few = at_most (first_source r b (length r.entries)) (source_below r b (length r.entries))
+  where
+    at_most : (o : Option ℕ) → IfSome o (λ e. e < length r.entries) → IfSome o (λ e. e < 1048576)
+    at_most None l = tt
+    at_most (Some e) l = omega (arith, l, few)
 
-pub sent_so_far : (r : PlainRecording) (i s stamp number : ℕ) (b : List ℕ) → slice_get r.entries i ≡ Some (Sent s stamp b) → i < 4294967295
-    → number ≡ entry_number (pair_of r i) → IsSoFarAt r i number
-sent_so_far r i s stamp number b at few is = subst (λ x. IfSome x (λ e. IsSoFarOf r i e number)) (sym at) (pair_at r i number few is)
+pub sent_so_far : (r : PlainRecording) (i s stamp : ℕ) (b : List ℕ) → slice_get r.entries i ≡ Some (Sent s stamp b) → i < 2147483648
+    → IsSoFarAt r i (entry_number (pair_of r i))
+sent_so_far r i s stamp b at few = record {
+  pair = request_back (pair_of r i) (below (pair_of r i) i 2147483648 few (pair_earlier r i));
+  source = λ _. request_no_source (pair_of r i) (below (pair_of r i) i 2147483648 few (pair_earlier r i)) ∙ sym (source_here r i (Sent s stamp b) at);
+}
 
-pub told_so_far : (r : PlainRecording) (i s x number : ℕ) (y : EntityState) → slice_get r.entries i ≡ Some (Told s x y) → i < 4294967295
-    → number ≡ entry_number (pair_of r i) → IsSoFarAt r i number
-told_so_far r i s x number y at few is = subst (λ o. IfSome o (λ e. IsSoFarOf r i e number)) (sym at) (pair_at r i number few is)
+pub told_so_far : (r : PlainRecording) (i s x : ℕ) (y : EntityState) → slice_get r.entries i ≡ Some (Told s x y) → i < 2147483648
+    → IsSoFarAt r i (entry_number (pair_of r i))
+told_so_far r i s x y at few = record {
+  pair = request_back (pair_of r i) (below (pair_of r i) i 2147483648 few (pair_earlier r i));
+  source = λ _. request_no_source (pair_of r i) (below (pair_of r i) i 2147483648 few (pair_earlier r i)) ∙ sym (source_here r i (Told s x y) at);
+}
 
 -- ---- all sources
 
--- a source that was found stays, and one that was not is looked up
-source_now : (r : PlainRecording) (i number : ℕ) → i < 4294967295 → length r.entries ≤ 1048576
-    → IfSome (entry_of number) (λ e. source_of r i ≡ Some e)
-    → entry_of (if is_some (entry_of number) then number else entry_number (source_of r i)) ≡ source_of r i
-source_now r i number within few kept = of_number (entry_of number) refl kept
-  where
-    bounded : IfSome (source_of r i) (λ e. e < 4294967295)
-    bounded = below (source_of r i) (length r.entries) 4294967295 (omega (arith, few)) (source_within r i)
+-- a source that is looked up
+pub looked_up : (r : PlainRecording) (i : ℕ) (o : Option ℕ) → o ≡ source_of r i → IfSome o (λ e. e < 1048576) → None ≡ pair_of r i
+    → IsEarlierAt r i (numbered o 4294967295)
+looked_up r i None is few none = record { pair = none; source = is }
+looked_up r i (Some e) is few none = record { pair = source_no_request e ∙ none; source = source_back e few ∙ is }
 
-    of_number : (o : Option ℕ) → entry_of number ≡ o → IfSome o (λ e. source_of r i ≡ Some e)
-        → entry_of (if is_some o then number else entry_number (source_of r i)) ≡ source_of r i
-    of_number None is kept = number_back (source_of r i) bounded
-    of_number (Some e) is kept = is ∙ sym kept
+-- one that was found
+pub found_so_far : (r : PlainRecording) (i number : ℕ) → number ≢ 4294967294 → IsSoFarAt r i number → IsEarlierAt r i number
+found_so_far r i number apart kept = record { pair = kept.pair; source = kept.source apart }
 
-pub received_now : (r : PlainRecording) (i s stamp number so_far : ℕ) (b : List ℕ) → slice_get r.entries i ≡ Some (Received s stamp b)
-    → i < 4294967295 → length r.entries ≤ 1048576
-    → number ≡ (if is_some (entry_of so_far) then so_far else entry_number (first_source r b (length r.entries)))
-    → IsSoFarAt r i so_far → IsEarlierAt r i number
-received_now r i s stamp number so_far b at within few is kept =
-    let source : first_source r b (length r.entries) ≡ source_of r i = source_whole r b ∙ sym (source_here r i (Received s stamp b) at) in
-    subst (λ o. IfSome o (λ e. IsEarlierOf r i e number)) (sym at)
-    (ap entry_of (is ∙ ap (λ o. if is_some (entry_of so_far) then so_far else entry_number o) source)
-    ∙ source_now r i so_far within few (subst (λ o. IfSome o (λ e. IsSoFarOf r i e so_far)) at kept))
-
-pub sent_now : (r : PlainRecording) (i s stamp number : ℕ) (b : List ℕ) → slice_get r.entries i ≡ Some (Sent s stamp b)
-    → IsSoFarAt r i number → IsEarlierAt r i number
-sent_now r i s stamp number b at kept =
-    subst (λ o. IfSome o (λ e. IsEarlierOf r i e number)) (sym at) (subst (λ o. IfSome o (λ e. IsSoFarOf r i e number)) at kept)
-
-pub told_now : (r : PlainRecording) (i s x number : ℕ) (y : EntityState) → slice_get r.entries i ≡ Some (Told s x y)
-    → IsSoFarAt r i number → IsEarlierAt r i number
-told_now r i s x number y at kept =
-    subst (λ o. IfSome o (λ e. IsEarlierOf r i e number)) (sym at) (subst (λ o. IfSome o (λ e. IsSoFarOf r i e number)) at kept)
-
--- ---- what the column says of an entry
-
-pub of_received : (r : PlainRecording) (i s stamp number : ℕ) (b : List ℕ) → slice_get r.entries i ≡ Some (Received s stamp b)
-    → IsEarlierAt r i number → IsNumberOf (source_of r) i number
-of_received r i s stamp number b at is = subst (λ o. IfSome o (λ e. IsEarlierOf r i e number)) at is
-
-pub of_sent : (r : PlainRecording) (i s stamp number : ℕ) (b : List ℕ) → slice_get r.entries i ≡ Some (Sent s stamp b)
-    → IsEarlierAt r i number → IsNumberOf (pair_of r) i number
-of_sent r i s stamp number b at is = subst (λ o. IfSome o (λ e. IsEarlierOf r i e number)) at is
-
-pub of_told : (r : PlainRecording) (i s x number : ℕ) (y : EntityState) → slice_get r.entries i ≡ Some (Told s x y)
-    → IsEarlierAt r i number → IsNumberOf (pair_of r) i number
-of_told r i s x number y at is = subst (λ o. IfSome o (λ e. IsEarlierOf r i e number)) at is
+pub all_so_far : (r : PlainRecording) (xs : List ℕ) → IsColumn 0 (IsEarlierAt r) (length r.entries) xs → IsColumn 0 (IsSoFarAt r) (length r.entries) xs
+all_so_far r xs column = record {
+  count = column.count;
+  each = λ j l. record { pair = (column.each j l).pair; source = λ _. (column.each j l).source };
+}
 
 -- ---- the requests alone
 
-pub no_pair : (r : PlainRecording) (i s stamp : ℕ) (b : List ℕ) → slice_get r.entries i ≡ Some (Received s stamp b) → IsNumberOf (pair_of r) i 4294967295
-no_pair r i s stamp b at = sym (pair_here r i (Received s stamp b) at)
+pub requests_so_far : (r : PlainRecording) (n : ℕ) (xs : List ℕ) → IsColumn 0 (IsSoFarAt r) n xs → IsColumn 0 (λ j x. request_in x ≡ pair_of r j) n xs
+requests_so_far r n xs column = record { count = column.count; each = λ j l. (column.each j l).pair }

@@ -19,7 +19,6 @@ use Rattle.exercise_model.specs.Place.{event_at, own_event, first_below}
 use Rattle.exercise_model.specs.Account.{sender_of}
 use Rattle.exercise_model.proofs.Offered.{first_found, sender_found}
 use Rattle.exercise_findings.specs.declared.senders.Datagram.{Datagram}
-use Rattle.exercise_findings.specs.Number.{entry_of, entry_number}
 use Rattle.exercise_findings.specs.Firsts.{before_entry}
 use Rattle.exercise_findings.proofs.Keyed.{first_before}
 use Rattle.exercise_findings.specs.Senders.{Senders, same_datagram, AreSenders}
@@ -222,6 +221,6 @@ source_stays r b n m e le is =
     ap (first_below (is_source r b)) same
     ∙ before_some n (first_below (is_source r b) (n + (m - n))) e (first_before (is_source r b) n (m - n) ∙ is)
 
-pub number_if_any : (P : ℕ → Type 0) (o : Option ℕ) → IfSome o P → IfSome (entry_of (entry_number o)) P
-number_if_any P None holds = tt
-number_if_any P (Some e) holds = elim (nat_eq e 0xFFFFFFFF) as (λ b. IfSome (cond b None (Some e)) P) [ true ↦ tt | false ↦ holds ]
+pub source_below : (r : PlainRecording) (b : List ℕ) (n : ℕ) → IfSome (first_source r b n) (λ e. e < n)
+unfolding first_source
+source_below r b n = first_earlier (is_source r b) n

@@ -1,5 +1,5 @@
 -- What a pass over a log finds, entry by entry, and how it is kept (profile).
-use Rattle.std.specs.Prelude.{◌≡◌, ◌≤◌, ℕ, Bool, false, [], length, take, slice_get, Option, None, option_and_then}
+use Rattle.std.specs.Prelude.{◌≡◌, ◌≤◌, ℕ, Bool, false, [], length, take, slice_get, Option, None, IfSome, IfNone, option_and_then}
 use Rattle.std.specs.Option.{option_map_or}
 use Rattle.exercise_model.specs.declared.cause.Cause.{Cause}
 use Rattle.exercise_model.specs.Recording.{PlainRecording, IsRecording}
@@ -63,10 +63,15 @@ pub record IsPass (r : PlainRecording) (n : ℕ) (f : Pass) : Type 0 where
   pub few : f.others ≤ n
 
 -- WHAT IS FOUND in a whole log
-pub record AreFindings (r : PlainRecording) (f : Passed) : Type 0 where
-  pub limits : IsRecording r
+pub record AreFound (r : PlainRecording) (f : Passed) : Type 0 where
   pub tied : AreTied r (length r.entries) f.tables
   pub causes : IsColumn None (IsOwnCause r) (length r.entries) f.causes.items
-  pub earlier : IsColumn 0 (IsEarlierAt r) (length r.entries) f.earlier.items
+  pub earlier : IsColumn 0 (IsSoFarAt r) (length r.entries) f.earlier.items
+  pub senders : IfSome f.senders (AreSenders r (length r.entries))
+  pub sources : IfNone f.senders (IsColumn 0 (IsEarlierAt r) (length r.entries) f.earlier.items)
   pub ables : AreBehind r (length r.entries) f.ables.items
   pub others : f.others ≡ others_among r.setting.exercise (take (length r.entries) r.entries)
+
+pub record AreFindings (r : PlainRecording) (f : Passed) : Type 0 where
+  pub limits : IsRecording r
+  pub found : AreFound r f

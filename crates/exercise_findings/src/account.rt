@@ -1,5 +1,6 @@
 //! The account of a recording: what it says of itself.
 
+use crate::earlier::request_in;
 use crate::number::entry_of;
 use dis_records::EntityState;
 use std::marker::Model;
@@ -9,7 +10,7 @@ use std::marker::Model;
 #[derive(Drop)]
 pub struct Account {
     states: Vec<Vec<(u16, EntityState)>>,
-    pairs: Vec<u32>,
+    earlier: Vec<u32>,
     causes: Vec<u32>,
     others: u32,
 }
@@ -18,29 +19,31 @@ impl Model for Account {
     ghost use Rattle.std.specs.Prelude.{map};
     ghost use Rattle.exercise_findings.specs.Account.{AccountData};
     ghost use Rattle.exercise_findings.specs.Number.{entry_of};
+    ghost use Rattle.exercise_findings.specs.Earlier.{request_in};
 
     ghost Value = { AccountData };
 
-    ghost view = { λ c. record { states = map (λ v. v.items) c.states.items; pairs = map entry_of c.pairs.items; causes = map entry_of c.causes.items; others = c.others } };
+    ghost view = { λ c. record { states = map (λ v. v.items) c.states.items; pairs = map request_in c.earlier.items; causes = map entry_of c.causes.items; others = c.others } };
 }
 
 impl Account {
     ghost use Rattle.std.specs.Prelude.{◌≡◌, map, slice_index_or, [], None};
     ghost use Rattle.exercise_findings.specs.Account.{AccountData};
     ghost use Rattle.exercise_findings.specs.Number.{entry_of};
+    ghost use Rattle.exercise_findings.specs.Earlier.{request_in};
 
     /// What these parts say, entries as numbers.
     pub(crate) fn of(
         states: Vec<Vec<(u16, EntityState)>>,
-        pairs: Vec<u32>,
+        earlier: Vec<u32>,
         causes: Vec<u32>,
         others: u32,
     ) -> Account
-        ensures { let c : AccountData = record { states = map (λ v. v.items) states.items; pairs = map entry_of pairs.items; causes = map entry_of causes.items; others = others } in result ≡ c }
+        ensures { let c : AccountData = record { states = map (λ v. v.items) states.items; pairs = map request_in earlier.items; causes = map entry_of causes.items; others = others } in result ≡ c }
     {
         Account {
             states,
-            pairs,
+            earlier,
             causes,
             others,
         }
@@ -62,8 +65,8 @@ impl Account {
     pub fn pair(&self, entry: usize) -> Option<u32>
         ensures { result ≡ slice_index_or self.now.pairs entry None }
     {
-        match self.pairs.get(entry) {
-            Some(pair) => entry_of(*pair),
+        match self.earlier.get(entry) {
+            Some(earlier) => request_in(*earlier),
             None => None,
         }
     }

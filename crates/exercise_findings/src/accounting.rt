@@ -5,11 +5,10 @@ ghost use Rattle.exercise_model.specs.Account.{change_behind, entities_of, value
 ghost use Rattle.exercise_findings.specs.Account.{TellsAccount};
 ghost use Rattle.exercise_findings.specs.Column.{IsColumn};
 ghost use Rattle.exercise_findings.specs.Number.{IsNumberOf};
-ghost use Rattle.exercise_findings.specs.Tables.{AreTied, AreFindings};
+ghost use Rattle.exercise_findings.specs.Tables.{AreTied, AreFound};
 
 use crate::account::Account;
 use crate::behind::changes_behind;
-use crate::earlier::pairs_of;
 use crate::pass::Passed;
 use crate::state::entities;
 use crate::tables::Tables;
@@ -38,9 +37,9 @@ fn states<L: ExerciseLog>(
 fn states_and_changes<L: ExerciseLog>(
     alloc: Global,
     log: &L,
-    found: &Passed,
+    found: &Passed<'_>,
 ) -> Result<(Vec<Vec<(u16, EntityState)>>, Vec<u32>), AllocError>
-    requires { AreFindings (L.recording log.now) found.now }
+    requires { AreFound (L.recording log.now) found.now }
     ensures states { let r = L.recording log.now in IfOk result (λ told. map (λ v. v.items) told.0.items ≡ values_below (entities_of r) (length r.setting.stations)) }
     ensures changes { let r = L.recording log.now in IfOk result (λ told. IsColumn 0 (IsNumberOf (change_behind r)) (length r.entries) told.1.items) }
 {
@@ -53,9 +52,9 @@ fn states_and_changes<L: ExerciseLog>(
 pub(crate) fn account<L: ExerciseLog>(
     alloc: Global,
     log: &L,
-    found: Passed,
+    found: Passed<'_>,
 ) -> Result<Account, AllocError>
-    requires { AreFindings (L.recording log.now) found }
+    requires { AreFound (L.recording log.now) found }
     ensures { IfOk result (λ checked. TellsAccount (L.recording log.now) checked) }
 {
     let told = states_and_changes(alloc, log, &found)?;
@@ -64,6 +63,5 @@ pub(crate) fn account<L: ExerciseLog>(
         others,
         ..
     } = found;
-    let pairs = pairs_of(log, earlier);
-    Ok(Account::of(told.0, pairs, told.1, others))
+    Ok(Account::of(told.0, earlier, told.1, others))
 }

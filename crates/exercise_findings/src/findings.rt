@@ -12,11 +12,11 @@ ghost use Rattle.exercise_findings.specs.Tables.{AreFindings, own_cause};
 
 use crate::account::Account;
 use crate::accounting::account;
+use crate::earlier::{request_in, source_kept};
 use crate::made::{change_made_at, state_made_before};
-use crate::number::entry_of;
 use crate::pass::{Passed, find};
 use dis_records::EntityState;
-use exercise_model::{Cause, Change, EntryView, ExerciseLog};
+use exercise_model::{Cause, Change, ExerciseLog};
 use std::alloc::{AllocError, Global};
 use std::marker::Model;
 
@@ -25,7 +25,7 @@ use std::marker::Model;
 #[derive(Drop)]
 pub struct Findings<'a, L: ExerciseLog> {
     log: &'a L,
-    found: Passed,
+    found: Passed<'a>,
 }
 
 impl<'a, L: ExerciseLog> Model for Findings<'a, L> {
@@ -70,12 +70,9 @@ impl<'a, L: ExerciseLog> Findings<'a, L> {
     pub fn pair(&self, entry: usize) -> Option<u32>
         ensures { result ≡ pair_of self.now entry }
     {
-        if entry >= self.log.entry_count() {
-            return None;
-        }
-        match self.log.entry(entry) {
-            EntryView::Sent { .. } => entry_of(self.found.earlier[entry]),
-            EntryView::Received { .. } | EntryView::Told { .. } => None,
+        match self.found.earlier.get(entry) {
+            Some(earlier) => request_in(*earlier),
+            None => None,
         }
     }
 
@@ -88,10 +85,8 @@ impl<'a, L: ExerciseLog> Findings<'a, L> {
         if entry >= self.log.entry_count() {
             return None;
         }
-        match self.log.entry(entry) {
-            EntryView::Received { .. } => entry_of(self.found.earlier[entry]),
-            EntryView::Sent { .. } | EntryView::Told { .. } => None,
-        }
+        let earlier = self.found.earlier[entry];
+        source_kept(&self.found.senders, self.log, entry, earlier)
     }
 
     /// What an entry changes at its station: something where it is the first Able under its key and

@@ -3,16 +3,19 @@
 ghost use Rattle.std.specs.Prelude.{◌≡◌, ◌<◌, ◌+◌, length, OnOk, IfOk, if◌then◌else◌};
 ghost use Rattle.exercise_model.specs.Recording.{IsRecording};
 ghost use Rattle.exercise_findings.specs.Requests.{AreRequests};
-ghost use Rattle.exercise_findings.specs.Tables.{IsPass, AreFindings};
+ghost use Rattle.exercise_findings.specs.Tables.{IsPass, AreFound, AreFindings};
 
 use crate::behind::{Able, note_behind};
-use crate::earlier::{all_earlier, earlier_so_far};
+use crate::earlier::{Looks, all_earlier, earlier_so_far};
 use crate::found::find_at;
 use crate::requests::{Requests, no_requests};
 use crate::senders::{Senders, no_senders, note_sender};
 use crate::tables::{Tables, no_tables, note_tables};
 use exercise_model::{Cause, ExerciseLog};
 use std::alloc::{AllocError, Global};
+
+/// One source of so many entries that is yet to be found is many.
+const MANY: usize = 16;
 
 /// What a pass found so far.
 #[derive(Drop)]
@@ -24,8 +27,8 @@ pub(crate) struct Pass<'a> {
     /// The number of what each entry goes back to: of an answer the request that it takes up, of
     /// what was received its source, where that was found.
     pub earlier: Vec<u32>,
-    /// How many of the last sources that were looked for were not found.
-    pub misses: u32,
+    /// How sources were looked for.
+    pub looks: Looks,
     /// What the changes behind the Ables that were received are looked up by.
     pub ables: Vec<Able>,
     /// The entry by which each datagram was sent first by the station that it comes from.
@@ -36,13 +39,17 @@ pub(crate) struct Pass<'a> {
 
 /// What all entries were found to be.
 #[derive(Drop)]
-pub(crate) struct Passed {
+pub(crate) struct Passed<'a> {
     /// What is kept of the entries.
     pub tables: Tables,
     /// The first cause that its station's log has against each entry.
     pub causes: Vec<Option<Cause>>,
-    /// The number of what each entry goes back to.
+    /// The number of what each entry goes back to. Sources are yet to be found where it is kept where
+    /// each datagram was sent first.
     pub earlier: Vec<u32>,
+    /// The entry by which each datagram was sent first by the station that it comes from, if it is
+    /// kept.
+    pub senders: Option<Senders<'a>>,
     /// What the changes behind the Ables that were received are looked up by.
     pub ables: Vec<Able>,
     /// How many datagrams are "other".
@@ -61,7 +68,10 @@ fn nothing_found<'a, L: ExerciseLog>(alloc: Global, log: &'a L) -> Result<Pass<'
         tables,
         causes,
         earlier,
-        misses: 0,
+        looks: Looks {
+            misses: 0,
+            later: 0,
+        },
         ables: Vec::new(alloc),
         senders: no_senders(alloc),
         others: 0,
@@ -91,7 +101,7 @@ fn find_entry<'a, L: ExerciseLog>(
 {
     let here = find_at(log, &found.tables, requests, entry)?;
     found.causes.push(here.cause)?;
-    let earlier = earlier_so_far(&found.senders, &mut found.misses, log, entry, here.pair);
+    let earlier = earlier_so_far(&found.senders, &mut found.looks, log, entry, here.pair);
     found.earlier.push(earlier)?;
     found.others += one_if(here.other);
     note_sender(&mut found.senders, log, entry, here.is_source)?;
@@ -112,10 +122,11 @@ fn pass_over<'a, L: ExerciseLog>(alloc: Global, log: &'a L) -> Result<Pass<'a>, 
     Ok(found)
 }
 
-/// What all entries are found to be. Once the sources are found it is not asked for any more where a
-/// datagram was sent first.
-pub(crate) fn find<L: ExerciseLog>(alloc: Global, log: &L) -> Result<Passed, AllocError>
-    ensures { IfOk result (AreFindings (L.recording log.now)) }
+/// What all entries were found to be, with all sources. It is not asked for any more where a datagram
+/// was sent first.
+fn with_all_sources<'a, L: ExerciseLog>(log: &L, pass: Pass<'_>) -> Passed<'a>
+    requires { let r = L.recording log.now in IsPass r (length r.entries) pass }
+    ensures { AreFound (L.recording log.now) result }
 {
     let Pass {
         tables,
@@ -125,12 +136,51 @@ pub(crate) fn find<L: ExerciseLog>(alloc: Global, log: &L) -> Result<Passed, All
         senders,
         others,
         ..
-    } = pass_over(alloc, log)?;
-    Ok(Passed {
+    } = pass;
+    Passed {
         tables,
         causes,
         earlier: all_earlier(&senders, log, earlier),
+        senders: None,
         ables,
         others,
-    })
+    }
+}
+
+/// What all entries were found to be, where sources are looked up when they are asked for.
+fn with_senders<'a, L: ExerciseLog>(log: &L, pass: Pass<'a>) -> Passed<'a>
+    requires { let r = L.recording log.now in IsPass r (length r.entries) pass }
+    ensures { AreFound (L.recording log.now) result }
+{
+    let Pass {
+        tables,
+        causes,
+        earlier,
+        ables,
+        senders,
+        others,
+        ..
+    } = pass;
+    Passed {
+        tables,
+        causes,
+        earlier,
+        senders: Some(senders),
+        ables,
+        others,
+    }
+}
+
+/// What all entries are found to be. Where few sources are yet to be found they are looked up at once,
+/// and what that takes is given back; where many are, each is found faster when it is asked for, since
+/// what sent it was asked for right before.
+pub(crate) fn find<'a, L: ExerciseLog>(alloc: Global, log: &'a L) -> Result<Passed<'a>, AllocError>
+    ensures { IfOk result (AreFindings (L.recording log.now)) }
+{
+    let pass = pass_over(alloc, log)?;
+    if pass.looks.later as usize > log.entry_count() / MANY {
+        Ok(with_senders(log, pass))
+    } else {
+        Ok(with_all_sources(log, pass))
+    }
 }

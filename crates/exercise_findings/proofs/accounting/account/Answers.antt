@@ -3,7 +3,10 @@ use Rattle.std.specs.Prelude.{slice_index_or}
 use Rattle.exercise_model.specs.Account.{pair_of, change_behind}
 use Rattle.exercise_model.proofs.Offered.{states-all}
 use Rattle.exercise_findings.proofs.Columns.{column_told}
+use Rattle.exercise_findings.specs.Earlier.{request_in}
+use Rattle.exercise_findings.specs.Number.{entry_of}
 use Rattle.exercise_findings.proofs.Ables.{behind_past}
+use Rattle.exercise_findings.proofs.EarlierEntries.{requests_so_far}
 use Rattle.exercise_findings.proofs.Looks.{others_whole, pair_past}
 use Rattle.exercise_findings.proofs.accounting.account.Goals as goal
 
@@ -13,8 +16,8 @@ returns g c =
     let n = length r.entries in
     record {
       states = λ s. ap (λ checked. slice_index_or checked.states s []) c.of.ensures ∙ ap (λ xs. slice_index_or xs s []) c.in_ok-told.ensures.states ∙ states-all r s;
-      pairs = λ i. ap (λ checked. slice_index_or checked.pairs i None) c.of.ensures ∙ column_told (pair_of r) n i c.pairs_of-pairs.result.items c.pairs_of-pairs.ensures (pair_past r);
+      pairs = λ i. ap (λ checked. slice_index_or checked.pairs i None) c.of.ensures ∙ column_told request_in (pair_of r) n i c.args.found.earlier.items (requests_so_far r n c.args.found.earlier.items c.requires.earlier) (pair_past r);
       causes = λ i. ap (λ checked. slice_index_or checked.causes i None) c.of.ensures
-          ∙ column_told (change_behind r) n i c.in_ok-told.told.1.items c.in_ok-told.ensures.changes (behind_past r);
+          ∙ column_told entry_of (change_behind r) n i c.in_ok-told.told.1.items c.in_ok-told.ensures.changes (behind_past r);
       others = ap (λ checked. checked.others) c.of.ensures ∙ c.requires.others ∙ others_whole r;
     }

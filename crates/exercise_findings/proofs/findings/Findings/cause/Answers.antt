@@ -6,4 +6,4 @@ pub returns-in-None : goal.returns-in-None
 returns-in-None g c =
     let r = g.L.ExerciseLog.recording c.self.inside.log.now in
     let past = rw (c.in-None.is, c.deref.ensures.value) at c.get.ensures.lookup.3 in
-    rw (← c.self.view_is) (sym (cause_past r c.args.entry (omega (arith, past, c.self.invariant.causes.count))))
+    rw (← c.self.view_is) (sym (cause_past r c.args.entry (omega (arith, past, c.self.invariant.found.causes.count))))

@@ -8,3 +8,4 @@ mod Events
 mod Runs
 mod Heard
 mod Fates
+mod PartyPlaces

@@ -20,7 +20,7 @@ states_at-append n (x ∷ xs) ys =
       | false ↦ states_at-append n xs ys
     ]
 
-append_none : {X : Type 0} (xs : List X) → xs ++ [] ≡ xs
+pub append_none : {X : Type 0} (xs : List X) → xs ++ [] ≡ xs
 append_none [] = refl
 append_none (x ∷ xs) = ap (λ ys. x ∷ ys) (append_none xs)
 

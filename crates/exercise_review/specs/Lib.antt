@@ -2,9 +2,11 @@ pub mod Counted
 pub mod Entries
 pub mod Order
 pub mod Party
+pub mod Parties
 pub mod Reply
 pub mod Word
 pub mod Fate
+pub mod Outcome
 pub mod Life
 pub mod Missing
 pub mod InRuns

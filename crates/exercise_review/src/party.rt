@@ -125,9 +125,9 @@ fn names(id: EntityId, address: Outsider) -> bool
 
 /// Which recorded stations have an address.
 #[derive(Drop)]
-struct At<'a, L: ExerciseLog> {
-    findings: &'a Findings<'a, L>,
-    address: Outsider,
+pub(crate) struct At<'a, L: ExerciseLog> {
+    pub findings: &'a Findings<'a, L>,
+    pub address: Outsider,
 }
 
 impl<L: ExerciseLog> Question for At<'_, L> {

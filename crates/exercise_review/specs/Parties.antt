@@ -1,0 +1,99 @@
+-- The parties of an order, one after the other by rising addresses (profile).
+use Rattle.std.specs.Prelude.{◌≡◌, ℕ, zero, suc, ◌+◌, ◌-◌, ◌*◌, ◌/◌, ◌%◌, ◌<◌, ◌≤◌, List, [], ◌++◌, length, Bool, false, ◌||◌, ◌==◌, nat_lt, nat_le, Option, Some, None, option_map, option_and_then, if◌then◌else◌}
+use Rattle.std.specs.Option.{option_map_or, option_to_list}
+use Rattle.dis_records.specs.Address.{Pair}
+use Rattle.dis_records.specs.Entity.{pair_of}
+use Rattle.exercise_model.specs.Recording.{PlainRecording}
+use Rattle.exercise_model.specs.History.{station_at}
+use Rattle.exercise_model.specs.Place.{first_below}
+use Rattle.exercise_review.specs.declared.party.Party.{Party}
+use Rattle.exercise_review.specs.declared.party.Party.TheVariants as parties
+use Rattle.exercise_review.specs.declared.party.Outsider.{Outsider}
+use Rattle.exercise_review.specs.Entries.{got_by}
+use Rattle.exercise_review.specs.Order.{OrderData}
+use Rattle.exercise_review.specs.Party.{pair_at, is_at, is_party, is_party_outside}
+
+-- ---- addresses as numbers, which rise as the addresses do
+
+abbrev pub number_of : Pair → ℕ
+number_of a = a.site * 65536 + a.application
+
+abbrev pub pair_numbered : ℕ → Pair
+pair_numbered n = record { site = n / 65536; application = n % 65536 }
+
+-- so many numbers of 16 bits each stand for a site and an application
+abbrev pub addresses : ℕ
+addresses = 4294967296
+
+-- ---- who is where
+
+-- the address of whoever made an order: that of the recorded station, or the one that it comes from
+abbrev pub maker_address : PlainRecording → OrderData → Pair
+maker_address r o = option_map_or (λ s. (station_at r s).address) o.maker (pair_of o.request.origin)
+
+-- the address of a party
+abbrev pub party_address : PlainRecording → Party → Pair
+party_address r (parties.Station s) = (station_at r s).address
+party_address r (parties.Outside a) = pair_at a
+
+abbrev pub outsider_at : Pair → Outsider
+outsider_at a = record { site = a.site; application = a.application }
+
+-- the party at an address, where this is the recorded station there: that station, or else who took part from there unrecorded
+abbrev pub party_by : PlainRecording → OrderData → Pair → Option ℕ → Option Party
+party_by r o a (Some s) = if is_party r o s then Some (parties.Station s) else None
+party_by r o a None = if is_party_outside r o a then Some (parties.Outside (outsider_at a)) else None
+
+-- THE PARTY AT AN ADDRESS, if there is one
+unfoldable pub party_at : PlainRecording → OrderData → Pair → Option Party
+party_at r o a = party_by r o a (first_below (is_at r a) (length r.setting.stations))
+
+-- the parties at the addresses whose numbers are below n
+unfoldable pub parties_below : PlainRecording → OrderData → ℕ → List Party
+parties_below r o zero = []
+parties_below r o (suc n) = parties_below r o n ++ option_to_list (party_at r o (pair_numbered n))
+
+-- THE PARTIES OF AN ORDER, by rising addresses
+unfoldable pub parties_of : PlainRecording → OrderData → List Party
+parties_of r o = parties_below r o addresses
+
+-- ---- how they are found
+
+-- where a party may be: from the address of what the maker received at entry i
+abbrev pub number_heard : PlainRecording → OrderData → ℕ → Option ℕ
+number_heard r o i = option_map (λ p. number_of (pair_of p.origin)) (option_and_then (λ s. got_by r s i) o.maker)
+
+-- at place i among all these: first the addresses of the recorded stations, then that of the target, then those that the maker heard
+unfoldable pub candidate_at : PlainRecording → OrderData → ℕ → Option ℕ
+candidate_at r o i =
+    if nat_lt i (length r.setting.stations) then Some (number_of (station_at r i).address)
+    else (if i == length r.setting.stations then Some (number_of (pair_of o.request.target)) else number_heard r o (i - length r.setting.stations - 1))
+
+-- there is one below n or at it
+abbrev pub is_up_to : ℕ → Option (ℕ × Party) → Bool
+is_up_to n None = false
+is_up_to n (Some found) = nat_le found.0 n
+
+-- with the party that stands at the address with number n, if one does
+abbrev pub with_party : ℕ → Option (ℕ × Party) → Option Party → Option (ℕ × Party)
+with_party n next None = next
+with_party n next (Some party) = Some (n, party)
+
+-- what is next from a number on, so far and by the address with number n
+abbrev pub nearer : PlainRecording → OrderData → (from : ℕ) → Option (ℕ × Party) → (n : ℕ) → Option (ℕ × Party)
+nearer r o from next n = if nat_lt n from || is_up_to n next then next else with_party n next (party_at r o (pair_numbered n))
+
+-- no party stands at the addresses with numbers from `from` on below n
+pub record AreNoParties (r : PlainRecording) (o : OrderData) (from n : ℕ) : Type 0 where
+  pub none : (m : ℕ) → from ≤ m → m < n → party_at r o (pair_numbered m) ≡ None
+
+-- at the address with this number stands this party
+pub record IsPartyAt (r : PlainRecording) (o : OrderData) (from : ℕ) (found : ℕ × Party) : Type 0 where
+  pub above : from ≤ found.0
+  pub below : found.0 < addresses
+  pub party : party_at r o (pair_numbered found.0) ≡ Some found.1
+
+-- THE NEXT PARTY from a number on: the first there is, or none at all
+abbrev pub IsNextParty : PlainRecording → OrderData → ℕ → Option (ℕ × Party) → Type 0
+IsNextParty r o from None = AreNoParties r o from addresses
+IsNextParty r o from (Some found) = IsPartyAt r o from found × AreNoParties r o from found.0

@@ -1,0 +1,246 @@
+//! What is told of an order at each of its parties.
+
+ghost use Rattle.std.specs.Prelude.{◌≡◌, map, option_and_then, IfOk};
+ghost use Rattle.exercise_review.specs.Order.{order_of};
+ghost use Rattle.exercise_review.specs.Word.{word_at};
+ghost use Rattle.exercise_review.specs.Outcome.{stamp_at, took_between, took, sends_told, receipts_of, outcome_here, outcome_outside, outcome_nowhere, outcome_at, outcomes_of};
+
+use crate::entries::{entry_at, entry_count};
+use crate::fate::{Fate, fate_of};
+use crate::order::{Gets, Order};
+use crate::parties::parties_of;
+use crate::party::{Outsider, Party, ToldFrom, first_copy};
+use crate::question::count_below;
+use crate::reply::{News, Replies, change_of_order};
+use crate::word::{Word, telling, word_at};
+use exercise_findings::Findings;
+use exercise_model::{EntryView, ExerciseLog};
+use std::alloc::{AllocError, Global};
+
+/// What is told of an order at one of its parties, or of an order that has none. Each is `None`
+/// where it is not there, and where it stands in no log. Entries are numbers from 0.
+#[derive(Clone, Copy, PartialEq, Eq)]
+pub struct Outcome {
+    /// The party; `None` where the order has none.
+    pub party: Option<Party>,
+    /// How often the maker sent the order.
+    pub sends: Option<usize>,
+    /// How often the party received it.
+    pub receipts: Option<usize>,
+    /// The entry at which the party first received it.
+    pub got: Option<usize>,
+    /// What the party replied.
+    pub said: Option<Word>,
+    /// The entry of that reply: the first that settles the order, else the last.
+    pub answer: Option<usize>,
+    /// What the maker heard from the party.
+    pub heard: Option<Word>,
+    /// The entry of that: the first that settles the order, else the last.
+    pub news: Option<usize>,
+    /// How long it took from the head to the news, by the maker's clock; `None` too where that was
+    /// set back.
+    pub took: Option<u64>,
+    /// The entry of the first reply that changed something at the party.
+    pub change: Option<usize>,
+    /// What became of the order there.
+    pub fate: Fate,
+}
+
+/// The stamp of an entry, by the clock of its station.
+#[tactic(auto, unfolding(crate::specs::Outcome::stamp_at))]
+fn stamp_at<L: ExerciseLog>(findings: &Findings<'_, L>, entry: usize) -> Option<u64>
+    ensures { result ≡ stamp_at findings.now entry }
+{
+    match entry_at(findings, entry) {
+        Some(EntryView::Sent { stamp, .. } | EntryView::Received { stamp, .. }) => Some(stamp),
+        Some(EntryView::Told { .. }) | None => None,
+    }
+}
+
+/// How long it took from an entry to another by the clock of their station, unless it was set back.
+fn took_between<L: ExerciseLog>(
+    findings: &Findings<'_, L>,
+    first: usize,
+    last: usize,
+) -> Option<u64>
+    ensures { result ≡ took_between findings.now first last }
+{
+    match (stamp_at(findings, first), stamp_at(findings, last)) {
+        (Some(from), Some(until)) if from <= until => Some(until - from),
+        _ => None,
+    }
+}
+
+/// How long an order took, from its head to the entry of its news.
+fn took<L: ExerciseLog>(
+    findings: &Findings<'_, L>,
+    order: &Order<'_>,
+    news: Option<usize>,
+) -> Option<u64>
+    ensures { result ≡ took findings.now (order_of order.now) news }
+{
+    match news {
+        Some(entry) => took_between(findings, order.head, entry),
+        None => None,
+    }
+}
+
+/// What an entry says that an answer stands at, if there is one.
+fn word_of<L: ExerciseLog>(findings: &Findings<'_, L>, entry: Option<usize>) -> Option<Word>
+    ensures { result ≡ option_and_then (word_at findings.now) entry }
+{
+    match entry {
+        Some(entry) => word_at(findings, entry),
+        None => None,
+    }
+}
+
+/// How often an order was sent, if its maker is recorded.
+fn sends_told<L: ExerciseLog>(findings: &Findings<'_, L>, order: &Order<'_>) -> Option<usize>
+    ensures { result ≡ sends_told findings.now (order_of order.now) }
+{
+    match order.maker {
+        Some(_) => Some(order.sends(findings)),
+        None => None,
+    }
+}
+
+/// How often a station received an order.
+fn receipts_of<L: ExerciseLog>(findings: &Findings<'_, L>, order: &Order<'_>, station: u16) -> usize
+    ensures { result ≡ receipts_of findings.now (order_of order.now) station }
+{
+    let gets = Gets {
+        findings,
+        station,
+        request: &order.request,
+    };
+    count_below(&gets, entry_count(findings))
+}
+
+/// What is told of an order at a recorded station.
+fn outcome_here<L: ExerciseLog>(
+    findings: &Findings<'_, L>,
+    order: &Order<'_>,
+    station: u16,
+) -> Outcome
+    ensures { result ≡ outcome_here findings.now (order_of order.now) station }
+{
+    let replies = Replies {
+        findings,
+        order,
+        station,
+    };
+    let answer = telling(findings, &replies);
+    let news = telling(findings, &News { replies: &replies });
+    Outcome {
+        party: Some(Party::Station(station)),
+        sends: sends_told(findings, order),
+        receipts: Some(receipts_of(findings, order, station)),
+        got: first_copy(findings, order, station),
+        said: word_of(findings, answer),
+        answer,
+        heard: word_of(findings, news),
+        news,
+        took: took(findings, order, news),
+        change: change_of_order(findings, order, station),
+        fate: fate_of(findings, order, Party::Station(station)),
+    }
+}
+
+/// What is told of an order at an address that nobody recorded.
+fn outcome_outside<L: ExerciseLog>(
+    findings: &Findings<'_, L>,
+    order: &Order<'_>,
+    address: Outsider,
+) -> Outcome
+    ensures { result ≡ outcome_outside findings.now (order_of order.now) address }
+{
+    let told = ToldFrom {
+        findings,
+        order,
+        from: address,
+    };
+    let news = telling(findings, &told);
+    Outcome {
+        party: Some(Party::Outside(address)),
+        sends: sends_told(findings, order),
+        receipts: None,
+        got: None,
+        said: None,
+        answer: None,
+        heard: word_of(findings, news),
+        news,
+        took: took(findings, order, news),
+        change: None,
+        fate: fate_of(findings, order, Party::Outside(address)),
+    }
+}
+
+/// What is told of an order that has no party.
+fn outcome_nowhere<L: ExerciseLog>(findings: &Findings<'_, L>, order: &Order<'_>) -> Outcome
+    ensures { result ≡ outcome_nowhere findings.now (order_of order.now) }
+{
+    Outcome {
+        party: None,
+        sends: sends_told(findings, order),
+        receipts: None,
+        got: None,
+        said: None,
+        answer: None,
+        heard: None,
+        news: None,
+        took: None,
+        change: None,
+        fate: Fate::Nobody,
+    }
+}
+
+/// What is told of an order at a party.
+#[tactic(auto, unfolding(crate::specs::Outcome::outcome_at))]
+fn outcome_at<L: ExerciseLog>(
+    findings: &Findings<'_, L>,
+    order: &Order<'_>,
+    party: Party,
+) -> Outcome
+    ensures { result ≡ outcome_at findings.now (order_of order.now) party }
+{
+    match party {
+        Party::Station(station) => outcome_here(findings, order, station),
+        Party::Outside(address) => outcome_outside(findings, order, address),
+    }
+}
+
+/// What is told of an order at these parties, one after the other.
+fn outcomes_at<L: ExerciseLog>(
+    alloc: Global,
+    findings: &Findings<'_, L>,
+    order: &Order<'_>,
+    parties: &[Party],
+) -> Result<Vec<Outcome>, AllocError>
+    ensures { IfOk result (λ outcomes. outcomes.items ≡ map (outcome_at findings.now (order_of order.now)) parties.now) }
+{
+    let mut outcomes = Vec::with_capacity(alloc, parties.len())?;
+    for party in parties {
+        outcomes.push(outcome_at(findings, order, *party))?;
+    }
+    Ok(outcomes)
+}
+
+/// What became of an order: what is told of it at each of its parties, by rising addresses, or once
+/// where it has none.
+#[tactic(auto, unfolding(crate::specs::Outcome::outcomes_of))]
+pub fn outcomes_of<L: ExerciseLog>(
+    alloc: Global,
+    findings: &Findings<'_, L>,
+    order: &Order<'_>,
+) -> Result<Vec<Outcome>, AllocError>
+    ensures { IfOk result (λ outcomes. outcomes.items ≡ outcomes_of findings.now (order_of order.now)) }
+{
+    let parties = parties_of(alloc, findings, order)?;
+    if parties.is_empty() {
+        let mut outcomes = Vec::new(alloc);
+        outcomes.push(outcome_nowhere(findings, order))?;
+        return Ok(outcomes);
+    }
+    outcomes_at(alloc, findings, order, &parties)
+}

@@ -1,0 +1,203 @@
+//! The parties of an order, one after the other by rising addresses.
+
+ghost use Rattle.std.specs.Prelude.{◌≡◌, ◌<◌, ◌+◌, length, option_map, IfOk, IfSome};
+ghost use Rattle.dis_records.specs.Entity.{pair_of};
+ghost use Rattle.exercise_model.specs.History.{station_at};
+ghost use Rattle.exercise_review.specs.Order.{order_of};
+ghost use Rattle.exercise_review.specs.Party.{pair_at};
+ghost use Rattle.exercise_review.specs.Parties.{number_of, addresses, maker_address, party_address, party_at, parties_of, number_heard, candidate_at, nearer, IsNextParty};
+
+use crate::entries::{entry_count, got_by};
+use crate::order::Order;
+use crate::party::{At, Outsider, Party, is_party, is_party_outside};
+use crate::question::first_below;
+use dis_records::{Address, EntityId};
+use exercise_findings::Findings;
+use exercise_model::ExerciseLog;
+use std::alloc::{AllocError, Global};
+
+/// The site and the application of an address.
+fn parts_of(address: Address) -> Outsider
+    ensures { pair_at result ≡ address }
+{
+    Outsider {
+        site: address.site(),
+        application: address.application(),
+    }
+}
+
+/// The site and the application of an identifier.
+fn parts_in(id: EntityId) -> Outsider
+    ensures { pair_at result ≡ pair_of id }
+{
+    Outsider {
+        site: id.site,
+        application: id.application,
+    }
+}
+
+/// The site and the application of a recorded station; 0 and 0 past the last.
+fn station_parts<L: ExerciseLog>(findings: &Findings<'_, L>, station: u16) -> Outsider
+    ensures { pair_at result ≡ (station_at findings.now station).address }
+{
+    let log = findings.log();
+    let station = usize::from(station);
+    if station < log.station_count() {
+        parts_of(log.station(station).address())
+    } else {
+        Outsider {
+            site: 0,
+            application: 0,
+        }
+    }
+}
+
+impl Order<'_> {
+    /// The site and the application of whoever made it: those of the recorded station, or those that
+    /// it comes from.
+    pub fn from<L: ExerciseLog>(&self, findings: &Findings<'_, L>) -> Outsider
+        ensures { pair_at result ≡ maker_address findings.now (order_of self.now) }
+    {
+        match self.maker {
+            Some(station) => station_parts(findings, station),
+            None => parts_in(self.request.origin),
+        }
+    }
+}
+
+impl Party {
+    /// Its site and its application; 0 and 0 of a station past the last.
+    pub fn address<L: ExerciseLog>(self, findings: &Findings<'_, L>) -> Outsider
+        ensures { pair_at result ≡ party_address findings.now self }
+    {
+        match self {
+            Party::Station(station) => station_parts(findings, station),
+            Party::Outside(address) => address,
+        }
+    }
+}
+
+impl Outsider {
+    /// The number that the address has among all, by which they rise.
+    fn number(self) -> u64
+        ensures number { result ≡ number_of (pair_at self) }
+        ensures within { result < addresses }
+    {
+        u64::from(self.site) * 65_536 + u64::from(self.application)
+    }
+}
+
+/// The party at an address, if there is one.
+#[tactic(auto, unfolding(crate::specs::Parties::party_at))]
+fn party_at<L: ExerciseLog>(
+    findings: &Findings<'_, L>,
+    order: &Order<'_>,
+    address: Outsider,
+) -> Option<Party>
+    ensures { result ≡ party_at findings.now (order_of order.now) (pair_at address) }
+{
+    let at = At { findings, address };
+    match first_below(&at, findings.log().station_count()) {
+        Some(station) if is_party(findings, order, station as u16) => {
+            Some(Party::Station(station as u16))
+        }
+        None if is_party_outside(findings, order, address) => Some(Party::Outside(address)),
+        _ => None,
+    }
+}
+
+/// The address from which the maker of an order received something at an entry.
+fn heard_from<L: ExerciseLog>(
+    findings: &Findings<'_, L>,
+    order: &Order<'_>,
+    entry: usize,
+) -> Option<Outsider>
+    ensures { option_map (λ a. number_of (pair_at a)) result ≡ number_heard findings.now (order_of order.now) entry }
+{
+    match got_by(findings, order.maker?, entry) {
+        Some(pdu) => Some(parts_in(pdu.origin)),
+        None => None,
+    }
+}
+
+/// The address at a place among those where a party may be: first those of the recorded stations,
+/// then that of the target, then for each entry that from which the maker received something there.
+fn candidate<L: ExerciseLog>(
+    findings: &Findings<'_, L>,
+    order: &Order<'_>,
+    place: usize,
+) -> Option<Outsider>
+    ensures { option_map (λ a. number_of (pair_at a)) result ≡ candidate_at findings.now (order_of order.now) place }
+{
+    let stations = findings.log().station_count();
+    if place < stations {
+        Some(station_parts(findings, place as u16))
+    } else if place == stations {
+        Some(parts_in(order.request.target))
+    } else {
+        heard_from(findings, order, place - stations - 1)
+    }
+}
+
+/// The nearer of two next parties: the one so far, or what stands at an address, where that is a
+/// party and its number is no less than the first.
+fn nearer<L: ExerciseLog>(
+    findings: &Findings<'_, L>,
+    order: &Order<'_>,
+    first: u64,
+    next: Option<(u64, Party)>,
+    address: Outsider,
+) -> Option<(u64, Party)>
+    ensures next { result ≡ nearer findings.now (order_of order.now) first next (number_of (pair_at address)) }
+    ensures within { number_of (pair_at address) < addresses }
+{
+    let number = address.number();
+    if number < first {
+        return next;
+    }
+    match next {
+        Some((best, _)) if best <= number => return next,
+        _ => {}
+    }
+    match party_at(findings, order, address) {
+        Some(party) => Some((number, party)),
+        None => next,
+    }
+}
+
+/// The next party of an order from a number of addresses on, with its number.
+fn next_party<L: ExerciseLog>(
+    findings: &Findings<'_, L>,
+    order: &Order<'_>,
+    first: u64,
+) -> Option<(u64, Party)>
+    ensures { IsNextParty findings.now (order_of order.now) first result }
+{
+    let mut next = None;
+    let places = findings.log().station_count() + 1 + entry_count(findings);
+    for place in 0..places {
+        if let Some(address) = candidate(findings, order, place) {
+            next = nearer(findings, order, first, next, address);
+        }
+    }
+    next
+}
+
+/// The parties of an order, by rising addresses: the recorded stations that it is for, and whoever
+/// else took part and was not recorded. Each is looked for over the whole log.
+#[tactic(auto, unfolding(crate::specs::Parties::parties_of))]
+pub fn parties_of<L: ExerciseLog>(
+    alloc: Global,
+    findings: &Findings<'_, L>,
+    order: &Order<'_>,
+) -> Result<Vec<Party>, AllocError>
+    ensures { IfOk result (λ parties. parties.items ≡ parties_of findings.now (order_of order.now)) }
+{
+    let mut parties = Vec::new(alloc);
+    let mut first = 0;
+    while let Some((number, party)) = next_party(findings, order, first) {
+        parties.push(party)?;
+        first = number + 1;
+    }
+    Ok(parties)
+}

@@ -156,3 +156,119 @@ fn each_entity_lived_as_long_as_the_changes_let_it(rt: HostRuntime) {
     assert!(rt; has_lived(rt.alloc(), 2, 9, &nine));
     assert!(rt; has_lived(rt.alloc(), 0, 7, &[]));
 }
+
+/// What is told of an order at a recorded station, where only the party had it: how often it was
+/// sent and received, the entry at which it was first received, and its fate.
+fn told(station: u16, sends: usize, receipts: usize, got: Option<usize>, fate: Fate) -> Outcome {
+    Outcome {
+        party: Some(Party::Station(station)),
+        sends: Some(sends),
+        receipts: Some(receipts),
+        got,
+        said: None,
+        answer: None,
+        heard: None,
+        news: None,
+        took: None,
+        change: None,
+        fate,
+    }
+}
+
+/// The same with the reply, which changed something at its entry where `is_change`, and the entry of
+/// the news with how long it took.
+fn replied(
+    of: Outcome,
+    word: Word,
+    answer: usize,
+    is_change: bool,
+    news: Option<(usize, u64)>,
+) -> Outcome {
+    Outcome {
+        said: Some(word),
+        answer: Some(answer),
+        heard: news.map(|_| word),
+        news: news.map(|(entry, _)| entry),
+        took: news.map(|(_, took)| took),
+        change: if is_change { Some(answer) } else { None },
+        ..of
+    }
+}
+
+/// Whether an order is one of the manager 1:1, and just this is told of it at its parties.
+fn has_become(alloc: Global, entry: usize, wanted: &[Outcome]) -> bool {
+    let Ok(log) = RecordingView::over(alloc, &LOSSES) else {
+        return false;
+    };
+    let Ok(findings) = Findings::of(alloc, &log) else {
+        return false;
+    };
+    let Some(order) = order_at(&findings, entry) else {
+        return false;
+    };
+    let Ok(outcomes) = outcomes_of(alloc, &findings, &order) else {
+        return false;
+    };
+    let manager = Outsider {
+        site: 1,
+        application: 1,
+    };
+    order.from(&findings) == manager
+        && outcomes.len() == wanted.len()
+        && outcomes
+            .iter()
+            .zip(wanted.iter())
+            .all(|(outcome, want)| *outcome == *want)
+}
+
+#[test]
+fn all_is_told_that_the_two_logs_have(rt: HostRuntime) {
+    use Fate::{Done, Lost, Refused, Unanswered, Unheard};
+    use Word::{Able, Unable};
+    let created = replied(told(1, 1, 1, Some(1), Done), Able, 2, true, Some((3, 2)));
+    let again = replied(told(2, 2, 1, Some(6), Done), Able, 7, true, Some((8, 12)));
+    let started = replied(told(1, 1, 1, Some(10), Done), Able, 12, true, Some((14, 3)));
+    let unheard = replied(told(2, 1, 1, Some(11), Unheard), Able, 13, true, None);
+    let refused = replied(
+        told(1, 1, 1, Some(17), Refused),
+        Unable,
+        18,
+        false,
+        Some((19, 2)),
+    );
+    let stopped = replied(told(1, 1, 1, Some(25), Done), Able, 26, true, Some((27, 2)));
+    assert!(rt; has_become(rt.alloc(), 0, &[created]));
+    assert!(rt; has_become(rt.alloc(), 4, &[again]));
+    assert!(rt; has_become(rt.alloc(), 9, &[started, unheard]));
+    assert!(rt; has_become(rt.alloc(), 16, &[refused]));
+    assert!(rt; has_become(rt.alloc(), 20, &[told(2, 1, 1, Some(21), Unanswered)]));
+    assert!(rt; has_become(rt.alloc(), 24, &[stopped]));
+    assert!(rt; has_become(rt.alloc(), 29, &[told(2, 1, 0, None, Lost)]));
+}
+
+/// The site and the application of each party of an order.
+fn are_parties(alloc: Global, entry: usize, wanted: &[(u16, u16)]) -> bool {
+    let Ok(log) = RecordingView::over(alloc, &LOSSES) else {
+        return false;
+    };
+    let Ok(findings) = Findings::of(alloc, &log) else {
+        return false;
+    };
+    let Some(order) = order_at(&findings, entry) else {
+        return false;
+    };
+    let Ok(parties) = parties_of(alloc, &findings, &order) else {
+        return false;
+    };
+    parties.len() == wanted.len()
+        && parties.iter().zip(wanted.iter()).all(|(party, &(site, application))| party.address(
+            &findings,
+        ) == Outsider { site, application })
+}
+
+#[test]
+fn parties_stand_by_rising_addresses(rt: HostRuntime) {
+    assert!(rt; are_parties(rt.alloc(), 0, &[(2, 3)]));
+    assert!(rt; are_parties(rt.alloc(), 9, &[(2, 3), (2, 4)]));
+    assert!(rt; are_parties(rt.alloc(), 29, &[(2, 4)]));
+}

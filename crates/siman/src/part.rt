@@ -127,8 +127,31 @@ fn mode_of(stands: Option<&Metadata>) -> u32 {
     }
 }
 
+/// What the user may do with a file that stands, if one does.
+fn permissions_of(stands: Option<&Metadata>) -> Option<Permissions> {
+    match stands {
+        Some(known) => Some(known.permissions()),
+        None => None,
+    }
+}
+
+/// Makes the file of a part, in the place of one that was left. It has the owner of the file that
+/// stands, where the user may give it.
+fn make_part(
+    rt: &HostRuntime,
+    path: &str,
+    stands: Option<&Metadata>,
+    opened: Option<Identity>,
+) -> io::Result<File> {
+    remove_left(rt, path, opened)?;
+    let file = create_locked(rt, path, mode_of(stands))?;
+    if let Some(known) = stands {
+        let _ = chown(rt, path, Some(known.uid()), Some(known.gid()));
+    }
+    Ok(file)
+}
+
 /// Begins the file that is to take a name, in the place of the one that stands there, if one does.
-/// It has the owner of that, where the user may give it.
 pub(crate) fn begin_part(
     rt: &HostRuntime,
     name: &str,
@@ -137,13 +160,8 @@ pub(crate) fn begin_part(
 ) -> io::Result<(File, Part)> {
     let name = path_of(rt, name, stands)?;
     let path = format!(in rt.alloc(); "{name}.part")?;
-    remove_left(rt, &path, opened)?;
-    let file = create_locked(rt, &path, mode_of(stands))?;
-    let mut mode = None;
-    if let Some(known) = stands {
-        let _ = chown(rt, path.as_str(), Some(known.uid()), Some(known.gid()));
-        mode = Some(known.permissions());
-    }
+    let file = make_part(rt, &path, stands, opened)?;
+    let mode = permissions_of(stands);
     Ok((file, Part { path, name, mode }))
 }
 

@@ -35,7 +35,7 @@ two_places [] (y ∷ b) c d v w e = inr (inr (b, sym (tail_same v y c (b ++ w �
 two_places (x ∷ a) [] c d v w e = inl (a, tail_same x w (a ++ v ∷ c) d e)
 two_places (x ∷ a) (y ∷ b) c d v w e = two_places a b c d v w (tail_same x y (a ++ v ∷ c) (b ++ w ∷ d) e)
 
-in_order : (h c d : History) (v w : Event) → Contains h c v → Contains h d w → Contains d c v ⊎ (((c ≡ d) × (v ≡ w)) ⊎ Contains c d w)
+pub in_order : (h c d : History) (v w : Event) → Contains h c v → Contains h d w → Contains d c v ⊎ (((c ≡ d) × (v ≡ w)) ⊎ Contains c d w)
 in_order h c d v w one other = two_places one.0 other.0 c d v w (one.1 ∙ sym other.1)
 
 -- keys with the same five numbers are one
@@ -96,7 +96,7 @@ acknowledged_on x k v log whole beginning sends =
     (list_any-append (sends_under x able k) beginning.0 (v ∷ log) ∙ or_right _ _ (or_left _ _ sends))
 
 -- the entry of an event of a station
-own_sent : (r : PlainRecording) (t n stamp : ℕ) (b : List ℕ) → slice_get r.entries n ≡ Some (Sent t stamp b) → own_event r t n ≡ Some (Send t b)
+pub own_sent : (r : PlainRecording) (t n stamp : ℕ) (b : List ℕ) → slice_get r.entries n ≡ Some (Sent t stamp b) → own_event r t n ≡ Some (Send t b)
 unfolding own_event
 own_sent r t n stamp b at =
     ap (option_and_then (λ e. event_at t (event_of e))) at ∙ ap (λ c. cond c (Some (Send t b)) None) (eq-eqb t t refl)

@@ -16,5 +16,6 @@ mod Heard
 mod FirstAnswers
 mod Carrying
 mod Knowledge
+mod Standing
 mod Conversions
 pub mod Offered

@@ -11,4 +11,5 @@ pub use Rattle.exercise_model.proofs.Knowledge.{entries_known}
 pub use Rattle.exercise_model.proofs.Onward.{log_before-more, log_before-none, log_steps, past-append, past-snoc}
 pub use Rattle.exercise_model.proofs.Sentences.{explained_holds, had_where_allowed, own_address}
 pub use Rattle.exercise_model.proofs.Places.{IsFirst, first_found}
+pub use Rattle.exercise_model.proofs.Standing.{always_as_said}
 pub use Rattle.exercise_model.proofs.Wholes.{first_is, sender_found, taken_entry}

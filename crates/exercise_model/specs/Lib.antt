@@ -18,3 +18,4 @@ pub mod Pairing
 pub mod Answered
 pub mod Knowledge
 pub mod Conversion
+pub mod Alike

@@ -5,8 +5,8 @@
 //! on [`ExerciseLog`], whose meaning is one plain recording (a setting and its entries), and on the
 //! definitions in `specs/`: a datagram's meaning, events and histories, the request that an answer
 //! takes up, changes and states, why an event may not happen, and runs. The laws of runs are
-//! [`what_explains_holds`], [`logs_suffice`], [`accounts_are_whole`], [`changes_are_known`],
-//! [`allowed_stays_allowed`] and [`ends_are_one`]; that of a first answer is
+//! [`what_explains_holds`], [`logs_suffice`], [`accounts_are_whole`], [`entries_stand`],
+//! [`changes_are_known`], [`allowed_stays_allowed`] and [`ends_are_one`]; that of a first answer is
 //! [`first_answers_change_states`], that of the forms of a recording [`forms_decide_who_is_heard`], and
 //! that of a recording that is carried over to the second format [`conversion_keeps_runs`]. Only
 //! [`Recording::push`] and [`meaning_of`] take memory.
@@ -34,8 +34,8 @@ pub use fault::LogFault;
 pub use form::Form;
 pub use laws::{
     accounts_are_whole, allowed_stays_allowed, changes_are_known, conversion_keeps_runs,
-    ends_are_one, first_answers_change_states, forms_decide_who_is_heard, logs_suffice,
-    what_explains_holds,
+    ends_are_one, entries_stand, first_answers_change_states, forms_decide_who_is_heard,
+    logs_suffice, what_explains_holds,
 };
 pub use log::ExerciseLog;
 pub use meaning::{meaning_of, meaning_view};

@@ -1,5 +1,5 @@
 -- The lemmas on good steps and courses that this crate offers to the search above; its other pages of proofs are its own.
-pub use Rattle.exercise_check.proofs.Conversions.{good_alike}
+pub use Rattle.exercise_check.proofs.Conversions.{good_alike, refused_alike}
 pub use Rattle.exercise_check.proofs.Courses.{from_entry, next_lengths}
 pub use Rattle.exercise_check.proofs.Explained.{good_covers, good_explains, good_few, good_sound}
 pub use Rattle.exercise_check.proofs.Goodness.{good_logs}

@@ -3,11 +3,12 @@
 ghost use Rattle.std.specs.Prelude.{◌≡◌, ◌≢◌, length, OnOk, IfOk, IfNone, IfErr, Err};
 ghost use Rattle.exercise_model.specs.Run.{Explains};
 ghost use Rattle.exercise_model.specs.Headline.{Holds};
+ghost use Rattle.exercise_model.specs.Alike.{IsAlwaysAsSaid};
 ghost use Rattle.exercise_check.specs.Order.{order_of};
 ghost use Rattle.exercise_check.specs.Goodness.{step_cause, IsGood, Refuses};
 ghost use Rattle.exercise_check.specs.Course.{begun, with_step};
 ghost use Rattle.exercise_findings.specs.Account.{TellsAccount};
-ghost use Rattle.exercise_check.specs.Checked.{TellsKnowledge};
+ghost use Rattle.exercise_check.specs.Checked.{TellsKnowledge, TellsPairs};
 
 use crate::certificate::{Certificate, Step};
 use crate::course::{Course, Progress};
@@ -107,7 +108,9 @@ fn take_steps<L: ExerciseLog>(
 
 /// Checks a certificate against the logs of an exercise. A yes says that the order that it names is
 /// a run, and that this run explains the recording: each station did exactly what its log holds. Each
-/// Able received from a recorded station then tells what its sender had done before: `knowledge`.
+/// Able received from a recorded station then tells what its sender had done before: `knowledge`;
+/// and what the yes tells is so in every run that explains the recording: `said`. A good certificate
+/// is refused for want of memory alone: `only`.
 /// A no names the first bad step and the first cause that holds there: for the step's entry 2 and
 /// 3, then 5 to 13 for its event, then 4 for its link; where the numbers of steps and entries
 /// differ, which is tested first, it is step 0 and cause 1. It is refused with Memory where there
@@ -123,7 +126,10 @@ pub fn check<L: ExerciseLog>(
     ensures holds { let r = L.recording log.now in OnOk result (Holds r (order_of r certificate.now.steps.items)) }
     ensures account { IfOk result (λ checked. TellsAccount (L.recording log.now) checked) }
     ensures knowledge { let r = L.recording log.now in IfOk result (λ checked. TellsKnowledge r (order_of r certificate.now.steps.items) checked) }
+    ensures answers { let r = L.recording log.now in IfOk result (λ checked. TellsPairs r (order_of r certificate.now.steps.items) checked) }
+    ensures said { OnOk result (IsAlwaysAsSaid (L.recording log.now)) }
     ensures bad { IfErr result (Refuses (L.recording log.now) certificate.now.steps.items) }
+    ensures only { IsGood (L.recording log.now) certificate.now.steps.items → IfErr result (λ fault. fault ≡ CheckFault.Memory) }
     ensures count { length certificate.now.steps.items ≢ length (L.recording log.now).entries → result ≡ Err (CheckFault.Bad 0 Cause.CountDiffers) }
 {
     let steps = certificate.steps.as_slice();

@@ -1,7 +1,7 @@
 use Rattle.std.proofs.Common.{rules, arith, ◌≡◌, List, Result, Ok, Err, IfErr, sym, subst}
 use Rattle.std.specs.Result.{IsErrAnd}
 use Rattle.std.proofs.lemmas.Grind.{common_steps}
-use Rattle.exercise_model.proofs.Offered.{explained_holds}
+use Rattle.exercise_model.proofs.Offered.{always_as_said, explained_holds}
 use Rattle.exercise_check.specs.declared.certificate.Step.{Step}
 use Rattle.exercise_check.specs.declared.checker.CheckFault.{CheckFault}
 use Rattle.exercise_check.specs.Course.{CourseData}
@@ -9,7 +9,7 @@ use Rattle.exercise_check.specs.Order.{order_of}
 use Rattle.exercise_check.specs.Goodness.{IsGood, Refuses}
 use Rattle.exercise_findings.specs.Account.{TellsAccount}
 use Rattle.exercise_check.proofs.Explained.{good_explains}
-use Rattle.exercise_check.proofs.Known.{account_known}
+use Rattle.exercise_check.proofs.Known.{account_known, account_paired}
 use Rattle.exercise_check.proofs.checker.check.Goals as goal
 
 pub returns-clause-explains : goal.returns-clause-explains
@@ -33,6 +33,17 @@ returns-clause-knowledge g c =
     let account : TellsAccount r c.in_ok-into_account.field-0 = first_of (search rules, grind (arith, common_steps)) in
     let limits = c.entry_count-entries.ensures.limits in
     account_known r (order_of r steps) _ limits (good_explains r limits steps good) account
+
+pub returns-clause-answers : goal.returns-clause-answers
+returns-clause-answers g c =
+    let r = g.L.ExerciseLog.recording c.args.log.now in
+    let steps = c.args.certificate.now.steps.items in
+    let good : IsGood r steps = first_of (search rules, grind (arith, common_steps)) in
+    let account : TellsAccount r c.in_ok-into_account.field-0 = first_of (search rules, grind (arith, common_steps)) in
+    account_paired r (order_of r steps) _ (good_explains r c.entry_count-entries.ensures.limits steps good) account
+
+pub returns-clause-said : goal.returns-clause-said
+returns-clause-said g c = λ h explains. always_as_said (g.L.ExerciseLog.recording c.args.log.now) h explains
 
 -- what is passed on is refused
 passed_on : {X : Type 0} (P : CheckFault → Type 0) (result : Result X CheckFault) (fault : CheckFault) → IsErrAnd result (λ e. e ≡ fault) → P fault

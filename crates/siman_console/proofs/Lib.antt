@@ -12,3 +12,4 @@ pub mod Trials
 pub mod Tellings
 pub mod LineReadings
 pub mod Judged
+mod Conversions

@@ -7,6 +7,7 @@ use Rattle.exercise_model.specs.Numbers.{cause_number, cause_text}
 use Rattle.exercise_model.specs.Recording.{PlainRecording}
 use Rattle.exercise_model.specs.History.{station_at}
 use Rattle.exercise_model.specs.Headline.{Holds}
+use Rattle.exercise_model.specs.Alike.{IsAlwaysAsSaid}
 use Rattle.exercise_recording.specs.declared.format_fault.FormatFault.{FormatFault}
 use Rattle.exercise_recording.specs.declared.format_fault.RecordingFault.TheVariants as recordings
 use Rattle.exercise_check.specs.declared.certificate.Step.{Step}
@@ -49,6 +50,10 @@ block_line r b = block_at (station_at r b.station).address b
 abbrev pub blocked_text : PlainRecording → List Block → List ℕ
 blocked_text r blocks = lines_text (counted (codes "blocked") (codes "stations") (length blocks) ∷ map (block_line r) blocks)
 
+-- The text is the blocked list of a recording that no run explains.
+abbrev pub IsListOf : PlainRecording → (text : List ℕ) → Type 0
+IsListOf r text = (blocks : List Block) × IsBlocked r blocks × (text ≡ blocked_text r blocks)
+
 -- ---- what is found
 
 -- SOME ORDER EXPLAINS what was read, and these are the steps of its certificate
@@ -60,6 +65,8 @@ pub record FindsOrder (recorded : Recorded) (steps : List Step) : Type 0 where
   pub good : IsGood recording steps
   -- the order that they name is a run that explains the recording: the headline's sentences hold of it
   pub holds : Holds recording (order_of recording steps)
+  -- and what the recording says is so in every run that explains it: the same pairs, the same states at the end
+  pub said : IsAlwaysAsSaid recording
 
 -- NO ORDER EXPLAINS what was read, and this is its blocked list
 pub record FindsNone (recorded : Recorded) (text : List ℕ) : Type 0 where

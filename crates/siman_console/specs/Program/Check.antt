@@ -7,6 +7,7 @@ use Rattle.exercise_recording.specs.declared.format_fault.RecordingFault.{Record
 use Rattle.exercise_recording.specs.declared.format_fault.RecordingFault.TheVariants as recordings
 use Rattle.exercise_model.specs.Recording.{PlainRecording}
 use Rattle.exercise_model.specs.Headline.{Holds}
+use Rattle.exercise_model.specs.Alike.{IsAlwaysAsSaid}
 use Rattle.byte_files.specs.Writing.{WritesPart}
 use Rattle.exercise_check.specs.declared.certificate.Step.{Step}
 use Rattle.exercise_check.specs.declared.certificate_fault.CertificateFormatFault.{CertificateFormatFault}
@@ -14,7 +15,7 @@ use Rattle.exercise_check.specs.declared.certificate_fault.CertificateFault.{Cer
 use Rattle.exercise_check.specs.declared.certificate_fault.CertificateFault.TheVariants as certificates
 use Rattle.exercise_check.specs.declared.checker.CheckFault.TheVariants.{Bad}
 use Rattle.exercise_findings.specs.Account.{AccountData, TellsAccount}
-use Rattle.exercise_check.specs.Checked.{TellsKnowledge}
+use Rattle.exercise_check.specs.Checked.{TellsKnowledge, TellsPairs}
 use Rattle.exercise_check.specs.Order.{order_of}
 use Rattle.exercise_check.specs.Goodness.{IsGood, Refuses}
 use Rattle.siman_console.specs.declared.files_fault.FilesFault.{FilesFault}
@@ -47,8 +48,10 @@ pub record SaysYes (recorded : Recorded) (certified : Certified) (old new : Opti
   pub good : IsGood recording steps
   -- the order that it names is a run that explains the recording: the headline's sentences hold of it
   pub holds : Holds recording (order_of recording steps)
-  -- what it tells of the changes behind Ables is what the recording says, and each is known in that run
-  pub knows : (checked : AccountData) × TellsAccount recording checked × TellsKnowledge recording (order_of recording steps) checked
+  -- what it tells of answers and of the changes behind Ables is what the recording says; each pair is the request that is taken up in that run, and each change is known in it
+  pub knows : (checked : AccountData) × TellsAccount recording checked × TellsPairs recording (order_of recording steps) checked × TellsKnowledge recording (order_of recording steps) checked
+  -- and what it tells is so in every run that explains the recording: the same pairs, the same states at the end
+  pub said : IsAlwaysAsSaid recording
   -- the report of the recording is out, behind what was there
   pub out : Appends old new (report_text recording)
 

@@ -21,7 +21,7 @@ use crate::program::show::LARGEST_RECORDING;
 use byte_files::put;
 use exercise_audit::{Audit, Block, audit};
 use exercise_check::{Certificate, good_steps_have_no_cause, write_certificate};
-use exercise_model::{ExerciseLog, what_explains_holds};
+use exercise_model::{ExerciseLog, entries_stand, what_explains_holds};
 use exercise_recording::{RecordingView, fetch_recording};
 use siman_texts::{Field, Line, Spelling, Value, put_line};
 use std::alloc::{AllocError, Global};
@@ -122,6 +122,7 @@ fn order<L: ExerciseLog>(
 {
     good_steps_have_no_cause();
     what_explains_holds();
+    entries_stand();
     // There is a step for each entry.
     let steps = log.entry_count();
     Ok(Finding::Order(OrderTexts {

@@ -1,0 +1,22 @@
+//! Laws of the answers.
+
+ghost use Rattle.std.specs.Prelude.{◌≡◌, ◌↔◌, ℕ, List};
+ghost use Rattle.exercise_model.specs.declared.form.Form.TheVariants.{First};
+ghost use Rattle.exercise_model.specs.Recording.{PlainRecording};
+ghost use Rattle.exercise_model.specs.Conversion.{converted};
+ghost use Rattle.exercise_check.specs.declared.certificate.Step.{Step};
+ghost use Rattle.exercise_audit.specs.declared.blocks.Block.{Block};
+ghost use Rattle.siman_console.specs.Report.{report_text};
+ghost use Rattle.siman_console.specs.Program.Check.{IsDue};
+ghost use Rattle.siman_console.specs.Program.Audit.{blocked_text, IsListOf};
+
+/// The law of conversion: of a recording and its conversion the report is the same text (`report`),
+/// and so is each blocked list (`blocked`); what `check` is to say of one of the first form with some
+/// certificate it is to say of its conversion with that certificate (`checked`), and a text is the
+/// blocked list of the one exactly where it is that of the other (`listed`).
+pub fn conversion_keeps_answers()
+    ensures report { (r : PlainRecording) → report_text (converted r) ≡ report_text r }
+    ensures blocked { (r : PlainRecording) (blocks : List Block) → blocked_text (converted r) blocks ≡ blocked_text r blocks }
+    ensures checked { (r : PlainRecording) (steps : List Step) (text : List ℕ) → r.setting.form ≡ First → IsDue r steps text ↔ IsDue (converted r) steps text }
+    ensures listed { (r : PlainRecording) (text : List ℕ) → r.setting.form ≡ First → IsListOf r text ↔ IsListOf (converted r) text }
+{}

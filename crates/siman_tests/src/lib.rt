@@ -10,6 +10,8 @@ mod certificates;
 #[cfg(test)]
 mod faults;
 #[cfg(test)]
+mod joining;
+#[cfg(test)]
 mod lines;
 #[cfg(test)]
 mod managers;

@@ -88,9 +88,25 @@ fn logs_stand_one_behind_the_other_and_stations_by_rising_addresses(rt: HostRunt
     let alloc = rt.alloc();
     let words: [&[u8]; 2] = [&SIMULATOR, &MANAGER];
     let others: [&[u8]; 2] = [&MANAGER, &SIMULATOR];
-    assert!(rt; give(alloc, FormWord::Unsaid, &words, told_of(Form::Open), &JOINED));
+    assert!(rt;
+        give(
+            alloc,
+            FormWord::Unsaid,
+            &words,
+            told_of(Form::Open),
+            &JOINED
+        )
+    );
     assert!(rt; give(alloc, FormWord::Open, &words, told_of(Form::Open), &JOINED));
-    assert!(rt; give(alloc, FormWord::Closed, &others, told_of(Form::Closed), &CLOSED));
+    assert!(rt;
+        give(
+            alloc,
+            FormWord::Closed,
+            &others,
+            told_of(Form::Closed),
+            &CLOSED
+        )
+    );
 }
 
 /// Whether both pieces, read one after the other, are written as this file.

@@ -9,3 +9,6 @@ mod Runs
 mod Heard
 mod Fates
 mod PartyPlaces
+mod Lists
+mod Spans
+mod Orders

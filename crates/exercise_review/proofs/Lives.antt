@@ -149,6 +149,10 @@ pub states_told : (r : PlainRecording) (s e n : ℕ) → n ≤ length r.entries 
 unfolding lives_of
 states_told r s e n within = (is_life r s e (length r.entries)).told n within
 
+-- the state that a life is in
+pub state_lived : (r : PlainRecording) (s e n : ℕ) → (life_before r s e n).state ≡ state_before r s e n
+state_lived r s e n = (is_life r s e n).state
+
 -- ---- as a loop makes it
 
 pub life_none : (r : PlainRecording) (s e : ℕ) → life_before r s e 0 ≡ record { ended = []; state = state_before r s e 0; since = None }

@@ -10,3 +10,9 @@ pub mod Outcome
 pub mod Life
 pub mod Missing
 pub mod InRuns
+pub mod Room
+pub mod Span
+pub mod Told
+pub mod Tally
+pub mod Review
+pub mod Filter

@@ -87,7 +87,7 @@ impl Fate {
     }
 
     /// Its name, as `done`.
-    fn name(self) -> &'static str
+    pub fn name(self) -> &'static str
         ensures { result.now ≡ fate_text self }
     {
         match self {

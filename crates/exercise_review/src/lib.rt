@@ -5,15 +5,19 @@
 //! whom it was for, and [`fate_of`] tells what became of it there by what its maker and its party
 //! logged ([`traces_of`]): done, refused, answered, pending, unheard, unanswered, lost or unknown.
 //! [`lives_of`] is when an entity was there and in which state, and [`missing_at`] the datagram that a
-//! log received and no log sent. The laws: [`fates_hold`] says what each fate means in every run that
-//! explains the recording, [`one_side_is_not_enough`] which fates no single log can tell, and
-//! [`lives_are_states`] that the stretches of a life are the states of the entity at each place.
+//! log received and no log sent. [`review_of`] tells all orders at their parties, the lives of all
+//! entities and the counts of both, within a limit of lines, and [`keeps`] which of it filters keep.
+//! The laws: [`fates_hold`] says what each fate means in every run that explains the recording,
+//! [`one_side_is_not_enough`] which fates no single log can tell, and [`lives_are_states`] that the
+//! stretches of a life are the states of the entity at each place.
 //!
 //! The bodies are the plain ones that follow the definitions: some go over the log for each entry.
 #![tactic(auto)]
 
 mod entries;
 mod fate;
+mod fault;
+mod filter;
 mod laws;
 mod life;
 mod missing;
@@ -23,10 +27,16 @@ mod parties;
 mod party;
 mod question;
 mod reply;
+mod review;
+mod span;
 mod stations;
+mod tally;
+mod told;
 mod word;
 
 pub use fate::{Fate, Traces, fate_of, traces_of};
+pub use fault::ReviewFault;
+pub use filter::{Filter, Filtered, keeps};
 pub use laws::{fates_hold, lives_are_states, one_side_is_not_enough};
 pub use life::{Stretch, lives_of};
 pub use missing::{Missing, missing_at};
@@ -35,4 +45,8 @@ pub use outcome::{Outcome, outcomes_of};
 pub use parties::parties_of;
 pub use party::{Outsider, Party, is_party, is_party_outside};
 pub use reply::change_of_order;
+pub use review::{MOST_LINES, Review, review_of};
+pub use span::{Span, spans_of};
+pub use tally::{FateCounts, StationCounts};
+pub use told::OrderAt;
 pub use word::{Word, word_at};

@@ -31,7 +31,7 @@ pub(crate) struct Life {
 
 /// Ends the stretch that a life is in, at an entry or with the log; there is none where the entity
 /// is Absent.
-fn end_stretch(life: &mut Life, until: Option<usize>) -> Result<(), AllocError>
+pub(crate) fn end_stretch(life: &mut Life, until: Option<usize>) -> Result<(), AllocError>
     ensures ended { OnOk result (life.new.ended.items ≡ life.old.ended.items ++ stretch_of (life_in life.old) until) }
     ensures state { life.new.state ≡ life.old.state }
     ensures since { life.new.since ≡ life.old.since }
@@ -49,7 +49,7 @@ fn end_stretch(life: &mut Life, until: Option<usize>) -> Result<(), AllocError>
 }
 
 /// A life after an entry, which leaves the entity in a state.
-fn live_on(life: &mut Life, entry: usize, state: EntityState) -> Result<(), AllocError>
+pub(crate) fn live_on(life: &mut Life, entry: usize, state: EntityState) -> Result<(), AllocError>
     ensures { OnOk result (life_in life.new ≡ lived_on (life_in life.old) entry state) }
 {
     if state == life.state {

@@ -48,7 +48,7 @@ pub struct Outcome {
 
 /// The stamp of an entry, by the clock of its station.
 #[tactic(auto, unfolding(crate::specs::Outcome::stamp_at))]
-fn stamp_at<L: ExerciseLog>(findings: &Findings<'_, L>, entry: usize) -> Option<u64>
+pub(crate) fn stamp_at<L: ExerciseLog>(findings: &Findings<'_, L>, entry: usize) -> Option<u64>
     ensures { result ≡ stamp_at findings.now entry }
 {
     match entry_at(findings, entry) {

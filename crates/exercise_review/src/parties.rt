@@ -17,7 +17,7 @@ use exercise_model::ExerciseLog;
 use std::alloc::{AllocError, Global};
 
 /// The site and the application of an address.
-fn parts_of(address: Address) -> Outsider
+pub(crate) fn parts_of(address: Address) -> Outsider
     ensures { pair_at result ≡ address }
 {
     Outsider {
@@ -27,7 +27,7 @@ fn parts_of(address: Address) -> Outsider
 }
 
 /// The site and the application of an identifier.
-fn parts_in(id: EntityId) -> Outsider
+pub(crate) fn parts_in(id: EntityId) -> Outsider
     ensures { pair_at result ≡ pair_of id }
 {
     Outsider {
@@ -37,7 +37,7 @@ fn parts_in(id: EntityId) -> Outsider
 }
 
 /// The site and the application of a recorded station; 0 and 0 past the last.
-fn station_parts<L: ExerciseLog>(findings: &Findings<'_, L>, station: u16) -> Outsider
+pub(crate) fn station_parts<L: ExerciseLog>(findings: &Findings<'_, L>, station: u16) -> Outsider
     ensures { pair_at result ≡ (station_at findings.now station).address }
 {
     let log = findings.log();

@@ -13,3 +13,6 @@ pub mod Tellings
 pub mod LineReadings
 pub mod Judged
 mod Conversions
+mod LineParts
+mod Kept
+mod ReviewKeys

@@ -10,3 +10,4 @@ pub mod CountLine
 pub mod Making
 pub mod Opening
 pub mod Saying
+pub mod FilterWords

@@ -5,6 +5,7 @@ pub mod Convert
 pub mod Live
 pub mod Mend
 pub mod Pdus
+pub mod Review
 pub mod Show
 pub mod ScriptTrial
 pub mod World

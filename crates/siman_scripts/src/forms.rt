@@ -13,14 +13,14 @@ use exercise_model::LARGEST_ENTITY;
 use std::alloc::{AllocError, Global};
 
 /// The number of 16 bits that a word spells.
-pub(crate) fn number_16(word: &[u8]) -> Option<u16>
+pub fn number_16(word: &[u8]) -> Option<u16>
     ensures { result ≡ number_to 65535 word.now }
 {
     Some(number(word, 0xFFFF)? as u16)
 }
 
 /// The number of 32 bits that a word spells.
-pub(crate) fn number_32(word: &[u8]) -> Option<u32>
+pub fn number_32(word: &[u8]) -> Option<u32>
     ensures { result ≡ number_to 4294967295 word.now }
 {
     Some(number(word, 0xFFFF_FFFF)? as u32)

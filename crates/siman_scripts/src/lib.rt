@@ -5,7 +5,8 @@
 //! the order of lines. No file is opened here, and no move is made.
 //!
 //! The layers above rest on its contract, one function of the text (`specs/Script.antt`,
-//! `Draft.antt`, `Statement.antt`, `Text.antt`).
+//! `Draft.antt`, `Statement.antt`, `Text.antt`). [`split_once`], [`number_16`], [`number_32`] and
+//! [`target_of`] are an inner door to them: words of a command line are spelled so too.
 #![tactic(auto)]
 
 mod act;
@@ -22,6 +23,9 @@ mod text;
 mod world_station;
 
 pub use act::{Act, Move};
+pub use forms::{number_16, number_32};
+pub use moves::target_of;
 pub use script::{LARGEST_SCRIPT, Script, read_script};
 pub use script_fault::ScriptFault;
+pub use text::split_once;
 pub use world_station::WorldStation;

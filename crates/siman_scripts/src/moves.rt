@@ -14,7 +14,7 @@ use siman_pdus::{Body, DatumIds, Datums};
 use std::alloc::{AllocError, Global};
 
 /// The receiving identifier that a word `S:A:E` spells.
-fn target_of(word: &[u8]) -> Option<EntityId>
+pub fn target_of(word: &[u8]) -> Option<EntityId>
     ensures { result ≡ target_of word.now }
 {
     let (site, rest) = split_once(word, b':')?;

@@ -15,7 +15,7 @@ fn place_of(word: &[u8], separator: u8) -> Option<usize>
 }
 
 /// What stands before the first byte `separator`, and what after it, if there is one.
-pub(crate) fn split_once(word: &[u8], separator: u8) -> Option<(&[u8], &[u8])>
+pub fn split_once(word: &[u8], separator: u8) -> Option<(&[u8], &[u8])>
     ensures { option_map (λ p. (p.0.now, p.1.now)) result ≡ cut_at separator word.now }
 {
     match place_of(word, separator) {

@@ -28,4 +28,6 @@ mod reviews;
 #[cfg(test)]
 mod scripts;
 #[cfg(test)]
+mod tallies;
+#[cfg(test)]
 mod worlds;

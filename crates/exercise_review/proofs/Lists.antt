@@ -1,0 +1,87 @@
+-- Lists one after the other, one list more at a time, and room for them.
+use Rattle.std.proofs.Common.{◌≡◌, ⊎_elim, ℕ, zero, suc, ◌+◌, ◌-◌, ◌<◌, ◌≤◌, List, [], ◌++◌, length, refl, sym, ap, ◌∙◌, append_assoc, append-nil, subst, arith}
+use Rattle.std.specs.Prelude.{Result, Ok, Err, Vec}
+use Rattle.std.specs.declared.alloc.Global.{Global}
+use Rattle.std.specs.Result.{IsErrAnd}
+use Rattle.std.proofs.Math.Numerals.{add-one}
+use Rattle.std.proofs.lemmas.List.{length-append}
+use Rattle.exercise_review.specs.declared.fault.ReviewFault.{ReviewFault}
+use Rattle.exercise_review.specs.declared.fault.ReviewFault.TheVariants.{OverLimit, Memory}
+use Rattle.exercise_review.specs.Room.{lists_below, AddsWithin, MakesWithin}
+
+pub lists_none : {X : Type 0} (f : ℕ → List X) → lists_below f 0 ≡ []
+unfolding lists_below
+lists_none f = refl
+
+pub lists_more : {X : Type 0} (f : ℕ → List X) (n : ℕ) → lists_below f (n + 1) ≡ lists_below f n ++ f n
+unfolding lists_below
+lists_more f n = ap (lists_below f) (add-one n)
+
+-- further lists only make them longer
+longer : {X : Type 0} (f : ℕ → List X) (k d : ℕ) → length (lists_below f k) ≤ length (lists_below f (d + k))
+unfolding lists_below
+longer f k zero = let same : 0 + k ≡ k = omega arith in omega (arith, ap (λ n. length (lists_below f n)) same)
+longer f k (suc d) =
+    let next : suc d + k ≡ suc (d + k) = omega arith in
+    omega (arith, longer f k d, ap (λ n. length (lists_below f n)) next, length-append (lists_below f (d + k)) (f (d + k)))
+
+pub ruleset list_steps = (lists_none, lists_more)
+
+-- the first so many and one more are no more than all of them
+pub part_below : {X : Type 0} (f : ℕ → List X) (k n : ℕ) → k < n → length (lists_below f k) + length (f k) ≤ length (lists_below f n)
+part_below f k n l =
+    let from : n ≡ n - (k + 1) + (k + 1) = omega (arith, l) in
+    omega (
+      arith,
+      longer f (k + 1) (n - (k + 1)),
+      ap (λ m. length (lists_below f m)) from,
+      ap length (lists_more f k),
+      length-append (lists_below f k) (f k),
+    )
+
+-- what comes next makes them too many: so are all
+too_many : {X : Type 0} (old part : List X) (f : ℕ → List X) (k n most : ℕ) → k < n → part ≡ old ++ lists_below f k
+    → most < length part + length (f k) → most < length old + length (lists_below f n)
+too_many old part f k n most l same over =
+    omega (arith, part_below f k n l, over, ap length same, length-append old (lists_below f k))
+
+ends : {X : Type 0} (old part new last : List X) (f : ℕ → List X) (k n most : ℕ) (e : ReviewFault) → k < n → part ≡ old ++ lists_below f k
+    → AddsWithin most part (f k) (Err e) new → AddsWithin most old (lists_below f n) (Err e) last
+ends old part new last f k n most OverLimit l same over = too_many old part f k n most l same over
+ends old part new last f k n most Memory l same over = tt
+
+pub room_ends : {X : Type 0} (old part new last : List X) (f : ℕ → List X) (k n most : ℕ) (e : ReviewFault) (result : Result (Unit {0}) ReviewFault)
+    → IsErrAnd result (λ x. x ≡ e) → k < n → part ≡ old ++ lists_below f k → AddsWithin most part (f k) (Err e) new
+    → AddsWithin most old (lists_below f n) result last
+room_ends old part new last f k n most e (Ok x) is l same over = absurd is
+room_ends old part new last f k n most e (Err x) is l same over =
+    subst (λ y. AddsWithin most old (lists_below f n) (Err y) last) (sym is) (ends old part new last f k n most e l same over)
+
+-- what was there, before the first list
+pub room_begins : {X : Type 0} (old : List X) (f : ℕ → List X) → old ≡ old ++ lists_below f 0
+room_begins old f = sym (append-nil old) ∙ ap (λ xs. old ++ xs) (sym (lists_none f))
+
+-- what came next stands behind
+pub room_goes_on : {X : Type 0} (old part new : List X) (f : ℕ → List X) (k : ℕ) → part ≡ old ++ lists_below f k → new ≡ part ++ f k
+    → new ≡ old ++ lists_below f (k + 1)
+room_goes_on old part new f k before here =
+    here ∙ ap (λ xs. xs ++ f k) before ∙ append_assoc old (lists_below f k) (f k) ∙ ap (λ xs. old ++ xs) (sym (lists_more f k))
+
+-- ---- a list that is made
+
+pub list_made : {X : Type 0} (old xs ys new : List X) (most : ℕ) → old ≡ [] → xs ≡ ys → (new ≡ old ++ xs) × (length new ≤ most)
+    → (new ≡ ys) × (length ys ≤ most)
+list_made old xs ys new most none same made =
+    let is : new ≡ ys = made.0 ∙ ap (λ zs. zs ++ xs) none ∙ same in
+    (is, omega (arith, made.1, ap length is))
+
+not_made : {X : Type 0} (old xs ys new : List X) (most : ℕ) (e : ReviewFault) → old ≡ [] → xs ≡ ys → AddsWithin most old xs (Err e) new
+    → MakesWithin {X = X} most ys (Err e)
+not_made old xs ys new most OverLimit none same over = omega (arith, over, ap length none, ap length same)
+not_made old xs ys new most Memory none same over = tt
+
+pub list_unmade : {X : Type 0} (old xs ys new : List X) (most : ℕ) (e : ReviewFault) (result : Result (Vec X Global) ReviewFault) → IsErrAnd result (λ x. x ≡ e)
+    → old ≡ [] → xs ≡ ys → AddsWithin most old xs (Err e) new → MakesWithin most ys result
+list_unmade old xs ys new most e (Ok x) is none same over = absurd is
+list_unmade {X = X} old xs ys new most e (Err x) is none same over =
+    subst (λ y. MakesWithin {X = X} most ys (Err y)) (sym is) (not_made old xs ys new most e none same over)

@@ -1,0 +1,27 @@
+use Rattle.std.proofs.Common.{◌≡◌, ◌<◌, ℕ, length, sym, ap, ◌∙◌, arith}
+use Rattle.exercise_model.specs.Recording.{PlainRecording}
+use Rattle.exercise_review.specs.Span.{spans_of, all_spans}
+use Rattle.exercise_review.proofs.Lists.{room_begins, room_goes_on, room_ends}
+use Rattle.exercise_review.proofs.span.push_spans.Goals as goal
+
+pub loop-station-init : goal.loop-station-init
+loop-station-init g c = record { added = room_begins c.args.spans.now.items (spans_of c.args.findings.now); room = c.requires }
+
+pub returns-in_err-push_station : goal.returns-in_err-push_station
+unfolding all_spans
+returns-in_err-push_station g c =
+    let r : PlainRecording = c.args.findings.now in
+    let k : ℕ = c.loop-station.station in
+    let count = c.station_count-station-end.ensures.count ∙ ap (λ (x : PlainRecording). length x.setting.stations) c.log.ensures in
+    let below : k < length r.setting.stations = omega (arith, c.loop-station-test.true, c.loop-station.auto.station-end, count) in
+    room_ends c.args.spans.now.items c.loop-station.spans.items c.push_station.new.spans.items c.push_station.new.spans.items (spans_of r) k
+    (length r.setting.stations) c.args.most c.in_err-push_station.field-0.0 c.from_residual.result c.from_residual.ensures.1 below
+    c.loop-station.invariant.added c.in_err-push_station.ensures
+
+pub loop-station-preserved : goal.loop-station-preserved
+loop-station-preserved g c =
+    record {
+      added = room_goes_on c.args.spans.now.items c.loop-station.spans.items c.push_station.new.spans.items (spans_of c.args.findings.now) c.loop-station.station
+          c.loop-station.invariant.added c.in_ok-push_station.ensures.0;
+      room = c.in_ok-push_station.ensures.1;
+    }

@@ -1,0 +1,100 @@
+-- Which lines of a review filters keep: words of one key are alternatives, different keys must all hold (profile).
+use Rattle.std.specs.Prelude.{◌≡◌, ◌⊎◌, ℕ, List, [], ◌∷◌, filter, Bool, false, ◌&&◌, ◌||◌, ◌==◌, not, Option, Some, None}
+use Rattle.std.specs.List.{list_any}
+use Rattle.dis_records.specs.declared.entity.EntityId.{EntityId}
+use Rattle.dis_records.specs.Entity.{is_addressed, is_open}
+use Rattle.siman_pdus.specs.Answers.{same_id}
+use Rattle.exercise_review.specs.declared.filter.Filter.{Filter}
+use Rattle.exercise_review.specs.declared.filter.Filter.TheVariants as filters
+use Rattle.exercise_review.specs.declared.told.OrderAt.{OrderAt}
+use Rattle.exercise_review.specs.declared.party.Outsider.{Outsider}
+use Rattle.exercise_review.specs.declared.span.Span.{Span}
+use Rattle.exercise_review.specs.declared.tally.StationCounts.{StationCounts}
+use Rattle.exercise_review.specs.Party.{pair_at}
+use Rattle.exercise_review.specs.Tally.{same_fate}
+
+-- ---- addresses and entities
+
+abbrev pub same_address : Outsider → Outsider → Bool
+same_address a b = (a.site == b.site) && (a.application == b.application)
+
+abbrev pub is_there : Outsider → Option Outsider → Bool
+is_there a None = false
+is_there a (Some b) = same_address a b
+
+-- an address is this one, or there is none
+abbrev pub is_there_or_nowhere : Outsider → Option Outsider → Bool
+is_there_or_nowhere a None = not false
+is_there_or_nowhere a (Some b) = same_address a b
+
+-- where an entity is
+abbrev pub place_of : EntityId → Outsider
+place_of id = record { site = id.site; application = id.application }
+
+abbrev pub same_entity : EntityId → EntityId → Bool
+same_entity a b = same_address (place_of a) (place_of b) && (a.entity == b.entity)
+
+-- an order covers an entity: it addresses where that is, and its number is that of the entity or open
+abbrev pub covers_entity : EntityId → OrderAt → Bool
+covers_entity id x = is_addressed x.to (pair_at (place_of id)) && ((x.to.entity == id.entity) || is_open x.kind x.to.entity)
+
+-- ---- what a filter keeps
+
+-- station lines: of that station, and under no other key
+abbrev pub passes_station : StationCounts → Filter → Bool
+passes_station x (filters.Station a) = same_address a x.at
+passes_station x filter = false
+
+-- order lines: from or at that station; at the entity or nowhere, where the target covers it; of that request of that maker; of that fate
+abbrev pub passes_order : OrderAt → Filter → Bool
+passes_order x (filters.Station a) = same_address a x.from || is_there a x.at
+passes_order x (filters.Entity id) = is_there_or_nowhere (place_of id) x.at && covers_entity id x
+passes_order x (filters.Request a n) = same_address a x.from && same_id x.request (Some n)
+passes_order x (filters.Fate f) = same_fate f x.outcome.fate
+
+-- state lines: of the entities of that station; of that entity; begun by that request; none under a fate
+abbrev pub passes_span : Span → Filter → Bool
+passes_span x (filters.Station a) = same_address a (place_of x.entity)
+passes_span x (filters.Entity id) = same_entity id x.entity
+passes_span x (filters.Request a n) = is_there a x.by && same_id x.request (Some n)
+passes_span x (filters.Fate f) = false
+
+-- ---- filters together
+
+-- the key of a filter
+abbrev pub key_of : Filter → ℕ
+key_of (filters.Station a) = 0
+key_of (filters.Entity id) = 1
+key_of (filters.Request a n) = 2
+key_of (filters.Fate f) = 3
+
+abbrev pub is_under : ℕ → Filter → Bool
+is_under key filter = key_of filter == key
+
+abbrev pub passes_under : ℕ → (Filter → Bool) → Filter → Bool
+passes_under key test filter = is_under key filter && test filter
+
+-- of the filters under one key one passes, or there are none
+unfoldable pub holds_under : (Filter → Bool) → List Filter → ℕ → Bool
+holds_under test fs key = not (list_any (is_under key) fs) || list_any (passes_under key test) fs
+
+-- FILTERS KEEP a line, of which this tells what passes
+unfoldable pub keeps : List Filter → (Filter → Bool) → Bool
+keeps fs test = holds_under test fs 0 && (holds_under test fs 1 && (holds_under test fs 2 && holds_under test fs 3))
+
+-- THE STATIONS, ORDERS AND STRETCHES that filters keep, in their order
+abbrev pub kept_stations : List Filter → List StationCounts → List StationCounts
+kept_stations fs xs = filter (λ x. keeps fs (passes_station x)) xs
+
+abbrev pub kept_orders : List Filter → List OrderAt → List OrderAt
+kept_orders fs xs = filter (λ x. keeps fs (passes_order x)) xs
+
+abbrev pub kept_spans : List Filter → List Span → List Span
+kept_spans fs xs = filter (λ x. keeps fs (passes_span x)) xs
+
+-- ---- some of a list
+
+-- SOME OF A LIST, in their order
+abbrev pub ArePart : {X : Type 0} → List X → List X → Type 0
+ArePart xs [] = xs ≡ []
+ArePart {X = X} xs (y ∷ ys) = ArePart xs ys ⊎ ((zs : List X) × (xs ≡ y ∷ zs) × ArePart zs ys)

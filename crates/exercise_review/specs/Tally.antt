@@ -1,0 +1,105 @@
+-- How many orders have each fate, and what is counted of each station (profile).
+use Rattle.std.specs.Prelude.{◌≡◌, ℕ, List, length, Bool, true, false, ◌&&◌, ◌==◌, Option, Some, None, slice_get}
+use Rattle.std.specs.Option.{option_map_or}
+use Rattle.dis_records.specs.declared.entity_state.EntityState.{EntityState}
+use Rattle.exercise_model.specs.Entry.{Entry}
+use Rattle.exercise_model.specs.Recording.{PlainRecording}
+use Rattle.exercise_model.specs.History.{event_of, station_of, station_at}
+use Rattle.exercise_model.specs.Account.{states_of}
+use Rattle.exercise_model.specs.Cause.{same_state}
+use Rattle.dis_records.specs.declared.entity_state.EntityState.TheVariants.{Running}
+use Rattle.siman_pdus.specs.Answers.{same_id}
+use Rattle.exercise_review.specs.declared.fate.Fate.{Fate}
+use Rattle.exercise_review.specs.declared.fate.Fate.TheVariants as fates
+use Rattle.exercise_review.specs.declared.party.Party.{Party}
+use Rattle.exercise_review.specs.declared.party.Party.TheVariants as parties
+use Rattle.exercise_review.specs.declared.told.OrderAt.{OrderAt}
+use Rattle.exercise_review.specs.declared.tally.FateCounts.{FateCounts}
+use Rattle.exercise_review.specs.declared.tally.StationCounts.{StationCounts}
+use Rattle.exercise_review.specs.Counted.{count_below}
+use Rattle.exercise_review.specs.Order.{OrderData}
+use Rattle.exercise_review.specs.Told.{orders_of, orders_told}
+use Rattle.exercise_review.specs.Parties.{outsider_at}
+
+-- ---- fates
+
+abbrev pub fate_number : Fate → ℕ
+fate_number fates.Done = 0
+fate_number fates.Answered = 1
+fate_number fates.Refused = 2
+fate_number fates.Pending = 3
+fate_number fates.Unheard = 4
+fate_number fates.Unanswered = 5
+fate_number fates.Lost = 6
+fate_number fates.Unknown = 7
+fate_number fates.Nobody = 8
+
+abbrev pub same_fate : Fate → Fate → Bool
+same_fate f g = fate_number f == fate_number g
+
+-- the party is the recorded station s
+abbrev pub is_station : ℕ → Option Party → Bool
+is_station s None = false
+is_station s (Some (parties.Station t)) = t == s
+is_station s (Some (parties.Outside a)) = false
+
+-- an order at a party has the fate f there; it has it at station s
+abbrev pub is_fate : Fate → OrderAt → Bool
+is_fate f x = same_fate x.outcome.fate f
+
+abbrev pub is_fate_at : ℕ → Fate → OrderAt → Bool
+is_fate_at s f x = is_station s x.outcome.party && is_fate f x
+
+-- the one at place i passes
+unfoldable pub passes_at : {X : Type 0} → (X → Bool) → List X → ℕ → Bool
+passes_at test xs i = option_map_or test (slice_get xs i) false
+
+-- HOW MANY of a list pass
+unfoldable pub many : {X : Type 0} → (X → Bool) → List X → ℕ
+many test xs = count_below (passes_at test xs) (length xs)
+
+-- how many of each fate there are, by tests of each
+abbrev pub counts_by : (Fate → ℕ) → FateCounts
+counts_by count = record {
+  done = count fates.Done;
+  answered = count fates.Answered;
+  refused = count fates.Refused;
+  pending = count fates.Pending;
+  unheard = count fates.Unheard;
+  unanswered = count fates.Unanswered;
+  lost = count fates.Lost;
+  unknown = count fates.Unknown;
+  nobody = count fates.Nobody;
+}
+
+-- HOW MANY HAVE EACH FATE, of orders at their parties; and of these at station s
+unfoldable pub fates_of : List OrderAt → FateCounts
+fates_of xs = counts_by (λ f. many (is_fate f) xs)
+
+unfoldable pub fates_at : ℕ → List OrderAt → FateCounts
+fates_at s xs = counts_by (λ f. many (is_fate_at s f) xs)
+
+-- ---- stations
+
+-- an entry is one of station s
+abbrev pub is_entry_of : ℕ → Entry → Bool
+is_entry_of s e = station_of (event_of e) == s
+
+-- the recorded station s made an order
+abbrev pub is_made_by : ℕ → OrderData → Bool
+is_made_by s o = same_id o.maker (Some s)
+
+abbrev pub is_running : ℕ × EntityState → Bool
+is_running present = same_state present.1 Running
+
+-- WHAT IS COUNTED OF STATION s, beside its address: the entries of its log, the orders that it made, the fates of those that it was party to, and its entities
+-- that are there at the end, and how many of them run
+unfoldable pub station_counts : PlainRecording → ℕ → StationCounts
+station_counts r s = record {
+  at = outsider_at (station_at r s).address;
+  records = many (is_entry_of s) r.entries;
+  made = many (is_made_by s) (orders_of r);
+  fates = fates_at s (orders_told r);
+  entities = length (states_of r s);
+  running = many is_running (states_of r s);
+}

@@ -1,0 +1,172 @@
+//! Which lines of a review filters keep.
+
+ghost use Rattle.std.specs.Prelude.{◌≡◌, Some};
+ghost use Rattle.siman_pdus.specs.Answers.{same_id};
+ghost use Rattle.exercise_review.specs.Filter.{same_address, is_there, is_there_or_nowhere, place_of, same_entity, covers_entity, passes_station, passes_order, passes_span, key_of, is_under, passes_under, holds_under, keeps};
+
+use crate::fate::Fate;
+use crate::party::Outsider;
+use crate::span::Span;
+use crate::tally::StationCounts;
+use crate::told::OrderAt;
+use dis_records::{EntityId, Kind, addresses, is_open};
+
+/// What a word asks for: the lines of one key with this value.
+#[derive(Clone, Copy, PartialEq, Eq)]
+pub enum Filter {
+    /// The lines of a station.
+    Station(Outsider),
+    /// Those of an entity.
+    Entity(EntityId),
+    /// Those of a request, by whoever made it and its identifier.
+    Request(Outsider, u32),
+    /// Orders with a fate.
+    Fate(Fate),
+}
+
+/// What a line tells of, which filters may keep. No call takes memory.
+pub trait Filtered {
+    ghost use Rattle.std.specs.Prelude.{◌≡◌, Bool};
+    ghost use Rattle.exercise_review.specs.declared.filter.Filter.{Filter};
+
+    /// Which filters it passes.
+    ghost test: { Self → Filter → Bool };
+
+    /// Whether it passes a filter.
+    fn passes(&self, filter: Filter) -> bool
+        ensures { result ≡ test self.now filter };
+}
+
+fn same_address(one: Outsider, other: Outsider) -> bool
+    ensures { result ≡ same_address one other }
+{
+    one.site == other.site && one.application == other.application
+}
+
+/// Whether an address is this one.
+fn is_there(address: Outsider, at: Option<Outsider>) -> bool
+    ensures { result ≡ is_there address at }
+{
+    match at {
+        Some(at) => same_address(address, at),
+        None => false,
+    }
+}
+
+/// Where an entity is.
+fn place_of(entity: EntityId) -> Outsider
+    ensures { result ≡ place_of entity }
+{
+    Outsider {
+        site: entity.site,
+        application: entity.application,
+    }
+}
+
+/// Whether an order covers an entity: it addresses where that is, and its number is that of the
+/// entity or names no single one.
+fn covers_entity(entity: EntityId, order: &OrderAt) -> bool
+    ensures { result ≡ covers_entity entity order.now }
+{
+    addresses(order.to, entity.site, entity.application)
+        && (order.to.entity == entity.entity || is_open(order.kind, order.to.entity))
+}
+
+/// Whether a number is that of a request.
+fn is_request(request: Option<u32>, number: u32) -> bool
+    ensures { result ≡ same_id request (Some number) }
+{
+    match request {
+        Some(request) => request == number,
+        None => false,
+    }
+}
+
+impl Filtered for StationCounts {
+    ghost test = { passes_station };
+
+    fn passes(&self, filter: Filter) -> bool {
+        match filter {
+            Filter::Station(address) => same_address(address, self.at),
+            _ => false,
+        }
+    }
+}
+
+impl Filtered for OrderAt {
+    ghost test = { passes_order };
+
+    fn passes(&self, filter: Filter) -> bool {
+        match filter {
+            Filter::Station(address) => same_address(address, self.from)
+                || is_there(address, self.at),
+            Filter::Entity(entity) => {
+                (self.at.is_none() || is_there(place_of(entity), self.at))
+                    && covers_entity(entity, self)
+            }
+            Filter::Request(address, number) => {
+                same_address(address, self.from) && is_request(self.request, number)
+            }
+            Filter::Fate(fate) => fate.number() == self.outcome.fate.number(),
+        }
+    }
+}
+
+impl Filtered for Span {
+    ghost test = { passes_span };
+
+    fn passes(&self, filter: Filter) -> bool {
+        match filter {
+            Filter::Station(address) => same_address(address, place_of(self.entity)),
+            Filter::Entity(entity) => {
+                same_address(place_of(entity), place_of(self.entity))
+                    && entity.entity == self.entity.entity
+            }
+            Filter::Request(address, number) => {
+                is_there(address, self.by) && is_request(self.request, number)
+            }
+            Filter::Fate(_) => false,
+        }
+    }
+}
+
+impl Filter {
+    /// The place of its key among the keys.
+    fn key(self) -> u8
+        ensures { result ≡ key_of self }
+    {
+        match self {
+            Filter::Station(_) => 0,
+            Filter::Entity(_) => 1,
+            Filter::Request(_, _) => 2,
+            Filter::Fate(_) => 3,
+        }
+    }
+}
+
+/// Whether a line passes one of the filters under a key, or there are none.
+#[tactic(auto, unfolding(crate::specs::Filter::holds_under))]
+fn holds_under<T: Filtered>(filters: &[Filter], item: &T, key: u8) -> bool
+    ensures { result ≡ holds_under (T.test item.now) filters.now key }
+{
+    let mut any = false;
+    let mut passed = false;
+    for filter in filters {
+        if filter.key() == key {
+            any = true;
+            passed = passed || item.passes(*filter);
+        }
+    }
+    !any || passed
+}
+
+/// Whether filters keep a line: of the filters under each key it passes one, or there are none.
+#[tactic(auto, unfolding(crate::specs::Filter::keeps))]
+pub fn keeps<T: Filtered>(filters: &[Filter], item: &T) -> bool
+    ensures { result ≡ keeps filters.now (T.test item.now) }
+{
+    holds_under(filters, item, 0)
+        && holds_under(filters, item, 1)
+        && holds_under(filters, item, 2)
+        && holds_under(filters, item, 3)
+}

@@ -105,14 +105,15 @@ fn found_sent<L: ExerciseLog>(
     ensures other { result.other ≡ false }
 {
     let address = log.station(usize::from(station)).address();
+    let from = is_from(address, pdu);
     let taken = taken_up(log, &tables.firsts, station, entry, pdu);
     Found {
-        cause: judge_sent(log, tables, station, entry, pdu, reused, &taken),
+        cause: judge_sent(log, tables, station, entry, pdu, from, reused, &taken),
         pair: pair_of(&taken),
         change: change_by(log, &tables.firsts, station, entry, pdu, &taken),
         key: sent_key(station, pdu),
         behind: None,
-        is_source: is_from(address, pdu),
+        is_source: from,
         other: false,
     }
 }

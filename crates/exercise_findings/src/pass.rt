@@ -14,7 +14,7 @@ use crate::found::{find_received, find_sent};
 use crate::number::{NO_ENTRY, entry_number};
 use crate::requests::{Requests, no_requests};
 use crate::senders::{Senders, no_senders, note_sender};
-use crate::tables::{Tables, no_tables, note_tables};
+use crate::tables::{Tables, no_tables, note_key, note_tables};
 use dis_records::EntityState;
 use exercise_model::{Cause, EntryView, ExerciseLog};
 use std::alloc::{AllocError, Global};
@@ -140,7 +140,7 @@ fn keep_received<L: ExerciseLog>(
     found.earlier.push(earlier)?;
     found.others += one_if(here.other);
     note_behind(&mut found.ables, log, entry, here.behind)?;
-    note_tables(&mut found.tables, log, entry, here.change, here.key)
+    note_key(&mut found.tables, log, entry, here.key)
 }
 
 /// Keeps what the next entry is found to be, by which a station tells a state: the first cause against

@@ -19,6 +19,9 @@ fn wake_at(
     ensures { OnOk result (IsWoken entry waiting.old waiting.new ready.old.items ready.new.items) }
 {
     let woken = wake(alloc, waiting, entry);
+    if woken.is_empty() {
+        return Ok(());
+    }
     ready.extend_from_slice(woken.as_slice())
 }
 

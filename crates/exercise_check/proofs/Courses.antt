@@ -229,6 +229,14 @@ ordered r steps place next is on =
 
 -- what judging the next entry says of going on by it
 
+-- a course goes on as it does, whichever of two equal recordings it is of afterwards
+pub goes_same : (r : PlainRecording) (before after : List Step) (q : PlainRecording) (place : ℕ) (progress : Progress) → r ≡ q
+    → IfSome (slice_get r.entries place) (GoesOn (record { recording = r; steps = before }) (record { recording = r; steps = after }) place progress)
+    → IfSome (slice_get r.entries place) (GoesOn (record { recording = r; steps = before }) (record { recording = q; steps = after }) place progress)
+goes_same r before after q place progress same goes =
+    subst (λ (q : PlainRecording). IfSome (slice_get r.entries place)
+    (GoesOn (record { recording = r; steps = before }) (record { recording = q; steps = after }) place progress)) same goes
+
 pub barred_goes : (old : CourseData) (place : ℕ) (cause : Cause) → JudgesNext old.recording old.steps place (Forbidden cause)
     → IfSome (slice_get old.recording.entries place) (GoesOn old old place (Barred cause))
 barred_goes old place cause =

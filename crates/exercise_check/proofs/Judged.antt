@@ -1,16 +1,18 @@
 -- What a station's log says of its next entry is what the order so far says.
 use Rattle.std.proofs.Common.{◌≡◌, ◌≢◌, ℕ, ◌<◌, List, [], ◌∷◌, length, cond, Option, Some, None, Bool, true, false, refl, sym, ap, ◌∙◌, subst}
-use Rattle.std.specs.Prelude.{option_and_then, slice_get, IfSome, not, ◌&&◌}
+use Rattle.std.specs.Prelude.{⊤, option_and_then, slice_get, IfSome, not, ◌&&◌}
 use Rattle.std.specs.List.{list_any}
 use Rattle.std.proofs.lemmas.Option.{same_Some}
 use Rattle.siman_pdus.specs.declared.pdu.Pdu.{Pdu}
-use Rattle.exercise_model.specs.Entry.{Entry, Received}
+use Rattle.exercise_model.specs.Entry.{Entry, Sent, Received, Told}
 use Rattle.exercise_model.specs.Recording.{PlainRecording}
 use Rattle.exercise_model.specs.Setting.{SettingData, is_recorded, may_be_heard}
 use Rattle.exercise_model.specs.History.{Send, Get, Tell, History, event_of, station_at}
 use Rattle.exercise_model.specs.Meaning.{meaning}
+use Rattle.exercise_model.specs.Place.{log_before}
+use Rattle.exercise_model.specs.Station.{StationData}
 use Rattle.exercise_model.specs.State.{state_after}
-use Rattle.exercise_model.specs.Cause.{send_cause, get_cause, sends, was_sent, tell_rows, first_cause, cause_of}
+use Rattle.exercise_model.specs.Cause.{send_cause, send_rows, get_cause, sends, was_sent, tell_rows, first_cause, cause_of}
 use Rattle.exercise_model.specs.Account.{pair_of_sent, pair_of_entry, pair_of}
 use Rattle.exercise_model.specs.declared.cause.Cause.{Cause}
 use Rattle.exercise_model.specs.declared.cause.Cause.TheVariants.{Stranger, NeverSent}
@@ -24,7 +26,7 @@ use Rattle.exercise_check.specs.Course.{IsCourse, Judges}
 use Rattle.exercise_findings.specs.Source.{source_of}
 use Rattle.exercise_findings.specs.Tables.{event_own_cause, own_cause}
 use Rattle.exercise_findings.proofs.Offered.{below, cause_here, pair_earlier, pair_here}
-use Rattle.exercise_check.specs.Judging.{judged, is_never_sent, is_unsent, if_taken}
+use Rattle.exercise_check.specs.Judging.{judged, is_never_sent, is_unsent, if_taken, by_source}
 use Rattle.exercise_model.proofs.Offered.{get_where_sent}
 use Rattle.exercise_check.proofs.Courses.{received_unsent, sender_tells}
 use Rattle.exercise_check.proofs.FirstSenders.{source_first}
@@ -45,7 +47,7 @@ own_judged r n e within at =
 
 -- ---- what was sent, and what was told
 
-pub sent_judged : (r : PlainRecording) (before : List Step) (j s : ℕ) (b : List ℕ) (x : Judgement)
+sent_judged : (r : PlainRecording) (before : List Step) (j s : ℕ) (b : List ℕ) (x : Judgement)
     → IsReady r before j (Send s b)
     → Judges (event_own_cause r j (Send s b)) (option_and_then (pair_of_sent r s j) (meaning r.setting.exercise b)) (length r.entries) x
     → Judges (cause_of r.setting (order_of r before) (Send s b)) (link_of r before j (Send s b)) (length r.entries) x
@@ -54,7 +56,7 @@ sent_judged r before j s b x ready judged =
     subst (λ log. Judges (option_and_then (send_cause r.setting.exercise (station_at r s) log) (meaning r.setting.exercise b))
     (option_and_then (pair_of_sent r s j) (meaning r.setting.exercise b)) (length r.entries) x) (sym ready) judged
 
-pub told_judged : (r : PlainRecording) (before : List Step) (j s e : ℕ) (y : EntityState) (x : Judgement)
+told_judged : (r : PlainRecording) (before : List Step) (j s e : ℕ) (y : EntityState) (x : Judgement)
     → IsReady r before j (Tell s e y) → Judges (event_own_cause r j (Tell s e y)) None (length r.entries) x
     → Judges (cause_of r.setting (order_of r before) (Tell s e y)) (link_of r before j (Tell s e y)) (length r.entries) x
 unfolding cause_of link_of
@@ -122,9 +124,10 @@ received_unlinked r steps place s b =
       ]
     ]
 
-told_unsent : (cause : Option Cause) (entries : ℕ) (alone : Judgement) → is_unsent alone ≡ true → Judges cause None entries alone → cause ≡ Some NeverSent
-told_unsent cause entries (Allowed link) = λ h. absurd (cc)
-told_unsent cause entries (Forbidden given) =
+told_unsent : (cause : Option Cause) (link : Option ℕ) (entries : ℕ) (alone : Judgement) → is_unsent alone ≡ true → Judges cause link entries alone
+    → cause ≡ Some NeverSent
+told_unsent cause link entries (Allowed given) = λ h. absurd (cc)
+told_unsent cause link entries (Forbidden given) =
     elim given as (λ g. is_never_sent g ≡ true → cause ≡ Some g → cause ≡ Some NeverSent) [
       | NeverSent ↦ λ _ e. e
       | _ ↦ λ h. absurd (cc)
@@ -134,21 +137,21 @@ not_unsent : (alone : Judgement) → is_unsent alone ≡ false → alone ≢ For
 not_unsent alone e same = absurd (cc (sym e ∙ ap is_unsent same))
 
 -- where it is to have been sent, its source was taken exactly where it was
-pub source_told : (r : PlainRecording) (steps : List Step) (place s stamp : ℕ) (b : List ℕ) (alone : Judgement)
+source_told : (r : PlainRecording) (steps : List Step) (place s stamp : ℕ) (b : List ℕ) (alone : Judgement)
     → IsCourse (record { recording = r; steps = steps }) → slice_get r.entries place ≡ Some (Received s stamp b)
     → is_unsent alone ≡ true → Judges (cause_of r.setting [] (Get s b)) None (length r.entries) alone
     → if_taken r steps (source_of r place) ≡ first_sender r.entries b steps
 source_told r steps place s stamp b alone course at so judged =
-    let u = unsent r.setting b s (told_unsent _ _ alone so judged) in
+    let u = unsent r.setting b s (told_unsent _ _ _ alone so judged) in
     source_first r steps place s stamp b u.pdu course.limits course.good at u.means
 
 -- a datagram that was sent first by this entry
-pub received_from : (r : PlainRecording) (steps : List Step) (place s : ℕ) (b : List ℕ) (alone : Judgement) (e : ℕ) → Some e ≡ first_sender r.entries b steps
+received_from : (r : PlainRecording) (steps : List Step) (place s : ℕ) (b : List ℕ) (alone : Judgement) (e : ℕ) → Some e ≡ first_sender r.entries b steps
     → is_unsent alone ≡ true → Judges (cause_of r.setting [] (Get s b)) None (length r.entries) alone
     → Judges (cause_of r.setting (order_of r steps) (Get s b)) (link_of r steps place (Get s b)) (length r.entries) (Allowed (Some e))
 unfolding cause_of link_of
 received_from r steps place s b alone e is so judged =
-    let u = unsent r.setting b s (told_unsent _ _ alone so judged) in (
+    let u = unsent r.setting b s (told_unsent _ _ _ alone so judged) in (
       ap (option_and_then (get_cause r.setting (order_of r steps) b)) u.means
           ∙ get_where_sent r.setting (order_of r steps) b u.pdu u.known (sender_tells r b steps (Some e) is),
       is ∙ sym (ap (option_and_then (sender_link r b steps)) u.means ∙ ap (λ k. cond k (first_sender r.entries b steps) None) u.known),
@@ -156,17 +159,17 @@ received_from r steps place s b alone e is so judged =
     )
 
 -- a datagram that nobody sent
-pub received_unsent_here : (r : PlainRecording) (steps : List Step) (s : ℕ) (b : List ℕ) (alone : Judgement) → None ≡ first_sender r.entries b steps
+received_unsent_here : (r : PlainRecording) (steps : List Step) (s : ℕ) (b : List ℕ) (alone : Judgement) → None ≡ first_sender r.entries b steps
     → is_unsent alone ≡ true → Judges (cause_of r.setting [] (Get s b)) None (length r.entries) alone
     → cause_of r.setting (order_of r steps) (Get s b) ≡ Some NeverSent
 unfolding cause_of
 received_unsent_here r steps s b alone is so judged =
-    let u = unsent r.setting b s (told_unsent _ _ alone so judged) in
+    let u = unsent r.setting b s (told_unsent _ _ _ alone so judged) in
     ap (option_and_then (get_cause r.setting (order_of r steps) b)) u.means
     ∙ received_unsent r.setting (order_of r steps) b u.pdu u.known (sender_tells r b steps None is)
 
 -- a datagram whose sender does not matter
-pub received_alone : (r : PlainRecording) (steps : List Step) (place s : ℕ) (b : List ℕ) (alone : Judgement) → is_unsent alone ≡ false
+received_alone : (r : PlainRecording) (steps : List Step) (place s : ℕ) (b : List ℕ) (alone : Judgement) → is_unsent alone ≡ false
     → Judges (cause_of r.setting [] (Get s b)) None (length r.entries) alone
     → Judges (cause_of r.setting (order_of r steps) (Get s b)) (link_of r steps place (Get s b)) (length r.entries) alone
 received_alone r steps place s b (Forbidden cause) so judged =
@@ -177,3 +180,55 @@ received_alone r steps place s b (Allowed link) so judged = (
   judged.1 ∙ sym (received_unlinked r steps place s b judged.0),
   judged.2,
 )
+
+-- ---- every entry
+
+-- what is not judged to be unsent is judged by its station's log alone
+pub judged_alone : (r : PlainRecording) (steps : List Step) (n : ℕ) (e : Entry) (x : Judgement) → is_unsent x ≡ false → IsReady r steps n (event_of e)
+    → Judges (event_own_cause r n (event_of e)) (pair_of_entry r n e) (length r.entries) x
+    → Judges (cause_of r.setting (order_of r steps) (event_of e)) (link_of r steps n (event_of e)) (length r.entries) x
+judged_alone r steps n (Sent s stamp b) x so ready own = sent_judged r steps n s b x ready own
+judged_alone r steps n (Received s stamp b) x so ready own = received_alone r steps n s b x so own
+judged_alone r steps n (Told s e y) x so ready own = told_judged r steps n s e y x ready own
+
+-- none of these causes is that it was never sent
+abbrev AreOthers : List (Bool × Cause) → Type 0
+AreOthers [] = ⊤
+AreOthers (row ∷ rows) = (row.1 ≢ NeverSent) × AreOthers rows
+
+others_never : (rows : List (Bool × Cause)) → AreOthers rows → first_cause rows ≢ Some NeverSent
+others_never [] others = λ h. absurd (cc)
+others_never (row ∷ rows) others =
+    elim row.0 as (λ q. cond q (Some row.1) (first_cause rows) ≢ Some NeverSent) [
+      | true ↦ λ h. others.0 (same_Some row.1 NeverSent h)
+      | false ↦ others_never rows others.1
+    ]
+
+sent_never : (x : ℕ) (o : StationData) (log : History) (m : Option Pdu) → option_and_then (send_cause x o log) m ≢ Some NeverSent
+unfolding send_cause
+sent_never x o log None = λ h. absurd (cc)
+sent_never x o log (Some p) =
+    others_never (send_rows x o log p) (λ h. absurd (cc), (λ h. absurd (cc), (λ h. absurd (cc), (λ h. absurd (cc), (λ h. absurd (cc), (λ h. absurd (cc), tt))))))
+
+told_never : (told y : EntityState) → first_cause (tell_rows told y) ≢ Some NeverSent
+told_never told y = others_never (tell_rows told y) (λ h. absurd (cc), tt)
+
+-- what is judged to be unsent is a datagram that is received, and is judged by its source
+pub judged_by_source : (r : PlainRecording) (steps : List Step) (n : ℕ) (e : Entry) (x given : Judgement) → IsCourse (record { recording = r; steps = steps })
+    → slice_get r.entries n ≡ Some e → is_unsent x ≡ true
+    → Judges (event_own_cause r n (event_of e)) (pair_of_entry r n e) (length r.entries) x
+    → given ≡ by_source (if_taken r steps (source_of r n))
+    → Judges (cause_of r.setting (order_of r steps) (event_of e)) (link_of r steps n (event_of e)) (length r.entries) given
+judged_by_source r steps n (Sent s stamp b) x given course at so own is =
+    absurd (sent_never r.setting.exercise (station_at r s) (log_before r s n) (meaning r.setting.exercise b) (told_unsent _ _ _ x so own))
+judged_by_source r steps n (Told s e y) x given course at so own is =
+    absurd (told_never y (state_after r.setting.exercise (station_at r s) (log_before r s n) e) (told_unsent _ _ _ x so own))
+judged_by_source r steps n (Received s stamp b) x given course at so own is =
+    let told = source_told r steps n s stamp b x course at so own in
+    subst (λ g. Judges (cause_of r.setting (order_of r steps) (Get s b)) (link_of r steps n (Get s b)) (length r.entries) g)
+    (sym (is ∙ ap by_source told)) (by_first (first_sender r.entries b steps) refl)
+  where
+    by_first : (o : Option ℕ) → o ≡ first_sender r.entries b steps
+        → Judges (cause_of r.setting (order_of r steps) (Get s b)) (link_of r steps n (Get s b)) (length r.entries) (by_source o)
+    by_first (Some e) first = received_from r steps n s b x e first so own
+    by_first None first = received_unsent_here r steps s b x first so own

@@ -40,6 +40,11 @@ was_taken r steps e =
 abbrev pub if_taken : PlainRecording → List Step → Option ℕ → Option ℕ
 if_taken r steps o = option_and_then (λ e. if was_taken r steps e then Some e else None) o
 
+-- what is judged of a datagram that had to be sent before, by the entry that sent it first, where that was taken
+abbrev pub by_source : Option ℕ → Judgement
+by_source (Some source) = Allowed (Some source)
+by_source None = Forbidden NeverSent
+
 -- What an entry is judged to be after these steps
 abbrev pub JudgesNext : PlainRecording → List Step → ℕ → Judgement → Type 0
 JudgesNext r steps place given = IfSome (slice_get r.entries place) (λ e. Judges (cause_of r.setting (order_of r steps) (event_of e))

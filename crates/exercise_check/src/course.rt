@@ -112,6 +112,7 @@ impl<'a, L: ExerciseLog> Course<'a, L> {
         // It lacks memory only where the event is allowed.
         ensures allowed { OnErr result (IfSome (slice_get self.old.recording.entries place) (λ e. IsAllowed self.old.recording.setting (so_far self.old) (event_of e))) }
     {
+        self.found.settle_source(place);
         match judge(&self.found, &self.cursors, place) {
             Judgement::Forbidden(cause) => Ok(Progress::Barred(cause)),
             Judgement::Allowed(link) => {

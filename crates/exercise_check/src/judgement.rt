@@ -1,19 +1,15 @@
 //! What the next event of a station is judged to be.
 
-ghost use Rattle.std.specs.Prelude.{◌≡◌, ◌<◌, ℕ, List, length, slice_get, [], Some, None};
-ghost use Rattle.exercise_model.specs.Entry.{Received};
-ghost use Rattle.exercise_model.specs.History.{Get};
-ghost use Rattle.exercise_model.specs.Cause.{cause_of};
+ghost use Rattle.std.specs.Prelude.{◌≡◌, ◌<◌, List, length};
 ghost use Rattle.exercise_findings.specs.Source.{source_of};
 ghost use Rattle.exercise_check.specs.declared.certificate.Step.{Step};
-ghost use Rattle.exercise_check.specs.Order.{order_of, link_of};
-ghost use Rattle.exercise_check.specs.Course.{IsCourse, Judges};
+ghost use Rattle.exercise_check.specs.Course.{IsCourse};
 ghost use Rattle.exercise_check.specs.Cursors.{AreCursors};
-ghost use Rattle.exercise_check.specs.Judging.{judged, is_unsent, if_taken, JudgesNext, IsReadyAt};
+ghost use Rattle.exercise_check.specs.Judging.{judged, is_unsent, if_taken, by_source, JudgesNext, IsReadyAt};
 
 use crate::cursors::{Cursors, was_taken};
 use exercise_findings::Findings;
-use exercise_model::{Cause, EntryView, ExerciseLog};
+use exercise_model::{Cause, ExerciseLog};
 
 /// What an event that comes next is judged to be.
 #[derive(Clone, Copy)]
@@ -56,23 +52,16 @@ fn source_taken<L: ExerciseLog>(
     }
 }
 
-/// Judges a datagram that a station receives, by whether its source was taken. As if nothing had been
-/// sent before it is judged to be this.
+/// Judges a datagram that a station is to receive, and which had to be sent before: it was where its
+/// source was taken.
 fn judge_received<L: ExerciseLog>(
     found: &Findings<'_, L>,
     cursors: &Cursors,
     place: usize,
-    alone: Judgement,
 ) -> Judgement
     requires { length cursors.now.next.items ≡ length found.now.setting.stations }
-    ensures { let r = found.now in (steps : List Step) (s stamp : ℕ) (b : List ℕ) → slice_get r.entries place ≡ Some (Received s stamp b)
-        → IsCourse (record { recording = r; steps = steps }) → AreCursors r steps cursors.now
-        → Judges (cause_of r.setting [] (Get s b)) None (length r.entries) alone
-        → Judges (cause_of r.setting (order_of r steps) (Get s b)) (link_of r steps place (Get s b)) (length r.entries) result }
+    ensures { (steps : List Step) → AreCursors found.now steps cursors.now → result ≡ by_source (if_taken found.now steps (source_of found.now place)) }
 {
-    if !is_unsent(alone) {
-        return alone;
-    }
     match source_taken(found, cursors, place) {
         Some(source) => Judgement::Allowed(Some(source)),
         None => Judgement::Forbidden(Cause::NeverSent),
@@ -81,7 +70,7 @@ fn judge_received<L: ExerciseLog>(
 
 /// Judges the event of an entry, its station's next one, by what its station's log says of it: the
 /// first cause against it, the entry of the request that it takes up, and its source; and by which
-/// entries were taken so far.
+/// entries were taken so far, where the log says that it receives what had to be sent before.
 pub(crate) fn judge<L: ExerciseLog>(
     found: &Findings<'_, L>,
     cursors: &Cursors,
@@ -92,8 +81,9 @@ pub(crate) fn judge<L: ExerciseLog>(
     ensures { let r = found.now in (steps : List Step) → IsCourse (record { recording = r; steps = steps }) → AreCursors r steps cursors.now → IsReadyAt r steps place → JudgesNext r steps place result }
 {
     let alone = judged(found.cause(place), found.pair(place));
-    match found.log().entry(place) {
-        EntryView::Received { .. } => judge_received(found, cursors, place, alone),
-        EntryView::Sent { .. } | EntryView::Told { .. } => alone,
+    if is_unsent(alone) {
+        judge_received(found, cursors, place)
+    } else {
+        alone
     }
 }

@@ -1,11 +1,11 @@
 -- Columns: one value for each entry.
 use Rattle.std.proofs.Common.{◌≡◌, ℕ, ◌+◌, ◌<◌, ◌≤◌, List, [], ◌∷◌, ◌++◌, length, map, Option, Some, None, refl, sym, ap, ◌∙◌, subst, ⊎_elim, arith}
-use Rattle.std.specs.Prelude.{slice_index_or, nat_eq, IfSome, OnOk, OnErr, Result, Ok, Err, if◌then◌else◌}
+use Rattle.std.specs.Prelude.{◌≢◌, slice_index_or, nat_eq, IfSome, OnOk, OnErr, Result, Ok, Err, if◌then◌else◌}
 use Rattle.std.proofs.Math.ListN.{get_or-eq_default}
 use Rattle.std.proofs.lemmas.List.{length_push, get_or_append_left, get_or_at, get_or-map, length-map}
 use Rattle.std.proofs.lemmas.Bool.{cases_lt, cases_eq, eq-eqb, ne_eqb}
 use Rattle.exercise_findings.specs.Number.{entry_number, entry_of}
-use Rattle.exercise_findings.specs.Column.{IsColumn, IsTurned}
+use Rattle.exercise_findings.specs.Column.{IsColumn}
 
 -- a column without entries
 pub column_none : {X : Type 0} (d : X) (P : ℕ → X → Type 0) → IsColumn d P 0 []
@@ -23,47 +23,22 @@ column_more d P n xs x column here = record {
       (cases_lt j n);
 }
 
--- ---- a column that is gone over
+-- ---- a column in which one number is written
 
-pub turned_none : {X : Type 0} (d : X) (P Q : ℕ → X → Type 0) (m : ℕ) (xs : List X) → IsColumn d P m xs → IsColumn d (IsTurned P Q 0) m xs
-turned_none d P Q m xs column = record { count = column.count; each = λ j l. (λ below. absurd (omega (arith, below)), λ _. column.each j l) }
+pub written_here : (n x : ℕ) (old new : List ℕ) → ((j : ℕ) → slice_index_or new j 0 ≡ (if nat_eq j n then x else slice_index_or old j 0)) → slice_index_or new n 0 ≡ x
+written_here n x old new written = written n ∙ ap (λ q. if q then x else slice_index_or old n 0) (eq-eqb n n refl)
 
-pub turned_all : {X : Type 0} (d : X) (P Q : ℕ → X → Type 0) (n m : ℕ) (xs : List X) → n ≡ m → IsColumn d (IsTurned P Q n) m xs → IsColumn d Q m xs
-turned_all d P Q n m xs end column = record { count = column.count; each = λ j l. (column.each j l).0 (omega (arith, l, end)) }
+pub written_apart : (n x : ℕ) (old new : List ℕ) → ((j : ℕ) → slice_index_or new j 0 ≡ (if nat_eq j n then x else slice_index_or old j 0))
+    → (j : ℕ) → j ≢ n → slice_index_or new j 0 ≡ slice_index_or old j 0
+written_apart n x old new written j apart = written j ∙ ap (λ q. if q then x else slice_index_or old j 0) (ne_eqb j n apart)
 
--- one more is gone over
-turned_one : {X : Type 0} (P Q : ℕ → X → Type 0) (n j : ℕ) (x : X) → IsTurned P Q n j x → (n ≡ j → Q j x) → IsTurned P Q (n + 1) j x
-turned_one P Q n j x before here = (
-  λ below. ⊎_elim
-      (λ (l : j < n). before.0 l)
-      (λ (past : n ≤ j). here (omega (arith, below, past)))
-      (cases_lt j n),
-  λ past. before.1 (omega (arith, past)),
-)
-
--- and stays
-pub turned_kept : {X : Type 0} (d : X) (P Q : ℕ → X → Type 0) (n m : ℕ) (xs : List X)
-    → (P n (slice_index_or xs n d) → Q n (slice_index_or xs n d)) → IsColumn d (IsTurned P Q n) m xs → IsColumn d (IsTurned P Q (n + 1)) m xs
-turned_kept d P Q n m xs own column = record {
-  count = column.count;
-  each = λ j l. turned_one P Q n j (slice_index_or xs j d) (column.each j l) (λ (same : n ≡ j).
-      subst (λ k. Q k (slice_index_or xs k d)) same
-      (own (subst (λ k. P k (slice_index_or xs k d)) (sym same) ((column.each j l).1 (omega (arith, same))))));
-}
-
--- or is written
-pub turned_written : (P Q : ℕ → ℕ → Type 0) (n m x : ℕ) (old new : List ℕ) → length new ≡ length old
-    → ((j : ℕ) → slice_index_or new j 0 ≡ (if nat_eq j n then x else slice_index_or old j 0)) → Q n x
-    → IsColumn 0 (IsTurned P Q n) m old → IsColumn 0 (IsTurned P Q (n + 1)) m new
-turned_written P Q n m x old new count written here column = record {
+pub column_written : (P : ℕ → ℕ → Type 0) (n m x : ℕ) (old new : List ℕ) → length new ≡ length old
+    → ((j : ℕ) → slice_index_or new j 0 ≡ (if nat_eq j n then x else slice_index_or old j 0)) → P n x → IsColumn 0 P m old → IsColumn 0 P m new
+column_written P n m x old new count written here column = record {
   count = count ∙ column.count;
   each = λ j l. ⊎_elim
-      (λ (same : j ≡ n).
-      let is : slice_index_or new j 0 ≡ x = written j ∙ ap (λ q. if q then x else slice_index_or old j 0) (eq-eqb j n same) in
-      (λ _. subst (Q j) (sym is) (subst (λ k. Q k x) (sym same) here), λ past. absurd (omega (arith, past, same))))
-      (λ apart.
-      let is : slice_index_or new j 0 ≡ slice_index_or old j 0 = written j ∙ ap (λ q. if q then x else slice_index_or old j 0) (ne_eqb j n apart) in
-      subst (IsTurned P Q (n + 1) j) (sym is) (turned_one P Q n j (slice_index_or old j 0) (column.each j l) (λ same. absurd (apart (sym same)))))
+      (λ (same : j ≡ n). subst (λ k. P k (slice_index_or new k 0)) (sym same) (subst (P n) (sym (written_here n x old new written)) here))
+      (λ apart. subst (P j) (sym (written_apart n x old new written j apart)) (column.each j l))
       (cases_eq j n);
 }
 

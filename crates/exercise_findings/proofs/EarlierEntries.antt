@@ -1,7 +1,7 @@
 -- What each entry goes back to, in one column: while the log is passed, and when all sources are found.
-use Rattle.std.proofs.Common.{◌≡◌, ℕ, ◌+◌, ◌-◌, ◌<◌, ◌≤◌, List, length, Option, Some, None, refl, sym, ap, ◌∙◌, subst, arith}
-use Rattle.std.specs.Prelude.{◌≢◌, IfSome, slice_get, nat_lt, unwrap_or, option_map, if◌then◌else◌}
-use Rattle.std.proofs.lemmas.Bool.{lt-ltb, le-ltb}
+use Rattle.std.proofs.Common.{◌≡◌, ℕ, ◌+◌, ◌-◌, ◌<◌, ◌≤◌, List, length, Option, Some, None, true, refl, sym, ap, ◌∙◌, subst, arith}
+use Rattle.std.specs.Prelude.{◌≢◌, IfSome, is_some, slice_get, nat_lt, unwrap_or, option_map, if◌then◌else◌}
+use Rattle.std.proofs.lemmas.Bool.{lt-ltb, le-ltb, true≢false}
 use Rattle.dis_records.specs.declared.entity_state.EntityState.{EntityState}
 use Rattle.exercise_model.specs.Entry.{Sent, Received, Told}
 use Rattle.exercise_model.specs.Recording.{PlainRecording}
@@ -63,19 +63,24 @@ source_few r b few = at_most (first_source r b (length r.entries)) (source_below
     at_most None l = tt
     at_most (Some e) l = omega (arith, l, few)
 
-pub sent_so_far : (r : PlainRecording) (i s stamp : ℕ) (b : List ℕ) → slice_get r.entries i ≡ Some (Sent s stamp b) → i < 2147483648
-    → IsSoFarAt r i (entry_number (pair_of r i))
-sent_so_far r i s stamp b at few = record {
+-- what is known for good is known so far
+pub known_so_far : (r : PlainRecording) (i number : ℕ) → IsEarlierAt r i number → IsSoFarAt r i number
+known_so_far r i number known = record { pair = known.pair; source = λ _. known.source }
+
+pub sent_earlier : (r : PlainRecording) (i s stamp : ℕ) (b : List ℕ) → slice_get r.entries i ≡ Some (Sent s stamp b) → i < 2147483648
+    → IsEarlierAt r i (entry_number (pair_of r i))
+sent_earlier r i s stamp b at few = record {
   pair = request_back (pair_of r i) (below (pair_of r i) i 2147483648 few (pair_earlier r i));
-  source = λ _. request_no_source (pair_of r i) (below (pair_of r i) i 2147483648 few (pair_earlier r i)) ∙ sym (source_here r i (Sent s stamp b) at);
+  source = request_no_source (pair_of r i) (below (pair_of r i) i 2147483648 few (pair_earlier r i)) ∙ sym (source_here r i (Sent s stamp b) at);
 }
 
-pub told_so_far : (r : PlainRecording) (i s x : ℕ) (y : EntityState) → slice_get r.entries i ≡ Some (Told s x y) → i < 2147483648
-    → IsSoFarAt r i (entry_number (pair_of r i))
-told_so_far r i s x y at few = record {
-  pair = request_back (pair_of r i) (below (pair_of r i) i 2147483648 few (pair_earlier r i));
-  source = λ _. request_no_source (pair_of r i) (below (pair_of r i) i 2147483648 few (pair_earlier r i)) ∙ sym (source_here r i (Told s x y) at);
-}
+pub told_earlier : (r : PlainRecording) (i s x : ℕ) (y : EntityState) → slice_get r.entries i ≡ Some (Told s x y) → IsEarlierAt r i 4294967295
+told_earlier r i s x y at = record { pair = sym (pair_here r i (Told s x y) at); source = sym (source_here r i (Told s x y) at) }
+
+-- a source that was found is not one that is yet to be found
+pub numbered_apart : (o : Option ℕ) → is_some o ≡ true → IfSome o (λ e. e < 1048576) → numbered o 4294967294 ≢ 4294967294
+numbered_apart None some few = absurd (true≢false (sym some))
+numbered_apart (Some e) some few = λ same. absurd (omega (arith, few, same))
 
 -- ---- all sources
 

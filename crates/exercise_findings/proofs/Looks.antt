@@ -45,7 +45,7 @@ key_here : (r : PlainRecording) (n : ℕ) (e : Entry) → slice_get r.entries n 
 unfolding key_at
 key_here r n e at = ap (option_and_then (λ e. event_key r (event_of e))) at
 
-behind_here : (r : PlainRecording) (n : ℕ) (e : Entry) → slice_get r.entries n ≡ Some e → behind_at r n ≡ event_behind r (event_of e)
+pub behind_here : (r : PlainRecording) (n : ℕ) (e : Entry) → slice_get r.entries n ≡ Some e → behind_at r n ≡ event_behind r (event_of e)
 unfolding behind_at
 behind_here r n e at = ap (option_and_then (λ e. event_behind r (event_of e))) at
 

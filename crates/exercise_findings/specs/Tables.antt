@@ -57,6 +57,7 @@ pub record IsPass (r : PlainRecording) (n : ℕ) (f : Pass) : Type 0 where
   pub tied : AreTied r n f.tables
   pub causes : IsColumn None (IsOwnCause r) n f.causes.items
   pub earlier : IsColumn 0 (IsSoFarAt r) n f.earlier.items
+  pub later : f.looks.later ≡ 0 → IsColumn 0 (IsEarlierAt r) n f.earlier.items
   pub ables : AreBehind r n f.ables.items
   pub senders : AreSenders r n f.senders
   pub others : f.others ≡ others_among r.setting.exercise (take n r.entries)

@@ -6,7 +6,7 @@ ghost use Rattle.siman_pdus.specs.Reading.{pdu_of};
 ghost use Rattle.siman_pdus.specs.Role.{is_request_body};
 ghost use Rattle.siman_pdus.specs.declared.pdu.Pdu.{Pdu};
 ghost use Rattle.exercise_model.specs.History.{station_at};
-ghost use Rattle.exercise_model.specs.Setting.{SettingData, is_recorded};
+ghost use Rattle.exercise_model.specs.Setting.{SettingData, is_from, is_recorded};
 ghost use Rattle.exercise_model.specs.State.{state_after};
 ghost use Rattle.exercise_model.specs.Cause.{is_reused, is_changed_answer, is_hopeless, is_hopeless_for, is_impossible, send_cause, get_cause, tell_rows, first_cause};
 ghost use Rattle.exercise_model.specs.Place.{log_before};
@@ -19,9 +19,7 @@ use crate::firsts::Firsts;
 use crate::state::state_before;
 use crate::tables::Tables;
 use dis_records::{EntityState, Kind, Scope};
-use exercise_model::{
-    Cause, Change, ExerciseLog, Form, is_answer, is_entity, is_from, key_of, responds,
-};
+use exercise_model::{Cause, Change, ExerciseLog, Form, is_answer, is_entity, key_of, responds};
 use siman_pdus::{ABLE, PduView, UNABLE, answers};
 
 /// Whether a PDU that a station sends at an entry is an Able after an Unable under its key, or an
@@ -104,8 +102,9 @@ fn is_impossible<L: ExerciseLog>(
         && is_hopeless(log, tables, station, before, Change::of(pdu, request))
 }
 
-/// The first cause against a PDU that a station sends at an entry: a request that reuses its
-/// identifier or not, or an answer that takes up this request, if there is one.
+/// The first cause against a PDU that a station sends at an entry, which comes from that station or
+/// not: a request that reuses its identifier or not, or an answer that takes up this request, if there
+/// is one.
 #[tactic(auto, unfolding(exercise_model::specs::Cause::send_cause))]
 pub(crate) fn judge_sent<L: ExerciseLog>(
     log: &L,
@@ -113,17 +112,19 @@ pub(crate) fn judge_sent<L: ExerciseLog>(
     station: u16,
     before: usize,
     pdu: &PduView<'_>,
+    from: bool,
     reused: bool,
     taken: &Option<(u32, PduView<'_>)>,
 ) -> Option<Cause>
     requires at { station < length (L.recording log.now).setting.stations }
     requires within { before < length (L.recording log.now).entries }
     requires tied { AreTied (L.recording log.now) before tables.now }
+    requires from { from ≡ is_from (station_at (L.recording log.now) station).address (pdu_of pdu.now) }
     requires reused { let r = L.recording log.now in reused ≡ (is_request_body (pdu_of pdu.now).body && is_reused r.setting.exercise (pdu_of pdu.now) (log_before r station before)) }
     requires request { option_map (λ t. pdu_of t.1) taken.now ≡ request_of_sent (L.recording log.now) station before (pdu_of pdu.now) }
     ensures { let r = L.recording log.now in result ≡ send_cause r.setting.exercise (station_at r station) (log_before r station before) (pdu_of pdu.now) }
 {
-    if !is_from(log.station(usize::from(station)).address(), pdu) {
+    if !from {
         return Some(Cause::WrongSender);
     }
     if reused {

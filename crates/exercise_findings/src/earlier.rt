@@ -1,16 +1,16 @@
 //! The earlier entry that each entry goes back to, in one column: what was sent to the request that
 //! it takes up, what was received to its source.
 
-ghost use Rattle.std.specs.Prelude.{◌≡◌, ◌<◌, ◌+◌, ℕ, length, IfSome, IfNone, Some, unwrap_or, option_map};
-ghost use Rattle.exercise_model.specs.Account.{pair_of};
-ghost use Rattle.exercise_model.specs.Recording.{PlainRecording};
-ghost use Rattle.exercise_findings.specs.Column.{IsColumn, IsTurned};
+ghost use Rattle.std.specs.Prelude.{◌≡◌, ◌≢◌, ◌<◌, ◌+◌, ℕ, length, slice_index_or, IfSome, IfNone, Some, is_some, true, unwrap_or, option_map};
+ghost use Rattle.exercise_model.specs.Recording.{PlainRecording, IsRecording};
+ghost use Rattle.exercise_findings.specs.Column.{IsColumn};
 ghost use Rattle.exercise_findings.specs.Earlier.{request_in, source_in, IsEarlierAt, IsSoFarAt};
 ghost use Rattle.exercise_findings.specs.Senders.{AreSenders};
+ghost use Rattle.exercise_findings.specs.Sent.{Receives};
 ghost use Rattle.exercise_findings.specs.Source.{first_source, source_of};
 
 use crate::column::replace;
-use crate::number::{NO_ENTRY, entry_number};
+use crate::number::NO_ENTRY;
 use crate::senders::{Senders, first_source};
 use exercise_model::{EntryView, ExerciseLog};
 
@@ -33,6 +33,8 @@ pub(crate) struct Looks {
     pub misses: u32,
     /// How many are yet to be found.
     pub later: u32,
+    /// How many may be, so that they are all looked up after the pass.
+    pub most: u32,
 }
 
 /// The request that a number stands for.
@@ -70,18 +72,25 @@ fn source_number(source: Option<u32>, none: u32) -> u32
     }
 }
 
-/// Where a datagram was sent first so far by the station that it comes from, if that is looked for:
-/// what was sent lately is found faster than all at the end, but where the last sources were not
-/// found, few are looked for.
+/// Whether the source of the next entry is looked for: what was sent lately is found faster than all
+/// at the end; but where the last sources were not found few are looked for, and where so many are yet
+/// to be found that each is looked up when it is asked for, none is. What is found in the end is the
+/// same whatever it answers.
+fn is_looked_for(looks: &Looks, entry: usize) -> bool {
+    looks.later <= looks.most && (looks.misses < MISSES || entry % RARE == 0)
+}
+
+/// Where a datagram was sent first so far by the station that it comes from, if that is looked for.
 fn source_so_far(
     senders: &Senders<'_>,
     looks: &mut Looks,
     datagram: &[u8],
     entry: usize,
 ) -> Option<u32>
-    ensures { (r : PlainRecording) (n : ℕ) → AreSenders r n senders.now → IfSome result (λ source. first_source r datagram.now n ≡ Some source) }
+    ensures source { (r : PlainRecording) (n : ℕ) → AreSenders r n senders.now → IfSome result (λ source. first_source r datagram.now n ≡ Some source) }
+    ensures later { looks.new.later ≡ 0 → (looks.old.later ≡ 0) × (is_some result ≡ true) }
 {
-    if looks.misses < MISSES || entry % RARE == 0 {
+    if is_looked_for(looks, entry) {
         let source = first_source(senders, datagram);
         if source.is_some() {
             looks.misses = 0;
@@ -93,26 +102,22 @@ fn source_so_far(
     None
 }
 
-/// The number of what the next entry goes back to, as far as that is found: the entry takes up this
-/// request, or none.
+/// The number of the source of what the next entry receives, as far as that is found.
 pub(crate) fn earlier_so_far<L: ExerciseLog>(
     senders: &Senders<'_>,
     looks: &mut Looks,
     log: &L,
     entry: usize,
-    pair: Option<u32>,
+    datagram: &[u8],
 ) -> u32
+    requires limits { IsRecording (L.recording log.now) }
     requires within { entry < length (L.recording log.now).entries }
-    requires pair { pair ≡ pair_of (L.recording log.now) entry }
+    requires receives { (s : ℕ) × Receives (L.recording log.now) entry s datagram.now }
     requires tied { AreSenders (L.recording log.now) entry senders.now }
-    ensures { IsSoFarAt (L.recording log.now) entry result }
+    ensures so_far { IsSoFarAt (L.recording log.now) entry result }
+    ensures later { looks.new.later ≡ 0 → (looks.old.later ≡ 0) × IsEarlierAt (L.recording log.now) entry result }
 {
-    match log.entry(entry) {
-        EntryView::Received { bytes, .. } => {
-            source_number(source_so_far(senders, looks, bytes, entry), LATER)
-        }
-        EntryView::Sent { .. } | EntryView::Told { .. } => entry_number(pair),
-    }
+    source_number(source_so_far(senders, looks, datagram, entry), LATER)
 }
 
 /// The source of an entry, looked up once all are known.
@@ -152,8 +157,10 @@ pub(crate) fn source_kept<L: ExerciseLog>(
 fn find_source<L: ExerciseLog>(column: &mut Vec<u32>, senders: &Senders<'_>, log: &L, entry: usize)
     requires within { entry < length (L.recording log.now).entries }
     requires senders { let r = L.recording log.now in AreSenders r (length r.entries) senders.now }
-    requires so_far { let r = L.recording log.now in IsColumn 0 (IsTurned (IsSoFarAt r) (IsEarlierAt r) entry) (length r.entries) column.old.items }
-    ensures { let r = L.recording log.now in IsColumn 0 (IsTurned (IsSoFarAt r) (IsEarlierAt r) (entry + 1)) (length r.entries) column.new.items }
+    requires so_far { let r = L.recording log.now in IsColumn 0 (IsSoFarAt r) (length r.entries) column.old.items }
+    ensures so_far { let r = L.recording log.now in IsColumn 0 (IsSoFarAt r) (length r.entries) column.new.items }
+    ensures here { IsEarlierAt (L.recording log.now) entry (slice_index_or column.new.items entry 0) }
+    ensures others { (j : ℕ) → j ≢ entry → slice_index_or column.new.items j 0 ≡ slice_index_or column.old.items j 0 }
 {
     if column[entry] == LATER {
         let source = source_number(source_at(senders, log, entry), NO_ENTRY);
@@ -161,17 +168,42 @@ fn find_source<L: ExerciseLog>(column: &mut Vec<u32>, senders: &Senders<'_>, log
     }
 }
 
-/// The number of what each entry goes back to, of which this was found while the log was passed.
+/// Finds the source of an entry, where it is yet to be found and it is kept where each datagram was
+/// sent first.
+pub(crate) fn settle_source<L: ExerciseLog>(
+    senders: &Option<Senders<'_>>,
+    column: &mut Vec<u32>,
+    log: &L,
+    entry: usize,
+)
+    requires within { entry < length (L.recording log.now).entries }
+    requires senders { let r = L.recording log.now in IfSome senders.now (AreSenders r (length r.entries)) }
+    requires so_far { let r = L.recording log.now in IsColumn 0 (IsSoFarAt r) (length r.entries) column.old.items }
+    ensures none { IfNone senders.now (column.new ≡ column.old) }
+    ensures so_far { let r = L.recording log.now in IsColumn 0 (IsSoFarAt r) (length r.entries) column.new.items }
+{
+    if let Some(senders) = senders {
+        find_source(column, senders, log, entry);
+    }
+}
+
+/// The number of what each entry goes back to, of which this was found while the log was passed, with
+/// so many sources that are yet to be found.
 pub(crate) fn all_earlier<L: ExerciseLog>(
     senders: &Senders<'_>,
     log: &L,
     so_far: Vec<u32>,
+    later: u32,
 ) -> Vec<u32>
     requires senders { let r = L.recording log.now in AreSenders r (length r.entries) senders.now }
     requires so_far { let r = L.recording log.now in IsColumn 0 (IsSoFarAt r) (length r.entries) so_far.items }
+    requires found { let r = L.recording log.now in later ≡ 0 → IsColumn 0 (IsEarlierAt r) (length r.entries) so_far.items }
     ensures { let r = L.recording log.now in IsColumn 0 (IsEarlierAt r) (length r.entries) result.items }
 {
     let mut column = so_far;
+    if later == 0 {
+        return column;
+    }
     for entry in 0..log.entry_count() {
         find_source(&mut column, senders, log, entry);
     }

@@ -14,7 +14,7 @@ use crate::account::Account;
 use crate::accounting::account;
 use crate::earlier::{request_in, source_kept};
 use crate::made::{change_made_at, state_made_before};
-use crate::pass::{Passed, find};
+use crate::pass::{Passed, find, settle};
 use dis_records::EntityState;
 use exercise_model::{Cause, Change, ExerciseLog};
 use std::alloc::{AllocError, Global};
@@ -87,6 +87,16 @@ impl<'a, L: ExerciseLog> Findings<'a, L> {
         }
         let earlier = self.found.earlier[entry];
         source_kept(&self.found.senders, self.log, entry, earlier)
+    }
+
+    /// Looks up where what an entry received comes from, where that is yet to be found, so that
+    /// [`Findings::source`] has it at hand. It changes nothing that is answered, and takes no memory.
+    pub fn settle_source(&mut self, entry: usize)
+        ensures { self.new ≡ self.old }
+    {
+        if entry < self.log.entry_count() {
+            settle(&mut self.found, self.log, entry);
+        }
     }
 
     /// What an entry changes at its station: something where it is the first Able under its key and

@@ -7,22 +7,24 @@ ghost use Rattle.exercise_model.specs.Account.{pair_of_sent, sender_of};
 ghost use Rattle.exercise_model.specs.Cause.{send_cause, get_cause, is_reused};
 ghost use Rattle.exercise_model.specs.History.{station_at};
 ghost use Rattle.exercise_model.specs.Place.{log_before};
+ghost use Rattle.exercise_model.specs.Recording.{IsRecording};
 ghost use Rattle.exercise_model.specs.Setting.{is_from};
 ghost use Rattle.exercise_model.specs.State.{change_by};
 ghost use Rattle.exercise_findings.specs.Firsts.{sent_key, received_key};
 ghost use Rattle.exercise_findings.specs.Behind.{key_behind};
 ghost use Rattle.exercise_findings.specs.Requests.{AreRequests};
+ghost use Rattle.exercise_findings.specs.Sent.{Sends, Receives};
 ghost use Rattle.exercise_findings.specs.Tables.{AreTied, IsFound};
 
 use crate::behind::key_behind;
-use crate::cause::{judge_sent, judge_told, judge_unsent};
+use crate::cause::{judge_sent, judge_unsent};
 use crate::exchange::taken_up;
 use crate::key::{Key, received_key, sent_key};
 use crate::requests::{Requests, note_request};
 use crate::sender::sender_of;
 use crate::state::change_by;
 use crate::tables::Tables;
-use exercise_model::{Cause, Change, EntryView, ExerciseLog, is_from, meaning_view};
+use exercise_model::{Cause, Change, ExerciseLog, is_from, meaning_view};
 use siman_pdus::PduView;
 use std::alloc::AllocError;
 
@@ -103,14 +105,15 @@ fn found_sent<L: ExerciseLog>(
     ensures other { result.other ≡ false }
 {
     let address = log.station(usize::from(station)).address();
+    let from = is_from(address, pdu);
     let taken = taken_up(log, &tables.firsts, station, entry, pdu);
     Found {
-        cause: judge_sent(log, tables, station, entry, pdu, reused, &taken),
+        cause: judge_sent(log, tables, station, entry, pdu, from, reused, &taken),
         pair: pair_of(&taken),
         change: change_by(log, &tables.firsts, station, entry, pdu, &taken),
         key: sent_key(station, pdu),
         behind: None,
-        is_source: is_from(address, pdu),
+        is_source: from,
         other: false,
     }
 }
@@ -135,38 +138,47 @@ fn found_received<L: ExerciseLog>(log: &L, station: u16, pdu: &PduView<'_>) -> F
     }
 }
 
-/// What the next entry of a log is found to be.
-pub(crate) fn find_at<L: ExerciseLog>(
+/// What the next entry of a log is found to be, by which a station sends a datagram.
+pub(crate) fn find_sent<L: ExerciseLog>(
     log: &L,
     tables: &Tables,
     requests: &mut Requests,
     entry: usize,
+    station: u16,
+    bytes: &[u8],
 ) -> Result<Found, AllocError>
+    requires limits { IsRecording (L.recording log.now) }
+    requires at { station < length (L.recording log.now).setting.stations }
+    requires few { entry < 4294967295 }
     requires within { entry < length (L.recording log.now).entries }
+    requires sends { Sends (L.recording log.now) entry station bytes.now }
     requires tied { AreTied (L.recording log.now) entry tables.now }
     requires requests { AreRequests (L.recording log.now) entry requests.old }
     ensures found { IfOk result (IsFound (L.recording log.now) entry) }
     ensures requests { OnOk result (AreRequests (L.recording log.now) (entry + 1) requests.new) }
 {
-    match log.entry(entry) {
-        EntryView::Sent { station, bytes, .. } => match meaning_view(log.exercise(), bytes) {
-            Some(pdu) => {
-                let reused = note_request(requests, log, station, entry, &pdu)?;
-                Ok(found_sent(log, tables, station, entry, &pdu, reused))
-            }
-            None => Ok(found_other()),
-        },
-        EntryView::Received { station, bytes, .. } => match meaning_view(log.exercise(), bytes) {
-            Some(pdu) => Ok(found_received(log, station, &pdu)),
-            None => Ok(found_other()),
-        },
-        EntryView::Told {
-            station,
-            entity,
-            state,
-        } => {
-            let cause = judge_told(log, tables, station, entry, entity, state);
-            Ok(judged(cause))
+    match meaning_view(log.exercise(), bytes) {
+        Some(pdu) => {
+            let reused = note_request(requests, log, station, entry, &pdu)?;
+            Ok(found_sent(log, tables, station, entry, &pdu, reused))
         }
+        None => Ok(found_other()),
+    }
+}
+
+/// What an entry of a log is found to be, by which a station receives a datagram.
+pub(crate) fn find_received<L: ExerciseLog>(
+    log: &L,
+    entry: usize,
+    station: u16,
+    bytes: &[u8],
+) -> Found
+    requires at { station < length (L.recording log.now).setting.stations }
+    requires receives { Receives (L.recording log.now) entry station bytes.now }
+    ensures { IsFound (L.recording log.now) entry result }
+{
+    match meaning_view(log.exercise(), bytes) {
+        Some(pdu) => found_received(log, station, &pdu),
+        None => found_other(),
     }
 }

@@ -1,17 +1,22 @@
 //! One pass over a log, which finds what the log of each station says of its own entries.
 
-ghost use Rattle.std.specs.Prelude.{◌≡◌, ◌<◌, ◌+◌, length, OnOk, IfOk, if◌then◌else◌};
+ghost use Rattle.std.specs.Prelude.{◌≡◌, ◌<◌, ◌+◌, length, slice_get, Some, OnOk, IfOk, if◌then◌else◌};
+ghost use Rattle.exercise_model.specs.Entry.{Told};
 ghost use Rattle.exercise_model.specs.Recording.{IsRecording};
 ghost use Rattle.exercise_findings.specs.Requests.{AreRequests};
+ghost use Rattle.exercise_findings.specs.Sent.{Sends, Receives};
 ghost use Rattle.exercise_findings.specs.Tables.{IsPass, AreFound, AreFindings};
 
 use crate::behind::{Able, note_behind};
-use crate::earlier::{Looks, all_earlier, earlier_so_far};
-use crate::found::find_at;
+use crate::cause::judge_told;
+use crate::earlier::{Looks, all_earlier, earlier_so_far, settle_source};
+use crate::found::{find_received, find_sent};
+use crate::number::{NO_ENTRY, entry_number};
 use crate::requests::{Requests, no_requests};
 use crate::senders::{Senders, no_senders, note_sender};
-use crate::tables::{Tables, no_tables, note_tables};
-use exercise_model::{Cause, ExerciseLog};
+use crate::tables::{Tables, no_tables, note_key, note_tables};
+use dis_records::EntityState;
+use exercise_model::{Cause, EntryView, ExerciseLog};
 use std::alloc::{AllocError, Global};
 
 /// One source of so many entries that is yet to be found is many.
@@ -71,6 +76,7 @@ fn nothing_found<'a, L: ExerciseLog>(alloc: Global, log: &'a L) -> Result<Pass<'
         looks: Looks {
             misses: 0,
             later: 0,
+            most: (entries / MANY) as u32,
         },
         ables: Vec::new(alloc),
         senders: no_senders(alloc),
@@ -83,6 +89,81 @@ fn one_if(so: bool) -> u32
     ensures { result ≡ (if so then 1 else 0) }
 {
     if so { 1 } else { 0 }
+}
+
+/// Keeps what the next entry is found to be, by which a station sends a datagram.
+fn keep_sent<'a, L: ExerciseLog>(
+    found: &mut Pass<'a>,
+    requests: &mut Requests,
+    log: &L,
+    entry: usize,
+    station: u16,
+    bytes: &'a [u8],
+) -> Result<(), AllocError>
+    requires limits { IsRecording (L.recording log.now) }
+    requires at { station < length (L.recording log.now).setting.stations }
+    requires few { entry < 4294967295 }
+    requires within { entry < length (L.recording log.now).entries }
+    requires sends { Sends (L.recording log.now) entry station bytes.now }
+    requires found { IsPass (L.recording log.now) entry found.old }
+    requires requests { AreRequests (L.recording log.now) entry requests.old }
+    ensures found { OnOk result (IsPass (L.recording log.now) (entry + 1) found.new) }
+    ensures requests { OnOk result (AreRequests (L.recording log.now) (entry + 1) requests.new) }
+{
+    let here = find_sent(log, &found.tables, requests, entry, station, bytes)?;
+    found.causes.push(here.cause)?;
+    found.earlier.push(entry_number(here.pair))?;
+    found.others += one_if(here.other);
+    note_sender(&mut found.senders, log, entry, bytes, here.is_source)?;
+    note_tables(&mut found.tables, log, entry, here.change, here.key)
+}
+
+/// Keeps what the next entry is found to be, by which a station receives a datagram.
+fn keep_received<L: ExerciseLog>(
+    found: &mut Pass<'_>,
+    log: &L,
+    entry: usize,
+    station: u16,
+    bytes: &[u8],
+) -> Result<(), AllocError>
+    requires limits { IsRecording (L.recording log.now) }
+    requires at { station < length (L.recording log.now).setting.stations }
+    requires few { entry < 4294967295 }
+    requires within { entry < length (L.recording log.now).entries }
+    requires receives { Receives (L.recording log.now) entry station bytes.now }
+    requires found { IsPass (L.recording log.now) entry found.old }
+    ensures { OnOk result (IsPass (L.recording log.now) (entry + 1) found.new) }
+{
+    let here = find_received(log, entry, station, bytes);
+    found.causes.push(here.cause)?;
+    let earlier = earlier_so_far(&found.senders, &mut found.looks, log, entry, bytes);
+    found.earlier.push(earlier)?;
+    found.others += one_if(here.other);
+    note_behind(&mut found.ables, log, entry, here.behind)?;
+    note_key(&mut found.tables, log, entry, here.key)
+}
+
+/// Keeps what the next entry is found to be, by which a station tells a state: the first cause against
+/// it alone.
+fn keep_told<L: ExerciseLog>(
+    found: &mut Pass<'_>,
+    log: &L,
+    entry: usize,
+    station: u16,
+    entity: u16,
+    state: EntityState,
+) -> Result<(), AllocError>
+    requires limits { IsRecording (L.recording log.now) }
+    requires at { station < length (L.recording log.now).setting.stations }
+    requires within { entry < length (L.recording log.now).entries }
+    requires told { slice_get (L.recording log.now).entries entry ≡ Some (Told station entity state) }
+    requires found { IsPass (L.recording log.now) entry found.old }
+    ensures { OnOk result (IsPass (L.recording log.now) (entry + 1) found.new) }
+{
+    let cause = judge_told(log, &found.tables, station, entry, entity, state);
+    found.causes.push(cause)?;
+    found.earlier.push(NO_ENTRY)?;
+    Ok(())
 }
 
 /// Finds what the next entry is.
@@ -99,14 +180,19 @@ fn find_entry<'a, L: ExerciseLog>(
     ensures found { OnOk result (IsPass (L.recording log.now) (entry + 1) found.new) }
     ensures requests { OnOk result (AreRequests (L.recording log.now) (entry + 1) requests.new) }
 {
-    let here = find_at(log, &found.tables, requests, entry)?;
-    found.causes.push(here.cause)?;
-    let earlier = earlier_so_far(&found.senders, &mut found.looks, log, entry, here.pair);
-    found.earlier.push(earlier)?;
-    found.others += one_if(here.other);
-    note_sender(&mut found.senders, log, entry, here.is_source)?;
-    note_behind(&mut found.ables, log, entry, here.behind)?;
-    note_tables(&mut found.tables, log, entry, here.change, here.key)
+    match log.entry(entry) {
+        EntryView::Sent { station, bytes, .. } => {
+            keep_sent(found, requests, log, entry, station, bytes)
+        }
+        EntryView::Received { station, bytes, .. } => {
+            keep_received(found, log, entry, station, bytes)
+        }
+        EntryView::Told {
+            station,
+            entity,
+            state,
+        } => keep_told(found, log, entry, station, entity, state),
+    }
 }
 
 /// Passes over all entries. What is kept of requests is not asked for after that.
@@ -132,15 +218,15 @@ fn with_all_sources<'a, L: ExerciseLog>(log: &L, pass: Pass<'_>) -> Passed<'a>
         tables,
         causes,
         earlier,
+        looks,
         ables,
         senders,
         others,
-        ..
     } = pass;
     Passed {
         tables,
         causes,
-        earlier: all_earlier(&senders, log, earlier),
+        earlier: all_earlier(&senders, log, earlier, looks.later),
         senders: None,
         ables,
         others,
@@ -178,9 +264,18 @@ pub(crate) fn find<'a, L: ExerciseLog>(alloc: Global, log: &'a L) -> Result<Pass
     ensures { IfOk result (AreFindings (L.recording log.now)) }
 {
     let pass = pass_over(alloc, log)?;
-    if pass.looks.later as usize > log.entry_count() / MANY {
+    if pass.looks.later > pass.looks.most {
         Ok(with_senders(log, pass))
     } else {
         Ok(with_all_sources(log, pass))
     }
+}
+
+/// Finds the source of an entry, where it is yet to be found.
+pub(crate) fn settle<L: ExerciseLog>(found: &mut Passed<'_>, log: &L, entry: usize)
+    requires within { entry < length (L.recording log.now).entries }
+    requires found { AreFound (L.recording log.now) found.old }
+    ensures { AreFound (L.recording log.now) found.new }
+{
+    settle_source(&found.senders, &mut found.earlier, log, entry);
 }

@@ -7,12 +7,13 @@ ghost use Rattle.std.proofs.Common.{ap};
 ghost use Rattle.indexmap.specs.IndexMap.{get};
 ghost use Rattle.exercise_model.specs.Recording.{PlainRecording};
 ghost use Rattle.exercise_findings.specs.declared.senders.Datagram.{Datagram};
+ghost use Rattle.exercise_findings.specs.Sent.{Sends};
 ghost use Rattle.exercise_findings.specs.Source.{source_at, first_source};
 ghost use Rattle.exercise_findings.specs.Senders.{same_datagram, AreSenders};
 ghost use borrow.Author.Rules.{rules};
 
 use crate::table::{Table, keep_first};
-use exercise_model::{EntryView, ExerciseLog};
+use exercise_model::ExerciseLog;
 use std::alloc::{AllocError, Global};
 use std::hash::{BuildHasherDefault, Hash, Hasher};
 
@@ -58,29 +59,26 @@ pub(crate) fn no_senders<'a>(alloc: Global) -> Senders<'a>
     Senders::with_hasher(alloc, BuildHasherDefault::default())
 }
 
-/// Keeps the datagram of the next entry, where the entry is a source: its station sends it, and it
-/// comes from that station.
+/// Keeps the datagram that a station sends by the next entry, where the entry is a source: the
+/// datagram comes from that station.
 pub(crate) fn note_sender<'a, L: ExerciseLog>(
     senders: &mut Senders<'a>,
-    log: &'a L,
+    log: &L,
     entry: usize,
+    bytes: &'a [u8],
     is_source: bool,
 ) -> Result<(), AllocError>
+    requires few { entry < 4294967295 }
     requires within { entry < length (L.recording log.now).entries }
+    requires sends { (s : ℕ) × Sends (L.recording log.now) entry s bytes.now }
     requires source { is_source ≡ source_at (L.recording log.now) entry }
     requires tied { AreSenders (L.recording log.now) entry senders.old }
     ensures { OnOk result (AreSenders (L.recording log.now) (entry + 1) senders.new) }
 {
-    if !is_source {
-        return Ok(());
+    if is_source {
+        keep_first(senders, Datagram { bytes }, entry as u32)?;
     }
-    match log.entry(entry) {
-        EntryView::Sent { bytes, .. } => {
-            keep_first(senders, Datagram { bytes }, entry as u32)?;
-            Ok(())
-        }
-        EntryView::Received { .. } | EntryView::Told { .. } => Ok(()),
-    }
+    Ok(())
 }
 
 /// The entry by which a datagram of these bytes was sent first by the station that it comes from.

@@ -1,6 +1,6 @@
 //! What a pass over a log keeps of the entries behind it, to look it up for the entries ahead.
 
-ghost use Rattle.std.specs.Prelude.{◌≡◌, ◌<◌, ◌+◌, length, OnOk, IfOk};
+ghost use Rattle.std.specs.Prelude.{◌≡◌, ◌<◌, ◌+◌, length, None, OnOk, IfOk};
 ghost use Rattle.exercise_model.specs.Account.{change_at};
 ghost use Rattle.exercise_findings.specs.Firsts.{key_at};
 ghost use Rattle.exercise_findings.specs.Tables.{AreTied};
@@ -47,5 +47,22 @@ pub(crate) fn note_tables<L: ExerciseLog>(
     ensures { OnOk result (AreTied (L.recording log.now) (entry + 1) tables.new) }
 {
     note_change(&mut tables.states, log, change, entry)?;
+    note_entry(&mut tables.firsts, log, entry, key)
+}
+
+/// Keeps the next entry of a log, which makes no change and has this key.
+pub(crate) fn note_key<L: ExerciseLog>(
+    tables: &mut Tables,
+    log: &L,
+    entry: usize,
+    key: Option<Key>,
+) -> Result<(), AllocError>
+    requires few { entry < 4294967295 }
+    requires within { entry < length (L.recording log.now).entries }
+    requires tied { AreTied (L.recording log.now) entry tables.old }
+    requires change { change_at (L.recording log.now) entry ≡ None }
+    requires key { key ≡ key_at (L.recording log.now) entry }
+    ensures { OnOk result (AreTied (L.recording log.now) (entry + 1) tables.new) }
+{
     note_entry(&mut tables.firsts, log, entry, key)
 }

@@ -1,13 +1,31 @@
-use Rattle.std.proofs.Common.{length, arith}
-use Rattle.exercise_findings.specs.Earlier.{IsEarlierAt, IsSoFarAt}
-use Rattle.exercise_findings.proofs.Columns.{turned_none, turned_all}
+use Rattle.std.proofs.Common.{ℕ, sym, subst, arith}
+use Rattle.std.specs.Prelude.{slice_index_or}
+use borrow.Author.Count.{below_more}
+use Rattle.exercise_findings.specs.Earlier.{IsEarlierAt}
 use Rattle.exercise_findings.proofs.earlier.all_earlier.Goals as goal
 
+pub returns-then-later-eq0 : goal.returns-then-later-eq0
+returns-then-later-eq0 g c = c.requires.found c.if-later-eq0.true
+
 pub loop-entry-init : goal.loop-entry-init
-loop-entry-init g c = let r = g.L.ExerciseLog.recording c.args.log.now in turned_none 0 (IsSoFarAt r) (IsEarlierAt r) (length r.entries) c.args.so_far.items c.requires.so_far
+loop-entry-init g c = record { so_far = c.requires.so_far; found = λ j l. absurd (omega (arith, l)) }
+
+pub loop-entry-preserved : goal.loop-entry-preserved
+loop-entry-preserved g c =
+    let r = g.L.ExerciseLog.recording c.args.log.now in
+    let n = c.loop-entry.entry in
+    let xs = c.find_source.new.column.items in
+    record {
+      so_far = c.find_source.ensures.so_far;
+      found = below_more (λ (j : ℕ). IsEarlierAt r j (slice_index_or xs j 0)) n
+          (λ j l. subst (IsEarlierAt r j) (sym (c.find_source.ensures.others j (λ same. absurd (omega (arith, l, same)))))
+          (c.loop-entry.invariant.found j l))
+          c.find_source.ensures.here;
+    }
 
 pub returns : goal.returns
-returns g c =
-    let r = g.L.ExerciseLog.recording c.args.log.now in
-    turned_all 0 (IsSoFarAt r) (IsEarlierAt r) c.loop-entry.entry (length r.entries) c.loop-entry.column.items
-    (omega (arith, c.loop-entry-test.false, c.loop-entry.auto.entry-end, c.entry_count-entry-end.ensures.count)) c.loop-entry.invariant
+returns g c = record {
+  count = c.loop-entry.invariant.so_far.count;
+  each = λ j l. c.loop-entry.invariant.found j
+      (omega (arith, l, c.loop-entry-test.false, c.loop-entry.auto.entry-end, c.entry_count-entry-end.ensures.count));
+}

@@ -3,7 +3,7 @@ use Rattle.exercise_model.specs.declared.cause.Cause.{Cause}
 use Rattle.exercise_findings.specs.declared.behind.Able.{Able}
 use Rattle.exercise_findings.specs.Column.{IsColumn}
 use Rattle.exercise_findings.specs.Behind.{AreBehind}
-use Rattle.exercise_findings.specs.Earlier.{IsSoFarAt}
+use Rattle.exercise_findings.specs.Earlier.{IsEarlierAt, IsSoFarAt}
 use Rattle.exercise_findings.specs.Tables.{IsOwnCause}
 use Rattle.exercise_findings.proofs.Ables.{behind_none}
 use Rattle.exercise_findings.proofs.Columns.{column_none}
@@ -17,6 +17,7 @@ returns g c =
       tied = c.in_ok-tables.ensures;
       causes = subst (λ (xs : List (Option Cause)). IsColumn None (IsOwnCause r) 0 xs) (sym c.in_ok-causes.ensures.items) (column_none None (IsOwnCause r));
       earlier = subst (λ (xs : List ℕ). IsColumn 0 (IsSoFarAt r) 0 xs) (sym c.in_ok-earlier.ensures.items) (column_none 0 (IsSoFarAt r));
+      later = λ _. subst (λ (xs : List ℕ). IsColumn 0 (IsEarlierAt r) 0 xs) (sym c.in_ok-earlier.ensures.items) (column_none 0 (IsEarlierAt r));
       ables = subst (λ (xs : List Able). AreBehind r 0 xs) (sym c.new.ensures.items) (behind_none r);
       senders = no_senders r c.no_senders.result c.no_senders.ensures;
       others = refl;

@@ -1,35 +1,25 @@
-use Rattle.std.proofs.Common.{Some, cond, refl, sym, ap, ◌∙◌, ⊎_elim}
-use Rattle.exercise_model.specs.Held.{shown}
+use Rattle.std.proofs.Common.{Some, cond, sym, ap, ◌∙◌}
+use Rattle.exercise_model.specs.Entry.{Sent}
 use Rattle.indexmap.specs.IndexMap.{get}
 use Rattle.exercise_findings.specs.declared.senders.Datagram.{Datagram}
 use Rattle.exercise_findings.specs.Senders.{same_datagram}
-use Rattle.exercise_findings.proofs.Sources.{entry_within, never_source, not_sent, senders_still, senders_more}
+use Rattle.exercise_findings.proofs.Sources.{never_source, senders_still, senders_more}
 use Rattle.exercise_findings.proofs.senders.note_sender.Goals as goal
 
-pub returns-then-not-is_source : goal.returns-then-not-is_source
-returns-then-not-is_source g c =
-    let r = g.L.ExerciseLog.recording c.args.log.now in
-    let n = c.args.entry in
-    let e = entry_within r.entries n c.requires.within in
-    senders_still r n c.args.senders.now (never_source r n e.0 e.1 (sym c.requires.source ∙ c.if-not-is_source.true)) c.requires.tied
-
-pub returns-in_ok-keep_first-in-Sent : goal.returns-in_ok-keep_first-in-Sent
-returns-in_ok-keep_first-in-Sent g c =
+pub returns-in_ok-keep_first : goal.returns-in_ok-keep_first
+returns-in_ok-keep_first g c =
     let r = g.L.ExerciseLog.recording c.args.log.now in
     let old = c.args.senders.now in
-    let sent : Datagram = record { bytes = c.in-Sent.bytes } in
-    let kept = c.in_ok-keep_first-in-Sent.ensures in
-    senders_more r c.args.entry c.in-Sent.station c.in-Sent.stamp sent old c.keep_first.new.table
-    (c.entry.ensures.entry ∙ ap (λ e. Some (shown e)) c.in-Sent.is)
-    (sym c.requires.source ∙ c.if-not-is_source.false)
+    let sent : Datagram = record { bytes = c.args.bytes } in
+    let kept = c.in_ok-keep_first.ensures in
+    senders_more r c.args.entry c.requires.sends.0 c.requires.sends.1.0 sent old c.keep_first.new.table c.requires.sends.1.1
+    (sym c.requires.source ∙ c.if-is_source.true)
     (λ d. kept.noted d ∙ ap (λ v. cond (same_datagram sent d) (Some v) (get same_datagram old d)) kept.kept)
     c.requires.tied
 
-pub returns-in-Received : goal.returns-in-Received
-returns-in-Received g c =
+pub returns-else-is_source : goal.returns-else-is_source
+returns-else-is_source g c =
     let r = g.L.ExerciseLog.recording c.args.log.now in
     let n = c.args.entry in
-    ⊎_elim
-    (λ got. senders_still r n c.args.senders.now (not_sent r n _ (c.entry.ensures.entry ∙ ap (λ e. Some (shown e)) got.3) (λ b. refl)) c.requires.tied)
-    (λ told. senders_still r n c.args.senders.now (not_sent r n _ (c.entry.ensures.entry ∙ ap (λ e. Some (shown e)) told.3) (λ b. refl)) c.requires.tied)
-    c.in-Received.is
+    let sent = Sent c.requires.sends.0 c.requires.sends.1.0 c.args.bytes.now in
+    senders_still r n c.args.senders.now (never_source r n sent c.requires.sends.1.1 (sym c.requires.source ∙ c.if-is_source.false)) c.requires.tied

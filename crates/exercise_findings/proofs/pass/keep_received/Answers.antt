@@ -1,0 +1,42 @@
+use Rattle.std.proofs.Common.{◌≡◌, ◌+◌, ℕ, List, Option, Some, None, cond, refl, sym, ap, ◌∙◌, subst, arith}
+use Rattle.std.specs.Prelude.{slice_get}
+use Rattle.exercise_model.specs.declared.cause.Cause.{Cause}
+use Rattle.exercise_model.specs.Entry.{Entry, Received}
+use Rattle.exercise_findings.specs.Column.{IsColumn}
+use Rattle.exercise_findings.specs.Earlier.{IsEarlierAt, IsSoFarAt}
+use Rattle.exercise_findings.specs.Tables.{IsOwnCause, other_at}
+use Rattle.exercise_findings.proofs.Columns.{column_more, on_ok}
+use Rattle.exercise_findings.proofs.Looks.{change_here, at_most_one, others_next}
+use Rattle.exercise_findings.proofs.Sources.{not_sent, senders_still}
+use Rattle.exercise_findings.proofs.pass.keep_received.Goals as goal
+
+pub earlier_so_far-earlier-requires-clause-receives : goal.earlier_so_far-earlier-requires-clause-receives
+earlier_so_far-earlier-requires-clause-receives g c = (c.args.station, c.requires.receives)
+
+pub note_key-requires-clause-change : goal.note_key-requires-clause-change
+note_key-requires-clause-change g c =
+    change_here (g.L.ExerciseLog.recording c.args.log.now) c.args.entry (Received c.args.station c.requires.receives.0 c.args.bytes.now) c.requires.receives.1
+
+pub returns : goal.returns
+returns g c =
+    let r = g.L.ExerciseLog.recording c.args.log.now in
+    let n = c.args.entry in
+    let was = c.requires.found in
+    let got : Entry = Received c.args.station c.requires.receives.0 c.args.bytes.now in
+    let at : slice_get r.entries n ≡ Some got = c.requires.receives.1 in
+    let here = c.find_received-here.ensures in
+    let earlier = c.earlier_so_far-earlier.ensures in
+    let one : c.one_if.result ≡ cond {A = ℕ} (other_at r n) 1 0 = c.one_if.ensures ∙ ap (λ b. cond {A = ℕ} b 1 0) here.other in
+    on_ok c.note_key.result (λ tied. record {
+      tied = tied;
+      causes = subst (λ (xs : List (Option Cause)). IsColumn None (IsOwnCause r) (n + 1) xs) (sym c.in_ok-push.ensures.items)
+          (column_more None (IsOwnCause r) n _ c.find_received-here.result.cause was.causes here.cause);
+      earlier = subst (λ (xs : List ℕ). IsColumn 0 (IsSoFarAt r) (n + 1) xs) (sym c.in_ok-push-2.ensures.items)
+          (column_more 0 (IsSoFarAt r) n _ c.earlier_so_far-earlier.result was.earlier earlier.so_far);
+      later = λ none. subst (λ (xs : List ℕ). IsColumn 0 (IsEarlierAt r) (n + 1) xs) (sym c.in_ok-push-2.ensures.items)
+          (column_more 0 (IsEarlierAt r) n _ c.earlier_so_far-earlier.result (was.later (earlier.later none).0) (earlier.later none).1);
+      ables = c.in_ok-note_behind.ensures;
+      senders = senders_still r n c.args.found.now.senders (not_sent r n got at (λ b. refl)) was.senders;
+      others = omega (arith, one, others_next r n c.requires.within, was.others);
+      few = omega (arith, one, at_most_one (other_at r n), was.few);
+    }) c.note_key.ensures

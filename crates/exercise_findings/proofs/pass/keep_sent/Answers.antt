@@ -1,0 +1,45 @@
+use Rattle.std.proofs.Common.{◌≡◌, ◌+◌, ℕ, List, Option, Some, None, cond, sym, ap, ◌∙◌, subst, arith}
+use Rattle.std.specs.Prelude.{slice_get}
+use Rattle.exercise_model.specs.declared.cause.Cause.{Cause}
+use Rattle.exercise_model.specs.Entry.{Entry, Sent}
+use Rattle.exercise_findings.specs.Column.{IsColumn}
+use Rattle.exercise_findings.specs.Number.{entry_number}
+use Rattle.exercise_findings.specs.Earlier.{IsEarlierAt, IsSoFarAt}
+use Rattle.exercise_findings.specs.Tables.{IsOwnCause, other_at}
+use Rattle.exercise_findings.proofs.Ables.{behind_still}
+use Rattle.exercise_findings.proofs.Columns.{column_more, on_ok}
+use Rattle.exercise_findings.proofs.EarlierEntries.{sent_earlier, known_so_far}
+use Rattle.exercise_findings.proofs.Looks.{behind_here, at_most_one, others_next}
+use Rattle.exercise_findings.proofs.pass.keep_sent.Goals as goal
+
+pub note_sender-requires-clause-sends : goal.note_sender-requires-clause-sends
+note_sender-requires-clause-sends g c = (c.args.station, c.requires.sends)
+
+pub returns-clause-found : goal.returns-clause-found
+returns-clause-found g c =
+    let r = g.L.ExerciseLog.recording c.args.log.now in
+    let n = c.args.entry in
+    let was = c.requires.found in
+    let sent : Entry = Sent c.args.station c.requires.sends.0 c.args.bytes.now in
+    let at : slice_get r.entries n ≡ Some sent = c.requires.sends.1 in
+    let here = c.in_ok-here.ensures.found in
+    let earlier : IsEarlierAt r n c.entry_number.result =
+    subst (IsEarlierAt r n) (sym (c.entry_number.ensures ∙ ap entry_number here.pair))
+    (sent_earlier r n c.args.station c.requires.sends.0 c.args.bytes.now at (omega (arith, c.requires.within, c.requires.limits.count))) in
+    let one : c.one_if.result ≡ cond {A = ℕ} (other_at r n) 1 0 = c.one_if.ensures ∙ ap (λ b. cond {A = ℕ} b 1 0) here.other in
+    on_ok c.note_tables.result (λ tied. record {
+      tied = tied;
+      causes = subst (λ (xs : List (Option Cause)). IsColumn None (IsOwnCause r) (n + 1) xs) (sym c.in_ok-push.ensures.items)
+          (column_more None (IsOwnCause r) n _ c.in_ok-here.here.cause was.causes here.cause);
+      earlier = subst (λ (xs : List ℕ). IsColumn 0 (IsSoFarAt r) (n + 1) xs) (sym c.in_ok-push-2.ensures.items)
+          (column_more 0 (IsSoFarAt r) n _ c.entry_number.result was.earlier (known_so_far r n c.entry_number.result earlier));
+      later = λ none. subst (λ (xs : List ℕ). IsColumn 0 (IsEarlierAt r) (n + 1) xs) (sym c.in_ok-push-2.ensures.items)
+          (column_more 0 (IsEarlierAt r) n _ c.entry_number.result (was.later none) earlier);
+      ables = behind_still r n c.args.found.now.ables.items (sym (behind_here r n sent at)) was.ables;
+      senders = c.in_ok-note_sender.ensures;
+      others = omega (arith, one, others_next r n c.requires.within, was.others);
+      few = omega (arith, one, at_most_one (other_at r n), was.few);
+    }) c.note_tables.ensures
+
+pub returns-clause-requests : goal.returns-clause-requests
+returns-clause-requests g c = on_ok c.note_tables.result (λ _. c.in_ok-here.ensures.requests) c.note_tables.ensures

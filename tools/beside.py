@@ -1,0 +1,118 @@
+#!/usr/bin/env python3
+"""Times `check` and `audit` of two built programs side by side, on recordings of each kind of tools/kinds.py.
+
+The programs are two of siman, built of two trees, or any that take the words `check RECORDING CERTIFICATE` and
+`audit RECORDING NEW`. Both run on the same files in turn, and in the other order the next time, so that what else the
+machine does falls on both; both have to end with the same status and, where they say something, say the same.
+
+For each kind it prints of each command the seconds of processor time in the program itself (user time, the least of
+the runs) and the peak memory in MiB, before and after, and how many times the one is the other: below 1 is faster or
+smaller. With --instructions it counts the instructions instead, by valgrind, which are the same each time whatever else
+the machine does, and with --misses also how often the last cache missed, as valgrind reckons it; a run takes some 50
+times as long so, and fewer entries do: --power 16. It is no part of the gate.
+"""
+import argparse
+import os
+import re
+import subprocess
+import sys
+import tempfile
+from pathlib import Path
+
+import kinds
+from growth import MOST, run
+
+COMMANDS = ("check", "audit")
+
+
+def words_of(program, command, folder, name):
+    """A command of a program over the files of a kind; what an audit finds is a file of the program's own."""
+    certificate = folder / ("kind.dsct" if command == "check" else f"{name}.dsct")
+    return [str(program), command, str(folder / "kind.dsrc"), str(certificate)]
+
+
+def measured(words, out, given):
+    """The status, and the seconds and MiB of one run."""
+    status, seconds, memory = run(words, out, given.seconds)
+    return status, (seconds, memory)
+
+
+def counted(words, out, given):
+    """The status, and how many instructions one run takes, in millions, and how many misses of the last cache."""
+    with tempfile.TemporaryDirectory() as folder:
+        tool = ["valgrind", "--tool=callgrind", f"--callgrind-out-file={folder}/counts"]
+        tool += ["--cache-sim=yes"] * given.misses
+        with open(out, "wb") as file:
+            ended = subprocess.run([*tool, *words], stdout=file, stderr=subprocess.PIPE, text=True, check=False)
+    found = [int(number.replace(",", "")) for number in re.findall(r"refs: +([\d,]+)|LL misses: +([\d,]+)", ended.stderr) for number in number if number]
+    wanted = 1 + given.misses
+    if len(found) < wanted:
+        sys.exit(f"beside: valgrind did not run:\n{ended.stderr}")
+    return ended.returncode, tuple(number / 1e6 for number in (found[0], *found[-1:] * given.misses))
+
+
+def least(programs, command, folder, given):
+    """The least of what each program takes over some runs, which change places each time."""
+    taken, said = {}, set()
+    for turn in range(given.runs):
+        order = list(programs) if turn % 2 == 0 else list(programs)[::-1]
+        for name in order:
+            out = folder / f"{name}.out"
+            measure = counted if given.instructions else measured
+            status, numbers = measure(words_of(programs[name], command, folder, name), out, given)
+            said.add((status, out.read_bytes()))
+            taken[name] = tuple(map(min, numbers, taken.get(name, numbers)))
+    if len(said) > 1:
+        sys.exit(f"beside: the programs differ in {command}")
+    return taken
+
+
+def line_of(kind, command, taken):
+    """A line of the table."""
+    cells = []
+    for before, after in zip(taken["before"], taken["after"]):
+        times = f"{after / before:.3f}" if before else "-"
+        cells.append(f"{before:10.3f} {after:10.3f} {times:>7}")
+    return f"{kind:<10} {command:<6}" + "  ".join(cells)
+
+
+def words_given():
+    form = argparse.RawDescriptionHelpFormatter
+    parser = argparse.ArgumentParser(description=__doc__, formatter_class=form)
+    parser.add_argument("before", type=Path, help="a built program")
+    parser.add_argument("after", type=Path, help="another one")
+    parser.add_argument("kinds", metavar="KIND", nargs="*", help="only these kinds (all)")
+    parser.add_argument("--power", type=int, default=20, help="2 to this power are the entries (20)")
+    parser.add_argument("--runs", type=int, help="how often each runs (5; 1 of instructions)")
+    parser.add_argument("--seconds", type=float, default=60, help="the most that a run may take (60)")
+    parser.add_argument("--instructions", action="store_true", help="count instructions, in millions, by valgrind")
+    parser.add_argument("--misses", action="store_true", help="with them the misses of the last cache, in millions")
+    given = parser.parse_args()
+    given.runs = given.runs or (1 if given.instructions else 5)
+    given.instructions |= given.misses
+    for kind in given.kinds:
+        if kind not in kinds.KINDS:
+            parser.error(f"{kind!r} is no kind: {', '.join(kinds.KINDS)}")
+    for program in (given.before, given.after):
+        if not os.access(program, os.X_OK):
+            parser.error(f"{program} is not built")
+    return given
+
+
+def main():
+    given = words_given()
+    programs = {"before": given.before.resolve(), "after": given.after.resolve()}
+    columns = ("instructions", "misses")[: 1 + given.misses] if given.instructions else ("seconds", "MiB")
+    print(f"{'kind':<10} {'':<6}" + "  ".join(f"{name + ' before':>10} {'after':>10} {'times':>7}" for name in columns))
+    with tempfile.TemporaryDirectory() as made:
+        folder = Path(made)
+        for kind in given.kinds or kinds.KINDS:
+            power = min(given.power, MOST.get(kind, 20))
+            files = [folder / "kind.dsrc", folder / "kind.dsct"]
+            subprocess.run([sys.executable, kinds.__file__, kind, str(2**power), *files], check=True)
+            for command in COMMANDS:
+                print(line_of(kind, command, least(programs, command, folder, given)), flush=True)
+
+
+if __name__ == "__main__":
+    main()

@@ -12,6 +12,7 @@ pub mod Trials
 pub mod Tellings
 pub mod LineReadings
 pub mod Judged
+pub mod Lived
 mod Conversions
 mod LineParts
 mod Kept

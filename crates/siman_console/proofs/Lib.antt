@@ -1,12 +1,10 @@
 pub mod Inputs
 pub mod Openings
 pub mod Files
-pub mod Keyed
 pub mod Passings
 pub mod Readings
 pub mod Shown
 pub mod Searches
-pub mod Texts
 pub mod Verdicts
 pub mod Trials
 pub mod Tellings
@@ -14,6 +12,3 @@ pub mod LineReadings
 pub mod Judged
 pub mod Lived
 mod Conversions
-mod LineParts
-mod Kept
-mod ReviewKeys

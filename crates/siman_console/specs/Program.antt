@@ -5,7 +5,6 @@ pub mod Convert
 pub mod Live
 pub mod Mend
 pub mod Pdus
-pub mod Review
 pub mod Show
 pub mod ScriptTrial
 pub mod World
@@ -17,7 +16,7 @@ use Rattle.siman_scripts.specs.Text.{lines_of}
 use Rattle.siman_words.specs.declared.commands.NoWord.{NoWord}
 use Rattle.siman_words.specs.declared.commands.OneWord.{OneWord}
 use Rattle.siman_words.specs.declared.commands.TwoWords.{TwoWords}
-use Rattle.siman_words.specs.Words.{Asked, Trial, Bare, One, Two, asked, asks_help}
+use Rattle.siman_words.specs.Words.{Asked, Trial, Bare, One, Two, Join, View, asked, asks_help}
 use Rattle.siman_console.specs.declared.fault.Fault.{Fault}
 use Rattle.siman_console.specs.declared.fault.Fault.TheVariants.{Words, Output, Memory}
 use Rattle.siman_console.specs.Answer.{said_of_hex, IsSaid}
@@ -64,6 +63,8 @@ EndsTask Trial deeds input o = (deeds ≡ []) × EndsAs (TriesInput input) o
 EndsTask (Bare command) deeds input o = (deeds ≡ []) × EndsBare command input o
 EndsTask (One command word) deeds input o = EndsAs (DoesOne command word deeds) o
 EndsTask (Two command first second) deeds input o = EndsTwo command first second deeds o
+EndsTask (Join pieces made form) deeds input o = (deeds ≡ []) × Keeps o.out.old o.out.new × Ends (Err Words) o.ended o.errors.old o.errors.new
+EndsTask (View view recording filters spelling) deeds input o = (deeds ≡ []) × Keeps o.out.old o.out.new × Ends (Err Words) o.ended o.errors.old o.errors.new
 
 -- HOW WORDS END that ask for no task: with want of memory, with the help that they ask for, or as a fault of usage, which is told on the writer of faults
 abbrev pub EndsUsage : (helps : Bool) → Outcome → Type 0

@@ -1,6 +1,6 @@
 //! The whole way from the words of a command line to the status.
 
-ghost use Rattle.std.specs.Prelude.{List};
+ghost use Rattle.std.specs.Prelude.{List, string_bytes};
 ghost use Rattle.std.specs.IoError.{error_kind};
 ghost use Rattle.std.specs.List.{All};
 ghost use Rattle.siman_console.specs.Outside.{Deed, Adds, WasHeld, Stream, Outcome};
@@ -95,14 +95,14 @@ fn end_two<O: Outside, W: Write, E: Write>(
 /// Does what the words ask for, and ends as that asks for.
 fn end_task<'a, O: Outside, R: Read + Drop, W: Write, E: Write>(
     alloc: Global,
-    task: Task<'a>,
+    task: Task<'a, String>,
     outside: &mut O,
     input: R,
     out: &mut W,
     errors: &mut E,
 ) -> Ended
     ensures { let o : Outcome = record { ended = result; out = record { old = W.contents out.old; new = W.contents out.new }; errors = record { old = E.contents errors.old; new = E.contents errors.new } } in
-        (deeds : List Deed) × Adds (O.deeds outside.old) (O.deeds outside.new) deeds × All (WasHeld (O.holds outside.old)) deeds × EndsTask (asked_by task.entry) deeds (R.remaining input) o }
+        (deeds : List Deed) × Adds (O.deeds outside.old) (O.deeds outside.new) deeds × All (WasHeld (O.holds outside.old)) deeds × EndsTask (asked_by string_bytes task.entry) deeds (R.remaining input) o }
 {
     match task {
         Task::Trial => end(TrialCommand::say(alloc, input, out), errors),
@@ -112,6 +112,8 @@ fn end_task<'a, O: Outside, R: Read + Drop, W: Write, E: Write>(
             let words = (first, second);
             end_two(alloc, command, words, outside, out, errors)
         }
+        Task::Join(_, _, _) => end(Err(Fault::Words), errors),
+        Task::View(_, _, _, _) => end(Err(Fault::Words), errors),
     }
 }
 

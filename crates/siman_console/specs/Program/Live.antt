@@ -17,9 +17,9 @@ use Rattle.siman_console.specs.Outside.{Has, Stream, Outcome, Deed, LooksFor, Cr
 use Rattle.siman_console.specs.Ending.{Wrote, fault_line, status_of}
 use Rattle.siman_console.specs.Making.{Answered}
 use Rattle.siman_console.specs.Opening.{WorksOn}
-use Rattle.siman_console.specs.Records.{line_end}
+use Rattle.siman_reports.specs.Records.{line_end}
 use Rattle.siman_console.specs.declared.fault.Ended.{Ended}
-use Rattle.siman_console.specs.CountLine.{counted}
+use Rattle.siman_reports.specs.CountLine.{counted}
 use Rattle.siman_texts.specs.Spelled.{line_text}
 use Rattle.siman_console.specs.Program.World.{Scripted}
 

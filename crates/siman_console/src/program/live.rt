@@ -13,7 +13,6 @@ ghost use Rattle.siman_console.specs.Outside.{Stream, Outcome, Deed, Found, Adds
 
 mod moves;
 
-use crate::count_line::counted;
 use crate::fault::{Ended, Fault, tell};
 use crate::input::read_text;
 use crate::opening::open_apart;
@@ -23,6 +22,7 @@ use byte_files::{WriteFailed, put, put_both};
 use exercise_model::{ExerciseLog, Recording};
 use exercise_recording::RecordingWriter;
 use siman_lines::{Line, StationAtLine};
+use siman_reports::counted;
 use siman_scripts::{LARGEST_SCRIPT, Move, Script, read_script};
 use siman_stations::Node;
 use siman_worlds::{Beginning, begin_world};

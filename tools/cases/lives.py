@@ -10,6 +10,11 @@ from pages import Outcome
 LINE = b"live records=13\n"
 
 
+def torn(fault, name):
+    """A fault after the file of this name was made, and how that is mended."""
+    return pages.fault(f"{fault}\nmend {name} NEW")
+
+
 def try_worked(trials):
     """The script of the page, what its stations recorded, the order that explains it, and its report."""
     page = (TOP / "docs" / "LINES.md").read_text(encoding="utf-8")
@@ -38,9 +43,10 @@ def is_none(left):
 def try_streams(trials):
     for behind in [">/dev/full", ">&-"]:
         name = f"unheard.live.{len(behind)}.dsrc"
-        after(trials, ["live", WORKED_SCRIPT, name], (UNWRITTEN,), name, is_whole, behind=behind)
-    for name in ["examples", "none/there.dsrc", "", "/dev/full"]:
+        after(trials, ["live", WORKED_SCRIPT, name], (torn("output: write", name),), name, is_whole, behind=behind)
+    for name in ["examples", "none/there.dsrc", ""]:
         trials.expect(["live", WORKED_SCRIPT, name], UNWRITTEN)
+    trials.expect(["live", WORKED_SCRIPT, "/dev/full"], torn("output: write", "/dev/full"))
     trials.expect(["live", WORKED_SCRIPT, "/dev/null"], Outcome(0, LINE, b""))
 
 
@@ -64,7 +70,8 @@ def try_faults(trials):
          "world: ids-spent at move 1", is_begun),
     ]):  # fmt: skip
         name = f"refused.live.{number}.dsrc"
-        after(trials, ["live", trials.file(text), name], (pages.fault(fault),), name, is_right)
+        accepted = torn(fault, name) if is_right is is_begun else pages.fault(fault)
+        after(trials, ["live", trials.file(text), name], (accepted,), name, is_right)
     trials.expect(["live", "none", "new"], pages.fault("file: none"))
     trials.expect(["live", "examples", "new"], pages.fault("script: read"))
 
@@ -79,7 +86,7 @@ class Lived:
 
     def __eq__(self, came):
         lived = came.status == 0 and re.fullmatch(rb"live records=\d+\n", came.out) and came.errors == b""
-        stopped = came.status == 2 and came.out == b"" and re.fullmatch(rb"world: [a-z-]+( at move \d+)?\n", came.errors)
+        stopped = came.status == 2 and came.out == b"" and re.fullmatch(rb"world: (stations|[a-z-]+ at move \d+\nmend \S+ NEW)\n", came.errors)
         return bool(lived or stopped)
 
     def __repr__(self):

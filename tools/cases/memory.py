@@ -37,6 +37,19 @@ def try_all(trials, examples):
     try_answers(trials, [*answers(trials, examples), long, *faults(examples), helped])
 
 
+class Wanting:
+    """What `live` tells where memory runs out: of its file too, where that was made before."""
+
+    def __init__(self, name):
+        self.told = [b"memory\n", f"memory\nmend {name} NEW\n".encode()]
+
+    def __eq__(self, errors):
+        return errors in self.told
+
+    def __repr__(self):
+        return f"one of {self.told!r}"
+
+
 def try_answers(trials, rows):
     """The same for words and what is given on standard input, each with the usual outcome."""
     library = refusing_library(trials)
@@ -46,7 +59,8 @@ def try_answers(trials, rows):
         out = Prefix(usual.out) if words[:1] == ["show"] else b""
         for alone in (True, False):
             own = [*words[:2], f"{words[2]}.{alone}"] if words[:1] in MAKING else words
-            case = Case(own, (Outcome(3, out, b"memory\n"), usual), given)
+            errors = Wanting(own[2]) if own[:1] == ["live"] else b"memory\n"
+            case = Case(own, (Outcome(3, out, errors), usual), given)
             trials.tasks.append(lambda case=case, alone=alone: refusals(trials, library, case, alone))
 
 

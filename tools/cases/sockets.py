@@ -9,6 +9,7 @@ import pages
 from cases import texts
 from cases.examples import TOP, WORKED_SCRIPT
 from cases.lived import Create, Exchanges, script_of, station_at
+from cases.lives import torn
 from cases.trials import PATIENCE, Verdict
 from pages import Outcome, Recording, Station
 
@@ -105,9 +106,10 @@ def recording(entries, is_whole=False):
     return text if is_whole else text[:-5]
 
 
-def try_call(trials, call, accepted, left):
+def try_call(trials, call, left, accepted=None):
     """The worked script, where calls of the sockets fail; and what is left of its recording."""
     name = f"failing.{'.'.join(call)}.dsrc"
+    accepted = accepted or torn("live: line", name)
     words = [str(FAILING), *call, trials.program, "live", WORKED_SCRIPT, name]
 
     def tried():
@@ -126,17 +128,16 @@ def try_call(trials, call, accepted, left):
 
 def try_calls(trials):
     """Sends and receives that fail end it, after what was recorded before; a send of no byte is one that failed."""
-    failed = pages.fault("live: line")
     order, answer = [texts.sent(0, ORDER)], [texts.received(1, ORDER), texts.sent(1, ABLE)]
     for error in ("EPERM", "ENOBUFS", "none"):
-        try_call(trials, ("sendto", "28", error), failed, recording(order))
-        try_call(trials, ("sendto", "32", error), failed, recording(order + answer))
+        try_call(trials, ("sendto", "28", error), recording(order))
+        try_call(trials, ("sendto", "32", error), recording(order + answer))
     for error in ("ENOMEM", "EBADF"):
-        try_call(trials, ("recvfrom", "-", error), failed, recording(order))
+        try_call(trials, ("recvfrom", "-", error), recording(order))
     # What nothing comes of is repeated, and entity 7 is never created.
     alone = [*order, *(texts.sent(0, datagram, 10) for datagram in (AGAIN, START, STOP))]
     alone = recording([*alone, texts.told(1, 7, pages.ABSENT)], is_whole=True)
-    try_call(trials, ("recvfrom", "-", "EAGAIN"), Outcome(0, b"live records=5\n", b""), alone)
+    try_call(trials, ("recvfrom", "-", "EAGAIN"), alone, Outcome(0, b"live records=5\n", b""))
 
 
 def try_all(trials, _):

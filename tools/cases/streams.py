@@ -4,6 +4,7 @@ import os
 import pages
 from cases import texts
 from cases.examples import README_ANSWER, README_DATAGRAM, TEXTS_REPORT, TOP, WORKED_ANSWER, WORKED_LINE, WORKED_SCRIPT
+from cases.lives import torn
 from cases.trials import UNWRITTEN, Case, Some, Verdict, told
 from pages import Outcome
 
@@ -89,7 +90,9 @@ def try_streams(trials, examples):
     both = Outcome(2, b"", b"")
     for behind, accepted in [(">/dev/full", UNWRITTEN), (">&-", UNWRITTEN), (">/dev/full 2>&1", both)]:
         for words, given, _ in answers(trials, examples) + [(["--help"], b"", None)]:
-            trials.expect(words, accepted, given=given, behind=behind)
+            is_made = words[:1] == ["live"] and accepted is UNWRITTEN
+            wanted = torn("output: write", words[2]) if is_made else accepted
+            trials.expect(words, wanted, given=given, behind=behind)
     for words, given, usual in faults(examples):
         for behind in [">/dev/full", ">&-"]:
             trials.expect(words, usual, given=given, behind=behind)

@@ -10,4 +10,5 @@ pub mod Trials
 pub mod Tellings
 pub mod LineReadings
 pub mod Judged
+pub mod Lived
 mod Conversions

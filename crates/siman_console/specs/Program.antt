@@ -25,7 +25,7 @@ use Rattle.siman_console.specs.Program.Check.{ChecksFiles}
 use Rattle.siman_console.specs.Program.Convert.{CarriesFile, MakesConverted}
 use Rattle.siman_console.specs.Ending.{Ends, IsToldAs}
 use Rattle.siman_console.specs.Outside.{Has, Stream, Outcome, Deed}
-use Rattle.siman_console.specs.Program.Live.{BeginsFile, LivesBegun}
+use Rattle.siman_console.specs.Program.Live.{EndsLive}
 use Rattle.siman_console.specs.Making.{Answered}
 use Rattle.siman_console.specs.Program.Mend.{MendsFile, MakesMended}
 use Rattle.siman_console.specs.Opening.{WorksOn}
@@ -40,17 +40,18 @@ abbrev pub DoesOne : OneWord → (word : List ℕ) → List Deed → Answered �
 DoesOne OneWord.Pdu hex deeds answered out = (deeds ≡ []) × IsSaid (said_of_hex hex) answered out.old out.new
 DoesOne OneWord.Show recording deeds answered out = SaysOfFile ShowsFile recording deeds answered out
 
-abbrev pub DoesTwo : TwoWords → (first second : List ℕ) → List Deed → Answered → Stream → Type 0
-DoesTwo TwoWords.Check recording certificate = SaysOfFiles ChecksFiles recording certificate
-DoesTwo TwoWords.Audit recording certificate = WorksOn SearchesFile MakesFinding recording certificate
-DoesTwo TwoWords.World script recording = WorksOn RunsFile MakesWorld script recording
-DoesTwo TwoWords.Live script recording = WorksOn BeginsFile LivesBegun script recording
-DoesTwo TwoWords.Convert old new = WorksOn CarriesFile MakesConverted old new
-DoesTwo TwoWords.Mend old new = WorksOn MendsFile MakesMended old new
-
 -- with the status of what was answered, or with that of the fault that was met, which is then told
 abbrev pub EndsAs : (Answered → Stream → Type 0) → Outcome → Type 0
 EndsAs Tells o = (answered : Answered) × Tells answered o.out × Ends answered o.ended o.errors.old o.errors.new
+
+-- how a command with two words ends
+abbrev pub EndsTwo : TwoWords → (first second : List ℕ) → List Deed → Outcome → Type 0
+EndsTwo TwoWords.Check recording certificate deeds o = EndsAs (SaysOfFiles ChecksFiles recording certificate deeds) o
+EndsTwo TwoWords.Audit recording certificate deeds o = EndsAs (WorksOn SearchesFile MakesFinding recording certificate deeds) o
+EndsTwo TwoWords.World script recording deeds o = EndsAs (WorksOn RunsFile MakesWorld script recording deeds) o
+EndsTwo TwoWords.Live script recording deeds o = EndsLive script recording deeds o
+EndsTwo TwoWords.Convert old new deeds o = EndsAs (WorksOn CarriesFile MakesConverted old new deeds) o
+EndsTwo TwoWords.Mend old new deeds o = EndsAs (WorksOn MendsFile MakesMended old new deeds) o
 
 -- how a command ends that takes no words, and reads standard input, which has these bytes where they are known
 abbrev pub EndsBare : NoWord → Option (List ℕ) → Outcome → Type 0
@@ -61,7 +62,7 @@ abbrev pub EndsTask : Asked → List Deed → Option (List ℕ) → Outcome → 
 EndsTask Trial deeds input o = (deeds ≡ []) × EndsAs (TriesInput input) o
 EndsTask (Bare command) deeds input o = (deeds ≡ []) × EndsBare command input o
 EndsTask (One command word) deeds input o = EndsAs (DoesOne command word deeds) o
-EndsTask (Two command first second) deeds input o = EndsAs (DoesTwo command first second deeds) o
+EndsTask (Two command first second) deeds input o = EndsTwo command first second deeds o
 EndsTask (Join pieces made form) deeds input o = (deeds ≡ []) × Keeps o.out.old o.out.new × Ends (Err Words) o.ended o.errors.old o.errors.new
 EndsTask (View view recording filters spelling) deeds input o = (deeds ≡ []) × Keeps o.out.old o.out.new × Ends (Err Words) o.ended o.errors.old o.errors.new
 

@@ -4,7 +4,7 @@ ghost use Rattle.std.specs.Prelude.{List, string_bytes};
 ghost use Rattle.std.specs.IoError.{error_kind};
 ghost use Rattle.std.specs.List.{All};
 ghost use Rattle.siman_console.specs.Outside.{Deed, Adds, WasHeld, Stream, Outcome};
-ghost use Rattle.siman_console.specs.Program.{DoesOne, DoesTwo, EndsTask, EndsProgram, words_by};
+ghost use Rattle.siman_console.specs.Program.{DoesOne, EndsTwo, EndsTask, EndsProgram, words_by};
 ghost use Rattle.siman_words.specs.Words.{asked_by};
 
 pub(crate) mod audit;
@@ -24,7 +24,7 @@ use crate::product::make_of_file;
 use crate::program::audit::Finding;
 use crate::program::check::CheckCommand;
 use crate::program::convert::Carried;
-use crate::program::live::Begun;
+use crate::program::live::end_live;
 use crate::program::mend::MendedFile;
 use crate::program::pdu::tell_word;
 use crate::program::pdus::end_lines;
@@ -55,24 +55,40 @@ fn do_one<'a, O: Outside, W: Write>(
     }
 }
 
-/// Does what a command with two words asks for.
-fn do_two<'a, O: Outside, W: Write>(
+/// Does what a command with two words asks for, and ends as that asks for.
+fn end_two<O: Outside, W: Write, E: Write>(
     alloc: Global,
     command: TwoWords,
-    words: (&'a str, &'a str),
+    words: (&str, &str),
     outside: &mut O,
     out: &mut W,
-) -> Result<u8, Fault<'a>>
-    ensures { let out : Stream = record { old = W.contents out.old; new = W.contents out.new } in
-        (deeds : List Deed) × Adds (O.deeds outside.old) (O.deeds outside.new) deeds × All (WasHeld (O.holds outside.old)) deeds × DoesTwo command words.entry.0.now words.entry.1.now deeds result out }
+    errors: &mut E,
+) -> Ended
+    ensures { let o : Outcome = record { ended = result; out = record { old = W.contents out.old; new = W.contents out.new }; errors = record { old = E.contents errors.old; new = E.contents errors.new } } in
+        (deeds : List Deed) × Adds (O.deeds outside.old) (O.deeds outside.new) deeds × All (WasHeld (O.holds outside.old)) deeds × EndsTwo command words.entry.0.now words.entry.1.now deeds o }
 {
     match command {
-        TwoWords::Check => say_of_files::<CheckCommand, O, W>(alloc, words, outside, out),
-        TwoWords::Audit => make_of_file::<Finding, O, W>(alloc, words, outside, out),
-        TwoWords::World => make_of_file::<Recording, O, W>(alloc, words, outside, out),
-        TwoWords::Live => make_of_file::<Begun, O, W>(alloc, words, outside, out),
-        TwoWords::Convert => make_of_file::<Carried, O, W>(alloc, words, outside, out),
-        TwoWords::Mend => make_of_file::<MendedFile, O, W>(alloc, words, outside, out),
+        TwoWords::Check => end(
+            say_of_files::<CheckCommand, O, W>(alloc, words, outside, out),
+            errors,
+        ),
+        TwoWords::Audit => end(
+            make_of_file::<Finding, O, W>(alloc, words, outside, out),
+            errors,
+        ),
+        TwoWords::World => end(
+            make_of_file::<Recording, O, W>(alloc, words, outside, out),
+            errors,
+        ),
+        TwoWords::Live => end_live(alloc, words, outside, out, errors),
+        TwoWords::Convert => end(
+            make_of_file::<Carried, O, W>(alloc, words, outside, out),
+            errors,
+        ),
+        TwoWords::Mend => end(
+            make_of_file::<MendedFile, O, W>(alloc, words, outside, out),
+            errors,
+        ),
     }
 }
 
@@ -94,7 +110,7 @@ fn end_task<'a, O: Outside, R: Read + Drop, W: Write, E: Write>(
         Task::One(command, word) => end(do_one(alloc, command, word, outside, out), errors),
         Task::Two(command, first, second) => {
             let words = (first, second);
-            end(do_two(alloc, command, words, outside, out), errors)
+            end_two(alloc, command, words, outside, out, errors)
         }
         Task::Join(_, _, _) => end(Err(Fault::Words), errors),
         Task::View(_, _, _, _) => end(Err(Fault::Words), errors),

@@ -1,8 +1,8 @@
 -- What `live` does with the stations and moves of a script, and how it ends (profile).
 pub mod Moves
-use Rattle.std.specs.Prelude.{◌≡◌, ◌≢◌, ◌⊎◌, ◌≤◌, ◌<◌, ⊤, ℕ, true, false, List, [], ◌∷◌, length, codes, Option, Result, Ok, Err}
+use Rattle.std.specs.Prelude.{◌≡◌, ◌≢◌, ◌⊎◌, ◌≤◌, ◌<◌, ⊤, ℕ, Bool, true, false, List, [], ◌∷◌, ◌++◌, length, codes, Option, Result, Ok, Err}
 use Rattle.std.specs.Io.KnownBytes.{Appends, Keeps}
-use Rattle.byte_files.specs.Writing.{WritesPart}
+use Rattle.byte_files.specs.Writing.{Writes, WritesPart}
 use Rattle.exercise_model.specs.declared.recording.TheConstants.{MOST_ENTRIES}
 use Rattle.siman_scripts.specs.declared.script_fault.ScriptFault.TheVariants as scripts
 use Rattle.siman_worlds.specs.declared.world_fault.WorldFault.TheVariants as worlds
@@ -13,8 +13,12 @@ use Rattle.siman_console.specs.declared.fault.Fault.TheVariants.{Script, ScriptR
 use Rattle.siman_console.specs.declared.program.live.Begun.{Begun}
 use Rattle.std.specs.declared.io.ErrorKind.{ErrorKind}
 use Rattle.std.specs.declared.io.ErrorKind.TheVariants.{AlreadyExists, OutOfMemory}
-use Rattle.siman_console.specs.Outside.{Has, Stream, Deed, LooksFor, Creates, Leaves}
+use Rattle.siman_console.specs.Outside.{Has, Stream, Outcome, Deed, LooksFor, Creates, Leaves}
+use Rattle.siman_console.specs.Ending.{Wrote, fault_line, status_of}
 use Rattle.siman_console.specs.Making.{Answered}
+use Rattle.siman_console.specs.Opening.{WorksOn}
+use Rattle.siman_reports.specs.Records.{line_end}
+use Rattle.siman_console.specs.declared.fault.Ended.{Ended}
 use Rattle.siman_reports.specs.CountLine.{counted}
 use Rattle.siman_texts.specs.Spelled.{line_text}
 use Rattle.siman_console.specs.Program.World.{Scripted}
@@ -93,3 +97,30 @@ abbrev pub LivesBegun : Begun → (name : List ℕ) → List Deed → Answered �
 LivesBegun begun name (LooksFor looked true ∷ deeds) answered out = (looked ≡ name) × (deeds ≡ []) × (answered ≡ Err Exists) × Keeps out.old out.new
 LivesBegun begun name (LooksFor looked false ∷ deeds) answered out = (looked ≡ name) × LivesAtLines name (length begun.moves.items) deeds answered out
 LivesBegun begun name deeds answered out = ⊥
+
+-- HOW `live` ENDS.
+
+-- a file was created
+abbrev pub is_created : List Deed → Bool
+is_created [] = false
+is_created (Creates name (Ok fresh) ∷ deeds) = true
+is_created (deed ∷ deeds) = is_created deeds
+
+-- mend REC NEW, with the name of the file in the place of REC; the word NEW stands as it is
+abbrev pub mend_line : (created : Bool) → (name : List ℕ) → List ℕ
+mend_line true name = (codes "mend " ++ name) ++ (codes " NEW" ++ line_end)
+mend_line false name = []
+
+-- After a fault its line is told, and, where the file was created before, how what it has is mended; or a prefix of that, where the writer failed.
+abbrev pub TellsLived : (created : Bool) → (name : List ℕ) → Answered → Wrote → (old new : Option (List ℕ)) → Type 0
+TellsLived created name (Ok status) wrote old new = (wrote ≡ Ok tt) × Keeps old new
+TellsLived created name (Err fault) wrote old new = Writes wrote old new (fault_line fault ++ mend_line created name)
+
+pub record EndsLived (created : Bool) (name : List ℕ) (answered : Answered) (ended : Ended) (old new : Option (List ℕ)) : Type 0 where
+  pub status_is : ended.status ≡ status_of answered
+  pub tells : TellsLived created name answered ended.written old new
+
+abbrev pub EndsLive : (script recording : List ℕ) → List Deed → Outcome → Type 0
+EndsLive script recording deeds o =
+    (answered : Answered) × WorksOn BeginsFile LivesBegun script recording deeds answered o.out
+    × EndsLived (is_created deeds) recording answered o.ended o.errors.old o.errors.new

@@ -1,21 +1,24 @@
 //! The command `live`: the moves of a script, made by stations that each have a line of their own.
 
-ghost use Rattle.std.specs.Prelude.{◌≤◌, ℕ, List, Option, Ok, IfOk, IfErr, length};
+ghost use Rattle.std.specs.Prelude.{◌≡◌, ◌≤◌, ◌++◌, ℕ, List, Option, Ok, Err, IfOk, IfErr, length, true, false};
+ghost use Rattle.byte_files.specs.Writing.{Writes};
 ghost use Rattle.exercise_model.specs.declared.recording.TheConstants.{MOST_ENTRIES};
 ghost use Rattle.siman_scripts.specs.Script.{script_at};
 ghost use Rattle.std.specs.IoError.{error_kind};
 ghost use Rattle.std.specs.List.{All};
-ghost use Rattle.siman_console.specs.Program.Live.{Begins, TellsMoves, HaltsIn, IsUnlined, IsUncreated, CreatesMoves, LivesAtLines};
-ghost use Rattle.siman_console.specs.Outside.{Stream, Deed, Found, Adds, WasHeld, Has};
+ghost use Rattle.siman_console.specs.Ending.{fault_line};
+ghost use Rattle.siman_console.specs.Opening.{WorksOn};
+ghost use Rattle.siman_console.specs.Program.Live.{Begins, BeginsFile, TellsMoves, HaltsIn, IsUnlined, IsUncreated, CreatesMoves, LivesAtLines, LivesBegun, is_created, mend_line, EndsLived, EndsLive};
+ghost use Rattle.siman_console.specs.Outside.{Stream, Outcome, Deed, Found, Adds, WasHeld, Has};
 
 mod moves;
 
-use crate::fault::Fault;
+use crate::fault::{Ended, Fault, tell};
 use crate::input::read_text;
+use crate::opening::open_apart;
 use crate::outside::Outside;
-use crate::product::Product;
 use crate::program::live::moves::{make_move, stand_at_lines};
-use byte_files::put;
+use byte_files::{WriteFailed, put, put_both};
 use exercise_model::{ExerciseLog, Recording};
 use exercise_recording::RecordingWriter;
 use siman_lines::{Line, StationAtLine};
@@ -158,6 +161,13 @@ fn uncreated(error: &io::Error) -> Fault<'static>
     }
 }
 
+/// What `live` answered, or the fault that it met, and whether it created its file before.
+#[derive(Clone, Copy)]
+struct Lived<'a> {
+    answered: Result<u8, Fault<'a>>,
+    created: bool,
+}
+
 /// Creates the file of a recording, in which the stations write what comes of their moves, and then
 /// tells the line.
 fn create_live<O: Outside, W: Write>(
@@ -168,18 +178,24 @@ fn create_live<O: Outside, W: Write>(
     name: &str,
     outside: &mut O,
     out: &mut W,
-) -> Result<u8, Fault<'static>>
+) -> Lived<'static>
     ensures { let out : Stream = record { old = W.contents out.old; new = W.contents out.new } in
-        (deeds : List Deed) × Adds (O.deeds outside.old) (O.deeds outside.new) deeds × ((holds : List ℕ → Option Found) → All (WasHeld holds) deeds) × CreatesMoves name.now (length moves.items) deeds result out }
+        (deeds : List Deed) × Adds (O.deeds outside.old) (O.deeds outside.new) deeds × ((holds : List ℕ → Option Found) → All (WasHeld holds) deeds) × CreatesMoves name.now (length moves.items) deeds result.answered out × (result.created ≡ is_created deeds) }
 {
     match outside.create(name) {
         Ok(file) => {
             let mut file = file;
             let answered = put_moves(alloc, head, stations, moves, &mut file, out);
             outside.close(file);
-            answered
+            Lived {
+                answered,
+                created: true,
+            }
         }
-        Err(error) => Err(uncreated(&error)),
+        Err(error) => Lived {
+            answered: Err(uncreated(&error)),
+            created: false,
+        },
     }
 }
 
@@ -190,9 +206,9 @@ fn live_at_lines<O: Outside, W: Write>(
     name: &str,
     outside: &mut O,
     out: &mut W,
-) -> Result<u8, Fault<'static>>
+) -> Lived<'static>
     ensures { let out : Stream = record { old = W.contents out.old; new = W.contents out.new } in
-        (deeds : List Deed) × Adds (O.deeds outside.old) (O.deeds outside.new) deeds × ((holds : List ℕ → Option Found) → All (WasHeld holds) deeds) × LivesAtLines name.now (length begun.moves.items) deeds result out }
+        (deeds : List Deed) × Adds (O.deeds outside.old) (O.deeds outside.new) deeds × ((holds : List ℕ → Option Found) → All (WasHeld holds) deeds) × LivesAtLines name.now (length begun.moves.items) deeds result.answered out × (result.created ≡ is_created deeds) }
 {
     let Begun {
         recording,
@@ -201,37 +217,121 @@ fn live_at_lines<O: Outside, W: Write>(
     } = begun;
     let lines = match outside.lines(alloc, nodes.len()) {
         Ok(lines) => lines,
-        Err(error) => return Err(unlined(&error)),
+        Err(error) => {
+            return Lived {
+                answered: Err(unlined(&error)),
+                created: false,
+            };
+        }
     };
     match stand_at_lines(alloc, nodes, lines) {
         Ok(stations) => create_live(alloc, &recording, stations, moves, name, outside, out),
-        Err(fault) => Err(fault),
+        Err(fault) => Lived {
+            answered: Err(fault),
+            created: false,
+        },
     }
 }
 
 /// What comes of a script, where no file stands under the name of its recording: the stations have
 /// their lines, and the file is created in which they write what comes of their moves.
-impl Product for Begun {
-    ghost use Rattle.siman_console.specs.Program.Live.{BeginsFile, LivesBegun};
-
-    ghost reads = { BeginsFile };
-
-    ghost makes = { LivesBegun };
-
-    fn read<R: Read + Drop>(alloc: Global, file: R) -> Result<Begun, Fault<'static>> {
-        begin_script(alloc, file)
+fn live_begun<O: Outside, W: Write>(
+    alloc: Global,
+    begun: Begun,
+    name: &str,
+    outside: &mut O,
+    out: &mut W,
+) -> Lived<'static>
+    ensures { let out : Stream = record { old = W.contents out.old; new = W.contents out.new } in
+        (deeds : List Deed) × Adds (O.deeds outside.old) (O.deeds outside.new) deeds × ((holds : List ℕ → Option Found) → All (WasHeld holds) deeds) × LivesBegun begun name.now deeds result.answered out × (result.created ≡ is_created deeds) }
+{
+    if outside.is_taken(name) {
+        return Lived {
+            answered: Err(Fault::Exists),
+            created: false,
+        };
     }
+    live_at_lines(alloc, begun, name, outside, out)
+}
 
-    fn make<O: Outside, W: Write>(
-        self,
-        alloc: Global,
-        name: &str,
-        outside: &mut O,
-        out: &mut W,
-    ) -> Result<u8, Fault<'static>> {
-        if outside.is_taken(name) {
-            return Err(Fault::Exists);
-        }
-        live_at_lines(alloc, self, name, outside, out)
+/// Opens the file of the first name, and makes the moves of its script, whose recording is to stand
+/// under the second.
+fn live_of_file<'a, O: Outside, W: Write>(
+    alloc: Global,
+    names: (&'a str, &'a str),
+    outside: &mut O,
+    out: &mut W,
+) -> Lived<'a>
+    ensures { let out : Stream = record { old = W.contents out.old; new = W.contents out.new } in
+        (deeds : List Deed) × Adds (O.deeds outside.old) (O.deeds outside.new) deeds × All (WasHeld (O.holds outside.old)) deeds × WorksOn BeginsFile LivesBegun names.entry.0.now names.entry.1.now deeds result.answered out × (result.created ≡ is_created deeds) }
+{
+    match open_apart(names, outside) {
+        Ok(opened) => match begin_script(alloc, outside.read(opened)) {
+            Ok(begun) => live_begun(alloc, begun, names.1, outside, out),
+            Err(fault) => Lived {
+                answered: Err(fault),
+                created: false,
+            },
+        },
+        Err(fault) => Lived {
+            answered: Err(fault),
+            created: false,
+        },
     }
+}
+
+/// Writes how a recording that stands under a name is mended: `mend NAME NEW`.
+fn tell_mend<E: Write>(name: &str, errors: &mut E) -> Result<(), WriteFailed>
+    ensures { Writes result (E.contents errors.old) (E.contents errors.new) (mend_line true name.now) }
+{
+    put_both(errors, b"mend ", name.as_bytes())?;
+    put(errors, b" NEW\n")
+}
+
+/// Writes the line of a fault, and, where the file of a name was created before, how it is mended.
+fn tell_lived<E: Write>(
+    fault: Fault<'_>,
+    created: bool,
+    name: &str,
+    errors: &mut E,
+) -> Result<(), WriteFailed>
+    ensures { Writes result (E.contents errors.old) (E.contents errors.new) (fault_line fault.entry ++ mend_line created name.now) }
+{
+    tell(fault, errors)?;
+    if created {
+        return tell_mend(name, errors);
+    }
+    Ok(())
+}
+
+/// Ends `live`, after it told its fault.
+fn end_lived<E: Write>(lived: Lived<'_>, name: &str, errors: &mut E) -> Ended
+    ensures { EndsLived lived.entry.created name.now lived.entry.answered result (E.contents errors.old) (E.contents errors.new) }
+{
+    match lived.answered {
+        Ok(status) => Ended {
+            status,
+            written: Ok(()),
+        },
+        Err(fault) => Ended {
+            status: fault.status(),
+            written: tell_lived(fault, lived.created, name, errors),
+        },
+    }
+}
+
+/// Does what `live` is asked for with these words, and ends as that asks for. After a fault of a
+/// recording that it created it tells how that is mended.
+pub(crate) fn end_live<O: Outside, W: Write, E: Write>(
+    alloc: Global,
+    words: (&str, &str),
+    outside: &mut O,
+    out: &mut W,
+    errors: &mut E,
+) -> Ended
+    ensures { let o : Outcome = record { ended = result; out = record { old = W.contents out.old; new = W.contents out.new }; errors = record { old = E.contents errors.old; new = E.contents errors.new } } in
+        (deeds : List Deed) × Adds (O.deeds outside.old) (O.deeds outside.new) deeds × All (WasHeld (O.holds outside.old)) deeds × EndsLive words.entry.0.now words.entry.1.now deeds o }
+{
+    let lived = live_of_file(alloc, words, outside, out);
+    end_lived(lived, words.1, errors)
 }

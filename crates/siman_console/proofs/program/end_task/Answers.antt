@@ -21,9 +21,7 @@ returns-in-One g c =
     rw c.in-One.is (did.0, did.1, did.2, (c.do_one.result, did.3, c.end-in-One.ensures))
 
 pub returns-in-Two : goal.returns-in-Two
-returns-in-Two g c =
-    let did = c.do_two.ensures in
-    rw c.in-Two.is (did.0, did.1, did.2, (c.do_two.result, did.3, c.end-in-Two.ensures))
+returns-in-Two g c = rw c.in-Two.is c.end_two.ensures
 
 -- the only command that takes no words ends so
 lines_end : (command : NoWord) (input : Option (List ℕ)) (o : Outcome) → (bytes : List ℕ) × Has input bytes × EndsLines (lines_of bytes) o → EndsBare command input o

@@ -10,4 +10,5 @@ returns-in-Ok g c = (
   adds_then _ _ _ _ _ c.in-Ok.ensures.done c.close.ensures.done,
   (λ holds. all_two (WasHeld holds) _ _ c.in-Ok.ensures.fresh tt),
   (refl, c.put_moves-answered.ensures),
+  refl,
 )

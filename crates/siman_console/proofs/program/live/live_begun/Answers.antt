@@ -3,7 +3,7 @@ use Rattle.std.proofs.Common.{[], ◌∷◌, false, refl}
 use Rattle.std.proofs.lemmas.List.Elements.{All-cons}
 use Rattle.siman_console.specs.Outside.{LooksFor, WasHeld}
 use Rattle.siman_console.proofs.Openings.{adds_then}
-use Rattle.siman_console.proofs.program.live.BegunProduct.make.Goals as goal
+use Rattle.siman_console.proofs.program.live.live_begun.Goals as goal
 
 pub returns : goal.returns
 returns g c =
@@ -13,4 +13,5 @@ returns g c =
       adds_then _ _ _ (looked ∷ []) rest.0 c.if-is_taken.ensures.done rest.1,
       (λ holds. All-cons (WasHeld holds) looked rest.0 tt (rest.2 holds)),
       (refl, rest.3),
+      rest.4,
     )

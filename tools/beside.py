@@ -87,7 +87,7 @@ def words_given():
     parser.add_argument("--seconds", type=float, default=60, help="the most that a run may take (60)")
     parser.add_argument("--instructions", action="store_true", help="count instructions, in millions, by valgrind")
     parser.add_argument("--misses", action="store_true", help="with them the misses of the last cache, in millions")
-    given = parser.parse_args()
+    given = parser.parse_intermixed_args()
     given.runs = given.runs or (1 if given.instructions else 5)
     given.instructions |= given.misses
     for kind in given.kinds:

@@ -12,3 +12,8 @@ mod PartyPlaces
 mod Lists
 mod Spans
 mod Orders
+mod Walks
+mod Registered
+mod Under
+mod Stationed
+mod Tallies

@@ -24,7 +24,7 @@ use Rattle.exercise_review.proofs.Lives.{append_none}
 
 -- ---- addresses as numbers
 
-number_back : (n : ℕ) → number_of (pair_numbered n) ≡ n
+pub number_back : (n : ℕ) → number_of (pair_numbered n) ≡ n
 number_back n = omega arith
 
 same_number : (a b : Pair) → a.site ≡ b.site → a.application ≡ b.application → number_of a ≡ number_of b
@@ -32,7 +32,7 @@ same_number a b site application = rw (site, application) refl
 
 -- ---- every party is at one of the places
 
-at_station : (r : PlainRecording) (a : Pair) (s : ℕ) → is_at r a s ≡ true → (s < length r.setting.stations) × (number_of (station_at r s).address ≡ number_of a)
+pub at_station : (r : PlainRecording) (a : Pair) (s : ℕ) → is_at r a s ≡ true → (s < length r.setting.stations) × (number_of (station_at r s).address ≡ number_of a)
 unfolding is_at
 at_station r a s h =
     let both = and_parts _ _ h in
@@ -255,7 +255,7 @@ skip r o from (suc k) none =
     ∙ append_none (parties_below r o (from + k))
     ∙ skip r o from k (λ m above below. none m above (omega (arith, below)))
 
-skipped : (r : PlainRecording) (o : OrderData) (from n : ℕ) → from ≤ n → AreNoParties r o from n → parties_below r o n ≡ parties_below r o from
+pub skipped : (r : PlainRecording) (o : OrderData) (from n : ℕ) → from ≤ n → AreNoParties r o from n → parties_below r o n ≡ parties_below r o from
 skipped r o from n above none =
     let same : n ≡ from + (n - from) = omega (arith, above) in
     ap (parties_below r o) same ∙ skip r o from (n - from) (λ m l b. none.none m l (omega (arith, same, b)))

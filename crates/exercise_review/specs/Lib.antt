@@ -3,6 +3,7 @@ pub mod Entries
 pub mod Order
 pub mod Party
 pub mod Parties
+pub mod Register
 pub mod Reply
 pub mod Word
 pub mod Fate

@@ -1,10 +1,11 @@
 -- The parties of an order, one after the other by rising addresses (profile).
-use Rattle.std.specs.Prelude.{◌≡◌, ℕ, zero, suc, ◌+◌, ◌-◌, ◌*◌, ◌/◌, ◌%◌, ◌<◌, ◌≤◌, List, [], ◌++◌, length, Bool, false, ◌||◌, ◌==◌, nat_lt, nat_le, Option, Some, None, option_map, option_and_then, if◌then◌else◌}
+use Rattle.std.specs.Prelude.{◌≡◌, ℕ, zero, suc, ◌+◌, ◌-◌, ◌*◌, ◌/◌, ◌%◌, ◌<◌, ◌≤◌, List, [], ◌++◌, length, Bool, false, ◌&&◌, ◌||◌, ◌==◌, is_some, nat_lt, nat_le, Option, Some, None, option_map, option_and_then, if◌then◌else◌}
 use Rattle.std.specs.Option.{option_map_or, option_to_list}
 use Rattle.dis_records.specs.Address.{Pair}
 use Rattle.dis_records.specs.Entity.{pair_of}
 use Rattle.exercise_model.specs.Recording.{PlainRecording}
 use Rattle.exercise_model.specs.History.{station_at}
+use Rattle.exercise_model.specs.Setting.{is_open}
 use Rattle.exercise_model.specs.Place.{first_below}
 use Rattle.exercise_review.specs.declared.party.Party.{Party}
 use Rattle.exercise_review.specs.declared.party.Party.TheVariants as parties
@@ -56,6 +57,10 @@ parties_below r o (suc n) = parties_below r o n ++ option_to_list (party_at r o 
 -- THE PARTIES OF AN ORDER, by rising addresses
 unfoldable pub parties_of : PlainRecording → OrderData → List Party
 parties_of r o = parties_below r o addresses
+
+-- somebody who was not recorded may be a party: the recording is open, and the order is one of a recorded station
+abbrev pub has_outsiders : PlainRecording → OrderData → Bool
+has_outsiders r o = is_open r.setting.form && is_some o.maker
 
 -- ---- how they are found
 

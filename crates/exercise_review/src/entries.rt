@@ -7,13 +7,13 @@ ghost use Rattle.exercise_model.specs.Held.{shown};
 ghost use Rattle.exercise_model.specs.Meaning.{meaning};
 ghost use Rattle.exercise_review.specs.Entries.{bytes_sent, bytes_got, sent_by, got_by, meant_at};
 
-use exercise_findings::Findings;
+use crate::register::Register;
 use exercise_model::{EntryView, ExerciseLog, meaning_view};
 use siman_pdus::PduView;
 
 /// The entry of a number, if there is one.
 pub(crate) fn entry_at<'a, L: ExerciseLog>(
-    findings: &Findings<'a, L>,
+    findings: &Register<'a, L>,
     entry: usize,
 ) -> Option<EntryView<'a>>
     ensures entry { option_map shown result ≡ slice_get findings.now.entries entry }
@@ -29,7 +29,7 @@ pub(crate) fn entry_at<'a, L: ExerciseLog>(
 }
 
 /// How many entries there are.
-pub(crate) fn entry_count<L: ExerciseLog>(findings: &Findings<'_, L>) -> usize
+pub(crate) fn entry_count<L: ExerciseLog>(findings: &Register<'_, L>) -> usize
     ensures { result ≡ length findings.now.entries }
 {
     findings.log().entry_count()
@@ -37,7 +37,7 @@ pub(crate) fn entry_count<L: ExerciseLog>(findings: &Findings<'_, L>) -> usize
 
 /// What a datagram means in the exercise of a recording.
 pub(crate) fn meant<'b, L: ExerciseLog>(
-    findings: &Findings<'_, L>,
+    findings: &Register<'_, L>,
     bytes: &'b [u8],
 ) -> Option<PduView<'b>>
     ensures { option_map pdu_of result ≡ meaning findings.now.setting.exercise bytes.now }
@@ -48,7 +48,7 @@ pub(crate) fn meant<'b, L: ExerciseLog>(
 /// The bytes that a station sends at an entry.
 #[tactic(auto, unfolding(crate::specs::Entries::bytes_sent))]
 pub(crate) fn bytes_sent<'a, L: ExerciseLog>(
-    findings: &Findings<'a, L>,
+    findings: &Register<'a, L>,
     station: u16,
     entry: usize,
 ) -> Option<&'a [u8]>
@@ -69,7 +69,7 @@ pub(crate) fn bytes_sent<'a, L: ExerciseLog>(
 /// The bytes that a station receives at an entry.
 #[tactic(auto, unfolding(crate::specs::Entries::bytes_got))]
 pub(crate) fn bytes_got<'a, L: ExerciseLog>(
-    findings: &Findings<'a, L>,
+    findings: &Register<'a, L>,
     station: u16,
     entry: usize,
 ) -> Option<&'a [u8]>
@@ -90,7 +90,7 @@ pub(crate) fn bytes_got<'a, L: ExerciseLog>(
 /// The PDU that a station sends at an entry, if it sends something that is not "other".
 #[tactic(auto, unfolding(crate::specs::Entries::sent_by))]
 pub(crate) fn sent_by<'a, L: ExerciseLog>(
-    findings: &Findings<'a, L>,
+    findings: &Register<'a, L>,
     station: u16,
     entry: usize,
 ) -> Option<PduView<'a>>
@@ -105,7 +105,7 @@ pub(crate) fn sent_by<'a, L: ExerciseLog>(
 /// The PDU that a station receives at an entry, if it receives something that is not "other".
 #[tactic(auto, unfolding(crate::specs::Entries::got_by))]
 pub(crate) fn got_by<'a, L: ExerciseLog>(
-    findings: &Findings<'a, L>,
+    findings: &Register<'a, L>,
     station: u16,
     entry: usize,
 ) -> Option<PduView<'a>>
@@ -120,7 +120,7 @@ pub(crate) fn got_by<'a, L: ExerciseLog>(
 /// The PDU of an entry, sent or received, at whatever station.
 #[tactic(auto, unfolding(crate::specs::Entries::meant_at))]
 pub(crate) fn meant_at<'a, L: ExerciseLog>(
-    findings: &Findings<'a, L>,
+    findings: &Register<'a, L>,
     entry: usize,
 ) -> Option<PduView<'a>>
     ensures { option_map pdu_of result ≡ meant_at findings.now entry }

@@ -4,13 +4,12 @@ ghost use Rattle.std.specs.Prelude.{◌≡◌};
 ghost use Rattle.exercise_review.specs.Order.{order_of};
 ghost use Rattle.exercise_review.specs.Fate.{fate_heard, fate_by, word_heard, has_replied, traces_of, fate_of, fate_text};
 
-use crate::entries::entry_count;
 use crate::order::Order;
 use crate::party::{Party, first_copy};
-use crate::question::first_below;
+use crate::register::Register;
 use crate::reply::{News, Replies};
+use crate::walk::first_entry;
 use crate::word::{Word, first_settling, word_at};
-use exercise_findings::Findings;
 use exercise_model::ExerciseLog;
 use std::fmt;
 
@@ -117,26 +116,32 @@ impl fmt::Display for Fate {
 }
 
 /// Whether a station replied to an order.
+#[tactic(auto, using(crate::proofs::Under::under_steps))]
 fn has_replied<L: ExerciseLog>(replies: &Replies<'_, L>) -> bool
     ensures { result ≡ has_replied replies.now.findings.now (order_of replies.now.order.now) replies.now.station }
 {
-    first_below(replies, entry_count(replies.findings)).is_some()
+    first_entry(replies.findings, replies.key(), replies).is_some()
 }
 
 /// The word of the first answer of a station that the maker heard and that settles.
+#[tactic(auto, using(crate::proofs::Under::under_steps))]
 fn heard<L: ExerciseLog>(replies: &Replies<'_, L>) -> Option<Word>
     ensures { result ≡ word_heard replies.now.findings.now (order_of replies.now.order.now) replies.now.station }
 {
-    match first_settling(replies.findings, &News { replies }) {
+    match first_settling(
+        replies.findings,
+        replies.order.maker_key(),
+        &News { replies },
+    ) {
         Some(entry) => word_at(replies.findings, entry),
         None => None,
     }
 }
 
 /// The traces of an order at a recorded station. It takes no memory.
-#[tactic(auto, unfolding(crate::specs::Fate::traces_of))]
+#[tactic(auto, unfolding(crate::specs::Fate::traces_of), using(crate::proofs::Under::under_steps))]
 pub fn traces_of<L: ExerciseLog>(
-    findings: &Findings<'_, L>,
+    findings: &Register<'_, L>,
     order: &Order<'_>,
     station: u16,
 ) -> Traces
@@ -150,7 +155,7 @@ pub fn traces_of<L: ExerciseLog>(
     Traces {
         made: order.maker.is_some(),
         heard: heard(&replies),
-        settled: first_settling(findings, &replies).is_some(),
+        settled: first_settling(findings, replies.key(), &replies).is_some(),
         replied: has_replied(&replies),
         got: first_copy(findings, order, station).is_some(),
     }
@@ -158,7 +163,7 @@ pub fn traces_of<L: ExerciseLog>(
 
 /// The fate of an order at a party of it. It takes no memory.
 #[tactic(auto, unfolding(crate::specs::Fate::fate_of))]
-pub fn fate_of<L: ExerciseLog>(findings: &Findings<'_, L>, order: &Order<'_>, party: Party) -> Fate
+pub fn fate_of<L: ExerciseLog>(findings: &Register<'_, L>, order: &Order<'_>, party: Party) -> Fate
     ensures { result ≡ fate_of findings.now (order_of order.now) party }
 {
     match party {

@@ -11,9 +11,12 @@
 //! [`one_side_is_not_enough`] which fates no single log can tell, and [`lives_are_states`] that the
 //! stretches of a life are the states of the entity at each place.
 //!
-//! The bodies are the plain ones that follow the definitions: some go over the log for each entry.
+//! A [`Register`] keeps the entries by their stations and request identifiers. What has to do with an
+//! order at a station is looked for among those alone that have its identifier there; what else is
+//! asked goes over the whole log.
 #![tactic(auto)]
 
+mod counting;
 mod entries;
 mod fate;
 mod fault;
@@ -26,12 +29,14 @@ mod outcome;
 mod parties;
 mod party;
 mod question;
+mod register;
 mod reply;
 mod review;
 mod span;
 mod stations;
 mod tally;
 mod told;
+mod walk;
 mod word;
 
 pub use fate::{Fate, Traces, fate_of, traces_of};
@@ -44,6 +49,7 @@ pub use order::{Order, head_of, order_at};
 pub use outcome::{Outcome, outcomes_of};
 pub use parties::parties_of;
 pub use party::{Outsider, Party, is_party, is_party_outside};
+pub use register::Register;
 pub use reply::change_of_order;
 pub use review::{MOST_LINES, Review, review_of};
 pub use span::{Span, spans_of};

@@ -4,8 +4,8 @@ ghost use Rattle.std.specs.Prelude.{◌≡◌, ◌<◌, ◌++◌, length, IfOk, 
 ghost use Rattle.exercise_review.specs.Life.{life_in, stretch_of, lived_on, life_before, lives_of};
 
 use crate::entries::entry_count;
+use crate::register::Register;
 use dis_records::EntityState;
-use exercise_findings::Findings;
 use exercise_model::ExerciseLog;
 use std::alloc::{AllocError, Global};
 
@@ -65,7 +65,7 @@ pub(crate) fn live_on(life: &mut Life, entry: usize, state: EntityState) -> Resu
 #[tactic(auto, using(crate::proofs::Lives::life_steps))]
 fn live<L: ExerciseLog>(
     alloc: Global,
-    findings: &Findings<'_, L>,
+    findings: &Register<'_, L>,
     station: u16,
     entity: u16,
 ) -> Result<Life, AllocError>
@@ -90,7 +90,7 @@ fn live<L: ExerciseLog>(
 #[tactic(auto, unfolding(crate::specs::Life::lives_of))]
 pub fn lives_of<L: ExerciseLog>(
     alloc: Global,
-    findings: &Findings<'_, L>,
+    findings: &Register<'_, L>,
     station: u16,
     entity: u16,
 ) -> Result<Vec<Stretch>, AllocError>

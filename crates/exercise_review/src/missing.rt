@@ -8,9 +8,9 @@ ghost use Rattle.exercise_review.specs.Missing.{gets_bytes, place_of, missing_pd
 
 use crate::entries::{entry_at, entry_count, got_by, meant};
 use crate::question::{Question, first_below};
+use crate::register::Register;
 use crate::stations::sender_of;
 use dis_records::Address;
-use exercise_findings::Findings;
 use exercise_model::{EntryView, ExerciseLog, is_answer, is_asked};
 use siman_pdus::PduView;
 
@@ -27,7 +27,7 @@ pub struct Missing {
 /// Where any station receives these bytes.
 #[derive(Drop)]
 struct GetsBytes<'a, L: ExerciseLog> {
-    findings: &'a Findings<'a, L>,
+    findings: &'a Register<'a, L>,
     bytes: &'a [u8],
 }
 
@@ -46,7 +46,7 @@ impl<L: ExerciseLog> Question for GetsBytes<'_, L> {
 /// Where a station receives a request that an answer could take up.
 #[derive(Drop)]
 struct Brings<'a, L: ExerciseLog> {
-    findings: &'a Findings<'a, L>,
+    findings: &'a Register<'a, L>,
     station: u16,
     address: Address,
     answer: &'a PduView<'a>,
@@ -67,7 +67,7 @@ impl<L: ExerciseLog> Question for Brings<'_, L> {
 /// Where the send of a PDU belongs in the log of a station.
 #[tactic(auto, unfolding(exercise_model::specs::Place::entry_taken_up))]
 fn place_of<L: ExerciseLog>(
-    findings: &Findings<'_, L>,
+    findings: &Register<'_, L>,
     station: u16,
     pdu: &PduView<'_>,
 ) -> Option<usize>
@@ -87,7 +87,7 @@ fn place_of<L: ExerciseLog>(
 }
 
 /// The send of a PDU that the log of its sender lacks, where that is a recorded station.
-fn missing_pdu<L: ExerciseLog>(findings: &Findings<'_, L>, pdu: &PduView<'_>) -> Option<Missing>
+fn missing_pdu<L: ExerciseLog>(findings: &Register<'_, L>, pdu: &PduView<'_>) -> Option<Missing>
     ensures { result ≡ missing_pdu findings.now (pdu_of pdu.now) }
 {
     match sender_of(findings, pdu) {
@@ -100,7 +100,7 @@ fn missing_pdu<L: ExerciseLog>(findings: &Findings<'_, L>, pdu: &PduView<'_>) ->
 }
 
 /// Whether no entry before one receives these bytes.
-fn is_first_receipt<L: ExerciseLog>(findings: &Findings<'_, L>, entry: usize, bytes: &[u8]) -> bool
+fn is_first_receipt<L: ExerciseLog>(findings: &Register<'_, L>, entry: usize, bytes: &[u8]) -> bool
     ensures { result ≡ is_first_receipt findings.now entry bytes.now }
 {
     first_below(&GetsBytes { findings, bytes }, entry).is_none()
@@ -110,7 +110,7 @@ fn is_first_receipt<L: ExerciseLog>(findings: &Findings<'_, L>, entry: usize, by
 /// recorded station, and no entry of that station sends the same bytes. `None` for all else and past
 /// the last entry. It takes no memory.
 #[tactic(auto, unfolding(crate::specs::Missing::missing_at))]
-pub fn missing_at<L: ExerciseLog>(findings: &Findings<'_, L>, entry: usize) -> Option<Missing>
+pub fn missing_at<L: ExerciseLog>(findings: &Register<'_, L>, entry: usize) -> Option<Missing>
     ensures { result ≡ missing_at findings.now entry }
 {
     if findings.source(entry).is_some() {

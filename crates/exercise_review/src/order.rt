@@ -3,12 +3,14 @@
 ghost use Rattle.std.specs.Prelude.{◌≡◌, option_map, Some, length};
 ghost use Rattle.siman_pdus.specs.Answers.{same_id};
 ghost use Rattle.siman_pdus.specs.Reading.{pdu_of};
+ghost use Rattle.exercise_review.specs.Register.{maker_key};
 ghost use Rattle.exercise_review.specs.Order.{order_of, sends_order, gets_order, gets_anywhere, head_sent, head_got, head_of, order_at, sends_of, sends_under_id, is_first_under_id};
 
 use crate::entries::{entry_at, entry_count, got_by, meant, sent_by};
-use crate::question::{Question, count_below, first_below};
+use crate::question::{Question, first_below};
+use crate::register::{Register, pdu_key};
 use crate::stations::{is_for_station, is_outside};
-use exercise_findings::Findings;
+use crate::walk::{count_entries, first_entry};
 use exercise_model::{EntryView, ExerciseLog};
 use siman_pdus::{PduView, is_request, is_under_identifier, same_order};
 
@@ -27,7 +29,7 @@ pub struct Order<'a> {
 /// Where a station sends an order.
 #[derive(Drop)]
 pub(crate) struct Sends<'a, L: ExerciseLog> {
-    pub findings: &'a Findings<'a, L>,
+    pub findings: &'a Register<'a, L>,
     pub station: u16,
     pub request: &'a PduView<'a>,
 }
@@ -47,7 +49,7 @@ impl<L: ExerciseLog> Question for Sends<'_, L> {
 /// Where a station receives an order.
 #[derive(Drop)]
 pub(crate) struct Gets<'a, L: ExerciseLog> {
-    pub findings: &'a Findings<'a, L>,
+    pub findings: &'a Register<'a, L>,
     pub station: u16,
     pub request: &'a PduView<'a>,
 }
@@ -67,7 +69,7 @@ impl<L: ExerciseLog> Question for Gets<'_, L> {
 /// Where any station receives an order.
 #[derive(Drop)]
 struct GetsAnywhere<'a, L: ExerciseLog> {
-    findings: &'a Findings<'a, L>,
+    findings: &'a Register<'a, L>,
     request: &'a PduView<'a>,
 }
 
@@ -89,7 +91,7 @@ impl<L: ExerciseLog> Question for GetsAnywhere<'_, L> {
 /// Where a station sends a request under the identifier of another.
 #[derive(Drop)]
 struct SendsUnderId<'a, L: ExerciseLog> {
-    findings: &'a Findings<'a, L>,
+    findings: &'a Register<'a, L>,
     station: u16,
     request: &'a PduView<'a>,
 }
@@ -107,8 +109,9 @@ impl<L: ExerciseLog> Question for SendsUnderId<'_, L> {
 }
 
 /// The head of what a station sends, where it is a request.
+#[tactic(auto, using(crate::proofs::Under::under_steps))]
 fn head_sent<L: ExerciseLog>(
-    findings: &Findings<'_, L>,
+    findings: &Register<'_, L>,
     station: u16,
     pdu: &PduView<'_>,
 ) -> Option<usize>
@@ -122,11 +125,11 @@ fn head_sent<L: ExerciseLog>(
         station,
         request: pdu,
     };
-    first_below(&sends, entry_count(findings))
+    first_entry(findings, pdu_key(station, pdu), &sends)
 }
 
 /// The head of what somebody receives, where it is a request from outside to a recorded station.
-fn head_got<L: ExerciseLog>(findings: &Findings<'_, L>, pdu: &PduView<'_>) -> Option<usize>
+fn head_got<L: ExerciseLog>(findings: &Register<'_, L>, pdu: &PduView<'_>) -> Option<usize>
     ensures { result ≡ head_got findings.now (pdu_of pdu.now) }
 {
     if !is_request(pdu) || !is_outside(findings, pdu) || !is_for_station(findings, pdu) {
@@ -143,7 +146,7 @@ fn head_got<L: ExerciseLog>(findings: &Findings<'_, L>, pdu: &PduView<'_>) -> Op
 /// order; where it receives one from outside that is for a recorded station, the first at which
 /// somebody receives it. `None` for all else and past the last entry. It takes no memory.
 #[tactic(auto, unfolding(crate::specs::Order::head_of))]
-pub fn head_of<L: ExerciseLog>(findings: &Findings<'_, L>, entry: usize) -> Option<usize>
+pub fn head_of<L: ExerciseLog>(findings: &Register<'_, L>, entry: usize) -> Option<usize>
     ensures { result ≡ head_of findings.now entry }
 {
     match entry_at(findings, entry) {
@@ -160,7 +163,7 @@ pub fn head_of<L: ExerciseLog>(findings: &Findings<'_, L>, entry: usize) -> Opti
 }
 
 /// Whether an entry is its own head.
-fn is_head<L: ExerciseLog>(findings: &Findings<'_, L>, entry: usize) -> bool
+fn is_head<L: ExerciseLog>(findings: &Register<'_, L>, entry: usize) -> bool
     ensures { result ≡ same_id (head_of findings.now entry) (Some entry) }
 {
     match head_of(findings, entry) {
@@ -171,7 +174,7 @@ fn is_head<L: ExerciseLog>(findings: &Findings<'_, L>, entry: usize) -> bool
 
 /// The order of which an entry is the head; `None` where it is no head. It takes no memory.
 #[tactic(auto, unfolding(crate::specs::Order::order_at))]
-pub fn order_at<'a, L: ExerciseLog>(findings: &Findings<'a, L>, entry: usize) -> Option<Order<'a>>
+pub fn order_at<'a, L: ExerciseLog>(findings: &Register<'a, L>, entry: usize) -> Option<Order<'a>>
     ensures { option_map order_of result ≡ order_at findings.now entry }
 {
     if !is_head(findings, entry) {
@@ -191,9 +194,22 @@ pub fn order_at<'a, L: ExerciseLog>(findings: &Findings<'a, L>, entry: usize) ->
 }
 
 impl Order<'_> {
+    /// What the entries of its maker are looked up by that may have to do with it; those of the first
+    /// station where it came from outside.
+    #[tactic(auto, unfolding(crate::specs::Register::maker_key))]
+    pub(crate) fn maker_key(&self) -> Option<u64>
+        ensures { result ≡ maker_key (order_of self.now) }
+    {
+        let station = match self.maker {
+            Some(station) => station,
+            None => 0,
+        };
+        pdu_key(station, &self.request)
+    }
+
     /// How often its maker sent it; 0 where it came from outside.
-    #[tactic(auto, unfolding(crate::specs::Order::sends_of))]
-    pub fn sends<L: ExerciseLog>(&self, findings: &Findings<'_, L>) -> usize
+    #[tactic(auto, unfolding(crate::specs::Order::sends_of), using(crate::proofs::Under::under_steps))]
+    pub fn sends<L: ExerciseLog>(&self, findings: &Register<'_, L>) -> usize
         ensures { result ≡ sends_of findings.now (order_of self.now) }
     {
         match self.maker {
@@ -203,15 +219,16 @@ impl Order<'_> {
                     station,
                     request: &self.request,
                 };
-                count_below(&sends, entry_count(findings))
+                let key = pdu_key(station, &self.request);
+                count_entries(findings, key, &sends)
             }
             None => 0,
         }
     }
 
     /// Whether it is the first order of its maker under its identifier.
-    #[tactic(auto, unfolding(crate::specs::Order::is_first_under_id))]
-    pub(crate) fn is_first_under_id<L: ExerciseLog>(&self, findings: &Findings<'_, L>) -> bool
+    #[tactic(auto, unfolding(crate::specs::Order::is_first_under_id), using(crate::proofs::Under::under_steps))]
+    pub(crate) fn is_first_under_id<L: ExerciseLog>(&self, findings: &Register<'_, L>) -> bool
         ensures { result ≡ is_first_under_id findings.now (order_of self.now) }
     {
         let Some(station) = self.maker else {
@@ -222,7 +239,7 @@ impl Order<'_> {
             station,
             request: &self.request,
         };
-        match first_below(&sends, entry_count(findings)) {
+        match first_entry(findings, pdu_key(station, &self.request), &sends) {
             Some(first) => first == self.head,
             None => false,
         }

@@ -5,15 +5,15 @@ ghost use Rattle.exercise_review.specs.Order.{order_of};
 ghost use Rattle.exercise_review.specs.Word.{word_at};
 ghost use Rattle.exercise_review.specs.Outcome.{stamp_at, took_between, took, sends_told, receipts_of, outcome_here, outcome_outside, outcome_nowhere, outcome_at, outcomes_of};
 
-use crate::entries::{entry_at, entry_count};
+use crate::entries::entry_at;
 use crate::fate::{Fate, fate_of};
 use crate::order::{Gets, Order};
 use crate::parties::parties_of;
 use crate::party::{Outsider, Party, ToldFrom, first_copy};
-use crate::question::count_below;
+use crate::register::{Register, pdu_key};
 use crate::reply::{News, Replies, change_of_order};
+use crate::walk::count_entries;
 use crate::word::{Word, telling, word_at};
-use exercise_findings::Findings;
 use exercise_model::{EntryView, ExerciseLog};
 use std::alloc::{AllocError, Global};
 
@@ -48,7 +48,7 @@ pub struct Outcome {
 
 /// The stamp of an entry, by the clock of its station.
 #[tactic(auto, unfolding(crate::specs::Outcome::stamp_at))]
-pub(crate) fn stamp_at<L: ExerciseLog>(findings: &Findings<'_, L>, entry: usize) -> Option<u64>
+pub(crate) fn stamp_at<L: ExerciseLog>(findings: &Register<'_, L>, entry: usize) -> Option<u64>
     ensures { result ≡ stamp_at findings.now entry }
 {
     match entry_at(findings, entry) {
@@ -59,7 +59,7 @@ pub(crate) fn stamp_at<L: ExerciseLog>(findings: &Findings<'_, L>, entry: usize)
 
 /// How long it took from an entry to another by the clock of their station, unless it was set back.
 fn took_between<L: ExerciseLog>(
-    findings: &Findings<'_, L>,
+    findings: &Register<'_, L>,
     first: usize,
     last: usize,
 ) -> Option<u64>
@@ -73,7 +73,7 @@ fn took_between<L: ExerciseLog>(
 
 /// How long an order took, from its head to the entry of its news.
 fn took<L: ExerciseLog>(
-    findings: &Findings<'_, L>,
+    findings: &Register<'_, L>,
     order: &Order<'_>,
     news: Option<usize>,
 ) -> Option<u64>
@@ -86,7 +86,7 @@ fn took<L: ExerciseLog>(
 }
 
 /// What an entry says that an answer stands at, if there is one.
-fn word_of<L: ExerciseLog>(findings: &Findings<'_, L>, entry: Option<usize>) -> Option<Word>
+fn word_of<L: ExerciseLog>(findings: &Register<'_, L>, entry: Option<usize>) -> Option<Word>
     ensures { result ≡ option_and_then (word_at findings.now) entry }
 {
     match entry {
@@ -96,7 +96,7 @@ fn word_of<L: ExerciseLog>(findings: &Findings<'_, L>, entry: Option<usize>) -> 
 }
 
 /// How often an order was sent, if its maker is recorded.
-fn sends_told<L: ExerciseLog>(findings: &Findings<'_, L>, order: &Order<'_>) -> Option<usize>
+fn sends_told<L: ExerciseLog>(findings: &Register<'_, L>, order: &Order<'_>) -> Option<usize>
     ensures { result ≡ sends_told findings.now (order_of order.now) }
 {
     match order.maker {
@@ -106,7 +106,8 @@ fn sends_told<L: ExerciseLog>(findings: &Findings<'_, L>, order: &Order<'_>) -> 
 }
 
 /// How often a station received an order.
-fn receipts_of<L: ExerciseLog>(findings: &Findings<'_, L>, order: &Order<'_>, station: u16) -> usize
+#[tactic(auto, using(crate::proofs::Under::under_steps))]
+fn receipts_of<L: ExerciseLog>(findings: &Register<'_, L>, order: &Order<'_>, station: u16) -> usize
     ensures { result ≡ receipts_of findings.now (order_of order.now) station }
 {
     let gets = Gets {
@@ -114,12 +115,13 @@ fn receipts_of<L: ExerciseLog>(findings: &Findings<'_, L>, order: &Order<'_>, st
         station,
         request: &order.request,
     };
-    count_below(&gets, entry_count(findings))
+    count_entries(findings, pdu_key(station, &order.request), &gets)
 }
 
 /// What is told of an order at a recorded station.
+#[tactic(auto, using(crate::proofs::Under::under_steps))]
 fn outcome_here<L: ExerciseLog>(
-    findings: &Findings<'_, L>,
+    findings: &Register<'_, L>,
     order: &Order<'_>,
     station: u16,
 ) -> Outcome
@@ -130,8 +132,8 @@ fn outcome_here<L: ExerciseLog>(
         order,
         station,
     };
-    let answer = telling(findings, &replies);
-    let news = telling(findings, &News { replies: &replies });
+    let answer = telling(findings, replies.key(), &replies);
+    let news = telling(findings, order.maker_key(), &News { replies: &replies });
     Outcome {
         party: Some(Party::Station(station)),
         sends: sends_told(findings, order),
@@ -148,8 +150,9 @@ fn outcome_here<L: ExerciseLog>(
 }
 
 /// What is told of an order at an address that nobody recorded.
+#[tactic(auto, using(crate::proofs::Under::under_steps))]
 fn outcome_outside<L: ExerciseLog>(
-    findings: &Findings<'_, L>,
+    findings: &Register<'_, L>,
     order: &Order<'_>,
     address: Outsider,
 ) -> Outcome
@@ -160,7 +163,7 @@ fn outcome_outside<L: ExerciseLog>(
         order,
         from: address,
     };
-    let news = telling(findings, &told);
+    let news = telling(findings, order.maker_key(), &told);
     Outcome {
         party: Some(Party::Outside(address)),
         sends: sends_told(findings, order),
@@ -177,7 +180,7 @@ fn outcome_outside<L: ExerciseLog>(
 }
 
 /// What is told of an order that has no party.
-fn outcome_nowhere<L: ExerciseLog>(findings: &Findings<'_, L>, order: &Order<'_>) -> Outcome
+fn outcome_nowhere<L: ExerciseLog>(findings: &Register<'_, L>, order: &Order<'_>) -> Outcome
     ensures { result ≡ outcome_nowhere findings.now (order_of order.now) }
 {
     Outcome {
@@ -198,7 +201,7 @@ fn outcome_nowhere<L: ExerciseLog>(findings: &Findings<'_, L>, order: &Order<'_>
 /// What is told of an order at a party.
 #[tactic(auto, unfolding(crate::specs::Outcome::outcome_at))]
 fn outcome_at<L: ExerciseLog>(
-    findings: &Findings<'_, L>,
+    findings: &Register<'_, L>,
     order: &Order<'_>,
     party: Party,
 ) -> Outcome
@@ -213,7 +216,7 @@ fn outcome_at<L: ExerciseLog>(
 /// What is told of an order at these parties, one after the other.
 fn outcomes_at<L: ExerciseLog>(
     alloc: Global,
-    findings: &Findings<'_, L>,
+    findings: &Register<'_, L>,
     order: &Order<'_>,
     parties: &[Party],
 ) -> Result<Vec<Outcome>, AllocError>
@@ -231,7 +234,7 @@ fn outcomes_at<L: ExerciseLog>(
 #[tactic(auto, unfolding(crate::specs::Outcome::outcomes_of))]
 pub fn outcomes_of<L: ExerciseLog>(
     alloc: Global,
-    findings: &Findings<'_, L>,
+    findings: &Register<'_, L>,
     order: &Order<'_>,
 ) -> Result<Vec<Outcome>, AllocError>
     ensures { IfOk result (λ outcomes. outcomes.items ≡ outcomes_of findings.now (order_of order.now)) }

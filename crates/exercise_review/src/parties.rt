@@ -1,19 +1,19 @@
 //! The parties of an order, one after the other by rising addresses.
 
-ghost use Rattle.std.specs.Prelude.{◌≡◌, ◌<◌, ◌+◌, length, option_map, IfOk, IfSome};
+ghost use Rattle.std.specs.Prelude.{◌≡◌, ◌<◌, ◌+◌, false, length, option_map, IfOk, IfSome};
 ghost use Rattle.dis_records.specs.Entity.{pair_of};
 ghost use Rattle.exercise_model.specs.History.{station_at};
 ghost use Rattle.exercise_review.specs.Order.{order_of};
 ghost use Rattle.exercise_review.specs.Party.{pair_at};
-ghost use Rattle.exercise_review.specs.Parties.{number_of, addresses, maker_address, party_address, party_at, parties_of, number_heard, candidate_at, nearer, IsNextParty};
+ghost use Rattle.exercise_review.specs.Parties.{number_of, addresses, maker_address, party_address, party_at, parties_of, has_outsiders, number_heard, candidate_at, nearer, IsNextParty};
 
 use crate::entries::{entry_count, got_by};
 use crate::order::Order;
 use crate::party::{At, Outsider, Party, is_party, is_party_outside};
 use crate::question::first_below;
+use crate::register::Register;
 use dis_records::{Address, EntityId};
-use exercise_findings::Findings;
-use exercise_model::ExerciseLog;
+use exercise_model::{ExerciseLog, Form};
 use std::alloc::{AllocError, Global};
 
 /// The site and the application of an address.
@@ -37,7 +37,7 @@ pub(crate) fn parts_in(id: EntityId) -> Outsider
 }
 
 /// The site and the application of a recorded station; 0 and 0 past the last.
-pub(crate) fn station_parts<L: ExerciseLog>(findings: &Findings<'_, L>, station: u16) -> Outsider
+pub(crate) fn station_parts<L: ExerciseLog>(findings: &Register<'_, L>, station: u16) -> Outsider
     ensures { pair_at result ≡ (station_at findings.now station).address }
 {
     let log = findings.log();
@@ -55,7 +55,7 @@ pub(crate) fn station_parts<L: ExerciseLog>(findings: &Findings<'_, L>, station:
 impl Order<'_> {
     /// The site and the application of whoever made it: those of the recorded station, or those that
     /// it comes from.
-    pub fn from<L: ExerciseLog>(&self, findings: &Findings<'_, L>) -> Outsider
+    pub fn from<L: ExerciseLog>(&self, findings: &Register<'_, L>) -> Outsider
         ensures { pair_at result ≡ maker_address findings.now (order_of self.now) }
     {
         match self.maker {
@@ -67,7 +67,7 @@ impl Order<'_> {
 
 impl Party {
     /// Its site and its application; 0 and 0 of a station past the last.
-    pub fn address<L: ExerciseLog>(self, findings: &Findings<'_, L>) -> Outsider
+    pub fn address<L: ExerciseLog>(self, findings: &Register<'_, L>) -> Outsider
         ensures { pair_at result ≡ party_address findings.now self }
     {
         match self {
@@ -90,7 +90,7 @@ impl Outsider {
 /// The party at an address, if there is one.
 #[tactic(auto, unfolding(crate::specs::Parties::party_at))]
 fn party_at<L: ExerciseLog>(
-    findings: &Findings<'_, L>,
+    findings: &Register<'_, L>,
     order: &Order<'_>,
     address: Outsider,
 ) -> Option<Party>
@@ -108,7 +108,7 @@ fn party_at<L: ExerciseLog>(
 
 /// The address from which the maker of an order received something at an entry.
 fn heard_from<L: ExerciseLog>(
-    findings: &Findings<'_, L>,
+    findings: &Register<'_, L>,
     order: &Order<'_>,
     entry: usize,
 ) -> Option<Outsider>
@@ -123,7 +123,7 @@ fn heard_from<L: ExerciseLog>(
 /// The address at a place among those where a party may be: first those of the recorded stations,
 /// then that of the target, then for each entry that from which the maker received something there.
 fn candidate<L: ExerciseLog>(
-    findings: &Findings<'_, L>,
+    findings: &Register<'_, L>,
     order: &Order<'_>,
     place: usize,
 ) -> Option<Outsider>
@@ -142,7 +142,7 @@ fn candidate<L: ExerciseLog>(
 /// The nearer of two next parties: the one so far, or what stands at an address, where that is a
 /// party and its number is no less than the first.
 fn nearer<L: ExerciseLog>(
-    findings: &Findings<'_, L>,
+    findings: &Register<'_, L>,
     order: &Order<'_>,
     first: u64,
     next: Option<(u64, Party)>,
@@ -167,7 +167,7 @@ fn nearer<L: ExerciseLog>(
 
 /// The next party of an order from a number of addresses on, with its number.
 fn next_party<L: ExerciseLog>(
-    findings: &Findings<'_, L>,
+    findings: &Register<'_, L>,
     order: &Order<'_>,
     first: u64,
 ) -> Option<(u64, Party)>
@@ -183,12 +183,18 @@ fn next_party<L: ExerciseLog>(
     next
 }
 
-/// The parties of an order, by rising addresses: the recorded stations that it is for, and whoever
-/// else took part and was not recorded. Each is looked for over the whole log.
+/// Whether somebody who was not recorded may be a party of an order.
+fn has_outsiders<L: ExerciseLog>(findings: &Register<'_, L>, order: &Order<'_>) -> bool
+    ensures { result ≡ has_outsiders findings.now (order_of order.now) }
+{
+    findings.log().form() == Form::Open && order.maker.is_some()
+}
+
+/// The parties of an order, wherever they may be.
 #[tactic(auto, unfolding(crate::specs::Parties::parties_of))]
-pub fn parties_of<L: ExerciseLog>(
+fn parties_anywhere<L: ExerciseLog>(
     alloc: Global,
-    findings: &Findings<'_, L>,
+    findings: &Register<'_, L>,
     order: &Order<'_>,
 ) -> Result<Vec<Party>, AllocError>
     ensures { IfOk result (λ parties. parties.items ≡ parties_of findings.now (order_of order.now)) }
@@ -200,4 +206,39 @@ pub fn parties_of<L: ExerciseLog>(
         first = number + 1;
     }
     Ok(parties)
+}
+
+/// The parties of an order of which nobody else can be one: recorded stations, whose addresses rise.
+fn station_parties<L: ExerciseLog>(
+    alloc: Global,
+    findings: &Register<'_, L>,
+    order: &Order<'_>,
+) -> Result<Vec<Party>, AllocError>
+    requires { has_outsiders findings.now (order_of order.now) ≡ false }
+    ensures { IfOk result (λ parties. parties.items ≡ parties_of findings.now (order_of order.now)) }
+{
+    let mut parties = Vec::new(alloc);
+    for station in 0..findings.log().station_count() {
+        if is_party(findings, order, station as u16) {
+            parties.push(Party::Station(station as u16))?;
+        }
+    }
+    Ok(parties)
+}
+
+/// The parties of an order, by rising addresses: the recorded stations that it is for, and whoever
+/// else took part and was not recorded. Only where there may be such others each is looked for over
+/// the whole log.
+pub fn parties_of<L: ExerciseLog>(
+    alloc: Global,
+    findings: &Register<'_, L>,
+    order: &Order<'_>,
+) -> Result<Vec<Party>, AllocError>
+    ensures { IfOk result (λ parties. parties.items ≡ parties_of findings.now (order_of order.now)) }
+{
+    if has_outsiders(findings, order) {
+        parties_anywhere(alloc, findings, order)
+    } else {
+        station_parties(alloc, findings, order)
+    }
 }

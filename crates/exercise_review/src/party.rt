@@ -6,12 +6,13 @@ ghost use Rattle.siman_pdus.specs.Reading.{pdu_of};
 ghost use Rattle.exercise_review.specs.Order.{order_of};
 ghost use Rattle.exercise_review.specs.Party.{pair_at, first_copy, is_party, tells_from, is_told_from, names, is_at, is_recorded_at, is_party_outside};
 
-use crate::entries::{entry_count, got_by};
+use crate::entries::got_by;
 use crate::order::{Gets, Order};
 use crate::question::{Question, first_below};
+use crate::register::{Register, pdu_key};
 use crate::stations::{Meant, is_outside};
+use crate::walk::first_entry;
 use dis_records::{EntityId, is_address_part};
-use exercise_findings::Findings;
 use exercise_model::{ExerciseLog, Form};
 use siman_pdus::{PduView, answers};
 
@@ -32,9 +33,9 @@ pub enum Party {
 }
 
 /// The first entry at which a station received an order.
-#[tactic(auto, unfolding(crate::specs::Party::first_copy))]
+#[tactic(auto, unfolding(crate::specs::Party::first_copy), using(crate::proofs::Under::under_steps))]
 pub(crate) fn first_copy<L: ExerciseLog>(
-    findings: &Findings<'_, L>,
+    findings: &Register<'_, L>,
     order: &Order<'_>,
     station: u16,
 ) -> Option<usize>
@@ -45,13 +46,13 @@ pub(crate) fn first_copy<L: ExerciseLog>(
         station,
         request: &order.request,
     };
-    first_below(&gets, entry_count(findings))
+    first_entry(findings, pdu_key(station, &order.request), &gets)
 }
 
 /// Whether a recorded station is a party of an order: the order addresses it; its own maker is one
 /// only where it received the order. It takes no memory.
 #[tactic(auto, unfolding(crate::specs::Party::is_party))]
-pub fn is_party<L: ExerciseLog>(findings: &Findings<'_, L>, order: &Order<'_>, station: u16) -> bool
+pub fn is_party<L: ExerciseLog>(findings: &Register<'_, L>, order: &Order<'_>, station: u16) -> bool
     ensures { result ≡ is_party findings.now (order_of order.now) station }
 {
     let meant = Meant {
@@ -74,7 +75,7 @@ fn is_maker(order: &Order<'_>, station: u16) -> bool
 
 /// Whether a PDU answers an order, from an address outside.
 fn tells_from<L: ExerciseLog>(
-    findings: &Findings<'_, L>,
+    findings: &Register<'_, L>,
     order: &Order<'_>,
     from: Outsider,
     pdu: &PduView<'_>,
@@ -90,7 +91,7 @@ fn tells_from<L: ExerciseLog>(
 /// Where the maker of an order was told of it from an address outside.
 #[derive(Drop)]
 pub(crate) struct ToldFrom<'a, L: ExerciseLog> {
-    pub findings: &'a Findings<'a, L>,
+    pub findings: &'a Register<'a, L>,
     pub order: &'a Order<'a>,
     pub from: Outsider,
 }
@@ -126,7 +127,7 @@ fn names(id: EntityId, address: Outsider) -> bool
 /// Which recorded stations have an address.
 #[derive(Drop)]
 pub(crate) struct At<'a, L: ExerciseLog> {
-    pub findings: &'a Findings<'a, L>,
+    pub findings: &'a Register<'a, L>,
     pub address: Outsider,
 }
 
@@ -146,7 +147,7 @@ impl<L: ExerciseLog> Question for At<'_, L> {
 
 /// Whether a recorded station has this address.
 #[tactic(auto, unfolding(crate::specs::Party::is_recorded_at))]
-fn is_recorded_at<L: ExerciseLog>(findings: &Findings<'_, L>, address: Outsider) -> bool
+fn is_recorded_at<L: ExerciseLog>(findings: &Register<'_, L>, address: Outsider) -> bool
     ensures { result ≡ is_recorded_at findings.now (pair_at address) }
 {
     let stations = findings.log().station_count();
@@ -156,9 +157,9 @@ fn is_recorded_at<L: ExerciseLog>(findings: &Findings<'_, L>, address: Outsider)
 /// Whether an address is a party of an order that a recorded station made, though nobody recorded
 /// it: the recording is open, and the order names the address, or was told from there. It takes no
 /// memory.
-#[tactic(auto, unfolding(crate::specs::Party::is_party_outside))]
+#[tactic(auto, unfolding(crate::specs::Party::is_party_outside), using(crate::proofs::Under::under_steps))]
 pub fn is_party_outside<L: ExerciseLog>(
-    findings: &Findings<'_, L>,
+    findings: &Register<'_, L>,
     order: &Order<'_>,
     address: Outsider,
 ) -> bool
@@ -175,5 +176,6 @@ pub fn is_party_outside<L: ExerciseLog>(
         order,
         from: address,
     };
-    names(order.request.target, address) || first_below(&told, entry_count(findings)).is_some()
+    names(order.request.target, address)
+        || first_entry(findings, order.maker_key(), &told).is_some()
 }

@@ -2,24 +2,33 @@
 
 ghost use Rattle.std.specs.Prelude.{◌≡◌};
 ghost use Rattle.exercise_review.specs.Order.{order_of};
+ghost use Rattle.exercise_review.specs.Register.{pdu_key};
 ghost use Rattle.exercise_review.specs.Reply.{answers_order, takes_copy, is_reply, is_changing_reply, change_of_order, replies_in, has_reply_in, is_news};
 
-use crate::entries::{bytes_got, bytes_sent, entry_count, sent_by};
+use crate::entries::{bytes_got, bytes_sent, sent_by};
 use crate::order::{Gets, Order};
-use crate::question::{Question, first_below};
-use exercise_findings::Findings;
+use crate::question::Question;
+use crate::register::{Register, pdu_key};
+use crate::walk::first_entry;
 use exercise_model::ExerciseLog;
 use siman_pdus::answers;
 
 /// Where a station replies to an order.
 #[derive(Drop)]
 pub(crate) struct Replies<'a, L: ExerciseLog> {
-    pub findings: &'a Findings<'a, L>,
+    pub findings: &'a Register<'a, L>,
     pub order: &'a Order<'a>,
     pub station: u16,
 }
 
 impl<L: ExerciseLog> Replies<'_, L> {
+    /// What they are looked up by.
+    pub(crate) fn key(&self) -> Option<u64>
+        ensures { result ≡ pdu_key self.now.station (order_of self.now.order.now).request }
+    {
+        pdu_key(self.station, &self.order.request)
+    }
+
     /// Whether an entry of the station sends an answer to the order.
     fn is_answer(&self, entry: usize) -> bool
         ensures { result ≡ answers_order self.now.findings.now (order_of self.now.order.now) self.now.station entry }
@@ -72,9 +81,9 @@ impl<L: ExerciseLog> Question for ChangingReplies<'_, L> {
 
 /// The change that an order made at a station: the first of its replies that changes something
 /// there. It takes no memory.
-#[tactic(auto, unfolding(crate::specs::Reply::change_of_order))]
+#[tactic(auto, unfolding(crate::specs::Reply::change_of_order), using(crate::proofs::Under::under_steps))]
 pub fn change_of_order<L: ExerciseLog>(
-    findings: &Findings<'_, L>,
+    findings: &Register<'_, L>,
     order: &Order<'_>,
     station: u16,
 ) -> Option<usize>
@@ -85,10 +94,8 @@ pub fn change_of_order<L: ExerciseLog>(
         order,
         station,
     };
-    first_below(
-        &ChangingReplies { replies: &replies },
-        entry_count(findings),
-    )
+    let key = pdu_key(station, &order.request);
+    first_entry(findings, key, &ChangingReplies { replies: &replies })
 }
 
 /// Where a station replies to an order in these bytes.
@@ -121,7 +128,7 @@ pub(crate) struct News<'a, L: ExerciseLog> {
 
 impl<L: ExerciseLog> News<'_, L> {
     /// Whether a reply of the station has these bytes.
-    #[tactic(auto, unfolding(crate::specs::Reply::has_reply_in))]
+    #[tactic(auto, unfolding(crate::specs::Reply::has_reply_in), using(crate::proofs::Under::under_steps))]
     fn has_reply_in(&self, bytes: &[u8]) -> bool
         ensures { result ≡ has_reply_in self.now.replies.now.findings.now (order_of self.now.replies.now.order.now) self.now.replies.now.station bytes.now }
     {
@@ -129,7 +136,7 @@ impl<L: ExerciseLog> News<'_, L> {
             replies: self.replies,
             bytes,
         };
-        first_below(&replies, entry_count(self.replies.findings)).is_some()
+        first_entry(self.replies.findings, self.replies.key(), &replies).is_some()
     }
 }
 

@@ -8,6 +8,7 @@ ghost use Rattle.exercise_review.specs.Review.{line_count, Lists, Reviews};
 
 use crate::fault::ReviewFault;
 use crate::order::Order;
+use crate::register::Register;
 use crate::span::{Span, spans_within};
 use crate::tally::{FateCounts, StationCounts, fates_of, stations_counted};
 use crate::told::{OrderAt, orders_of, orders_within};
@@ -41,7 +42,7 @@ pub struct Review {
 /// lines.
 fn lists<L: ExerciseLog>(
     alloc: Global,
-    findings: &Findings<'_, L>,
+    findings: &Register<'_, L>,
     orders: &[Order<'_>],
 ) -> Result<(Vec<OrderAt>, Vec<Span>), ReviewFault>
     requires { map order_of orders.now ≡ orders_of findings.now }
@@ -62,9 +63,10 @@ pub fn review_of<L: ExerciseLog>(
     ensures { Reviews findings.entry result }
 {
     let log = findings.log();
-    let orders = orders_of(alloc, &findings)?;
-    let (told, spans) = lists(alloc, &findings, &orders)?;
-    let account = findings.into_account(alloc)?;
+    let register = Register::of(alloc, findings)?;
+    let orders = orders_of(alloc, &register)?;
+    let (told, spans) = lists(alloc, &register, &orders)?;
+    let account = register.into_findings().into_account(alloc)?;
     let stations = stations_counted(alloc, log, &account, &orders, &told)?;
     Ok(Review {
         orders: orders.len(),

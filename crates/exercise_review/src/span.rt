@@ -14,8 +14,8 @@ use crate::life::{Life, Stretch, end_stretch, live_on};
 use crate::outcome::stamp_at;
 use crate::parties::{parts_in, station_parts};
 use crate::party::Outsider;
+use crate::register::Register;
 use dis_records::{EntityId, EntityState};
-use exercise_findings::Findings;
 use exercise_model::{Change, EntryView, ExerciseLog, LARGEST_ENTITY};
 use siman_pdus::{PduView, request_id};
 use std::alloc::{AllocError, Global};
@@ -52,7 +52,7 @@ pub(crate) struct Made {
 /// What an entry changes at a station, if it is one of that station.
 #[tactic(auto, unfolding(exercise_model::specs::Place::own_event, exercise_model::specs::Account::change_at))]
 fn own_change<L: ExerciseLog>(
-    findings: &Findings<'_, L>,
+    findings: &Register<'_, L>,
     station: u16,
     entry: usize,
 ) -> Option<Change>
@@ -69,7 +69,7 @@ fn own_change<L: ExerciseLog>(
 #[tactic(auto, using(crate::proofs::Lists::list_steps), unfolding(crate::specs::Span::changes_made))]
 fn changes_made<L: ExerciseLog>(
     alloc: Global,
-    findings: &Findings<'_, L>,
+    findings: &Register<'_, L>,
     station: u16,
 ) -> Result<Vec<Made>, AllocError>
     requires { station < length findings.now.setting.stations }
@@ -98,7 +98,7 @@ fn live_by(life: &mut Life, entity: u16, changes: &[Made]) -> Result<(), AllocEr
 /// How an entity of a station lived, by the changes of that station.
 fn lives_by<L: ExerciseLog>(
     alloc: Global,
-    findings: &Findings<'_, L>,
+    findings: &Register<'_, L>,
     station: u16,
     entity: u16,
     changes: &[Made],
@@ -122,7 +122,7 @@ fn lives_by<L: ExerciseLog>(
 /// The request that the answer at an entry takes up, if there is such an entry.
 #[tactic(auto, unfolding(crate::specs::Span::request_behind))]
 fn request_behind<'a, L: ExerciseLog>(
-    findings: &Findings<'a, L>,
+    findings: &Register<'a, L>,
     entry: Option<usize>,
 ) -> Option<PduView<'a>>
     ensures { option_map pdu_of result ≡ option_and_then (request_behind findings.now) entry }
@@ -134,7 +134,7 @@ fn request_behind<'a, L: ExerciseLog>(
 }
 
 /// The stamp of an entry, if there is such an entry.
-fn stamp_if<L: ExerciseLog>(findings: &Findings<'_, L>, entry: Option<usize>) -> Option<u64>
+fn stamp_if<L: ExerciseLog>(findings: &Register<'_, L>, entry: Option<usize>) -> Option<u64>
     ensures { result ≡ option_and_then (stamp_at findings.now) entry }
 {
     match entry {
@@ -144,7 +144,7 @@ fn stamp_if<L: ExerciseLog>(findings: &Findings<'_, L>, entry: Option<usize>) ->
 }
 
 /// A stretch of an entity's life, as it is told.
-fn span_of<L: ExerciseLog>(findings: &Findings<'_, L>, entity: EntityId, stretch: Stretch) -> Span
+fn span_of<L: ExerciseLog>(findings: &Register<'_, L>, entity: EntityId, stretch: Stretch) -> Span
     ensures { result ≡ span_of findings.now entity stretch }
 {
     let (by, request) = match request_behind(findings, stretch.from) {
@@ -167,7 +167,7 @@ fn span_of<L: ExerciseLog>(findings: &Findings<'_, L>, entity: EntityId, stretch
 fn push_stretches<L: ExerciseLog>(
     spans: &mut Vec<Span>,
     most: usize,
-    findings: &Findings<'_, L>,
+    findings: &Register<'_, L>,
     entity: EntityId,
     stretches: &[Stretch],
 ) -> Result<(), ReviewFault>
@@ -188,7 +188,7 @@ fn push_entity<L: ExerciseLog>(
     alloc: Global,
     spans: &mut Vec<Span>,
     most: usize,
-    findings: &Findings<'_, L>,
+    findings: &Register<'_, L>,
     station: u16,
     entity: u16,
     changes: &[Made],
@@ -215,7 +215,7 @@ fn push_station<L: ExerciseLog>(
     alloc: Global,
     spans: &mut Vec<Span>,
     most: usize,
-    findings: &Findings<'_, L>,
+    findings: &Register<'_, L>,
     station: u16,
 ) -> Result<(), ReviewFault>
     requires at { station < length findings.now.setting.stations }
@@ -237,7 +237,7 @@ fn push_spans<L: ExerciseLog>(
     alloc: Global,
     spans: &mut Vec<Span>,
     most: usize,
-    findings: &Findings<'_, L>,
+    findings: &Register<'_, L>,
 ) -> Result<(), ReviewFault>
     requires { length spans.old.items ≤ most }
     ensures { AddsWithin most spans.old.items (all_spans findings.now) result spans.new.items }
@@ -252,7 +252,7 @@ fn push_spans<L: ExerciseLog>(
 /// where there are more than so many.
 pub fn spans_of<L: ExerciseLog>(
     alloc: Global,
-    findings: &Findings<'_, L>,
+    findings: &Register<'_, L>,
     station: u16,
     most: usize,
 ) -> Result<Vec<Span>, ReviewFault>
@@ -268,7 +268,7 @@ pub fn spans_of<L: ExerciseLog>(
 /// `OverLimit` where there are more than so many.
 pub(crate) fn spans_within<L: ExerciseLog>(
     alloc: Global,
-    findings: &Findings<'_, L>,
+    findings: &Register<'_, L>,
     most: usize,
 ) -> Result<Vec<Span>, ReviewFault>
     ensures { MakesWithin most (all_spans findings.now) result }

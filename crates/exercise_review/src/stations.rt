@@ -7,14 +7,14 @@ ghost use Rattle.exercise_model.specs.Setting.{is_recorded};
 ghost use Rattle.exercise_review.specs.Order.{is_meant, is_outside, is_for_station};
 
 use crate::question::{Question, first_below};
+use crate::register::Register;
 use dis_records::addressed;
-use exercise_findings::Findings;
 use exercise_model::{ExerciseLog, Form, is_from};
 use siman_pdus::PduView;
 
 /// The recorded station that a PDU comes from.
 pub(crate) fn sender_of<L: ExerciseLog>(
-    findings: &Findings<'_, L>,
+    findings: &Register<'_, L>,
     pdu: &PduView<'_>,
 ) -> Option<u16>
     ensures sender { result ≡ sender_of findings.now (pdu_of pdu.now) }
@@ -32,7 +32,7 @@ pub(crate) fn sender_of<L: ExerciseLog>(
 
 /// Whether a PDU comes from a station that took part and that nobody recorded.
 #[tactic(auto, unfolding(crate::specs::Order::is_outside))]
-pub(crate) fn is_outside<L: ExerciseLog>(findings: &Findings<'_, L>, pdu: &PduView<'_>) -> bool
+pub(crate) fn is_outside<L: ExerciseLog>(findings: &Register<'_, L>, pdu: &PduView<'_>) -> bool
     ensures { result ≡ is_outside findings.now (pdu_of pdu.now) }
 {
     findings.log().form() == Form::Open && sender_of(findings, pdu).is_none()
@@ -41,7 +41,7 @@ pub(crate) fn is_outside<L: ExerciseLog>(findings: &Findings<'_, L>, pdu: &PduVi
 /// Which recorded stations a PDU addresses.
 #[derive(Drop)]
 pub(crate) struct Meant<'a, L: ExerciseLog> {
-    pub findings: &'a Findings<'a, L>,
+    pub findings: &'a Register<'a, L>,
     pub pdu: &'a PduView<'a>,
 }
 
@@ -57,7 +57,7 @@ impl<L: ExerciseLog> Question for Meant<'_, L> {
 
 /// Whether a PDU addresses a recorded station.
 #[tactic(auto, unfolding(crate::specs::Order::is_for_station))]
-pub(crate) fn is_for_station<L: ExerciseLog>(findings: &Findings<'_, L>, pdu: &PduView<'_>) -> bool
+pub(crate) fn is_for_station<L: ExerciseLog>(findings: &Register<'_, L>, pdu: &PduView<'_>) -> bool
     ensures { result ≡ is_for_station findings.now (pdu_of pdu.now) }
 {
     let stations = findings.log().station_count();

@@ -12,8 +12,8 @@ use crate::fault::ReviewFault;
 use crate::order::{Order, order_at};
 use crate::outcome::{Outcome, outcomes_of};
 use crate::party::{Outsider, Party};
+use crate::register::Register;
 use dis_records::{EntityId, Kind};
-use exercise_findings::Findings;
 use exercise_model::ExerciseLog;
 use siman_pdus::{Message, request_id};
 use std::alloc::{AllocError, Global};
@@ -39,7 +39,7 @@ pub struct OrderAt {
 
 /// The address of a party, if there is one.
 fn party_address<L: ExerciseLog>(
-    findings: &Findings<'_, L>,
+    findings: &Register<'_, L>,
     party: Option<Party>,
 ) -> Option<Outsider>
     ensures { result ≡ option_map (λ p. outsider_at (party_address findings.now p)) party }
@@ -52,7 +52,7 @@ fn party_address<L: ExerciseLog>(
 
 /// An order at a party, as it is told.
 fn order_told<L: ExerciseLog>(
-    findings: &Findings<'_, L>,
+    findings: &Register<'_, L>,
     order: &Order<'_>,
     outcome: Outcome,
 ) -> OrderAt
@@ -69,11 +69,11 @@ fn order_told<L: ExerciseLog>(
     }
 }
 
-/// The orders of a recording, by their heads. It looks at the whole log for each entry.
+/// The orders of a recording, by their heads.
 #[tactic(auto, unfolding(crate::specs::Told::orders_of), using(crate::proofs::Lists::list_steps))]
 pub(crate) fn orders_of<'a, L: ExerciseLog>(
     alloc: Global,
-    findings: &Findings<'a, L>,
+    findings: &Register<'a, L>,
 ) -> Result<Vec<Order<'a>>, AllocError>
     ensures { IfOk result (λ orders. map order_of orders.items ≡ orders_of findings.now) }
 {
@@ -90,7 +90,7 @@ pub(crate) fn orders_of<'a, L: ExerciseLog>(
 fn push_outcomes<L: ExerciseLog>(
     told: &mut Vec<OrderAt>,
     most: usize,
-    findings: &Findings<'_, L>,
+    findings: &Register<'_, L>,
     order: &Order<'_>,
     outcomes: &[Outcome],
 ) -> Result<(), ReviewFault>
@@ -111,7 +111,7 @@ fn push_order<L: ExerciseLog>(
     alloc: Global,
     told: &mut Vec<OrderAt>,
     most: usize,
-    findings: &Findings<'_, L>,
+    findings: &Register<'_, L>,
     order: &Order<'_>,
 ) -> Result<(), ReviewFault>
     requires { length told.old.items ≤ most }
@@ -126,7 +126,7 @@ fn push_orders<L: ExerciseLog>(
     alloc: Global,
     told: &mut Vec<OrderAt>,
     most: usize,
-    findings: &Findings<'_, L>,
+    findings: &Register<'_, L>,
     orders: &[Order<'_>],
 ) -> Result<(), ReviewFault>
     requires { length told.old.items ≤ most }
@@ -142,7 +142,7 @@ fn push_orders<L: ExerciseLog>(
 #[tactic(auto, unfolding(crate::specs::Told::orders_told))]
 pub(crate) fn orders_within<L: ExerciseLog>(
     alloc: Global,
-    findings: &Findings<'_, L>,
+    findings: &Register<'_, L>,
     orders: &[Order<'_>],
     most: usize,
 ) -> Result<Vec<OrderAt>, ReviewFault>

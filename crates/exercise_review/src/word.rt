@@ -2,11 +2,13 @@
 
 ghost use Rattle.std.specs.Prelude.{◌≡◌, ◌<◌, length, option_map, IfSome};
 ghost use Rattle.siman_pdus.specs.Reading.{body_of};
+ghost use Rattle.exercise_review.specs.Register.{IsUnder};
 ghost use Rattle.exercise_review.specs.Word.{response_word, status_word, word_of, settles, word_at, settles_at, is_settling, first_settling, telling, word_text};
 
-use crate::entries::{entry_count, meant_at};
-use crate::question::{Question, first_below, last_below};
-use exercise_findings::Findings;
+use crate::entries::meant_at;
+use crate::question::Question;
+use crate::register::Register;
+use crate::walk::{first_entry, last_entry};
 use exercise_model::ExerciseLog;
 use siman_pdus::BodyView;
 use std::fmt;
@@ -118,7 +120,7 @@ fn settles(body: &BodyView<'_>) -> bool
 /// The word of what an entry sends or receives; `None` where that is no answer, and past the last
 /// entry.
 #[tactic(auto, unfolding(crate::specs::Word::word_at))]
-pub fn word_at<L: ExerciseLog>(findings: &Findings<'_, L>, entry: usize) -> Option<Word>
+pub fn word_at<L: ExerciseLog>(findings: &Register<'_, L>, entry: usize) -> Option<Word>
     ensures { result ≡ word_at findings.now entry }
 {
     match meant_at(findings, entry) {
@@ -130,7 +132,7 @@ pub fn word_at<L: ExerciseLog>(findings: &Findings<'_, L>, entry: usize) -> Opti
 /// Where entries pass and settle.
 #[derive(Drop)]
 struct Settling<'a, L: ExerciseLog, Q: Question> {
-    findings: &'a Findings<'a, L>,
+    findings: &'a Register<'a, L>,
     question: &'a Q,
 }
 
@@ -149,27 +151,32 @@ impl<L: ExerciseLog, Q: Question> Question for Settling<'_, L, Q> {
     }
 }
 
-/// The first entry that passes and settles.
-#[tactic(auto, unfolding(crate::specs::Word::first_settling))]
+/// The first entry that passes and settles, where all that pass have this key.
+#[tactic(auto, unfolding(crate::specs::Word::first_settling), using(crate::proofs::Under::settling_under))]
 pub(crate) fn first_settling<L: ExerciseLog, Q: Question>(
-    findings: &Findings<'_, L>,
+    findings: &Register<'_, L>,
+    key: Option<u64>,
     question: &Q,
 ) -> Option<usize>
+    requires { IfSome key (IsUnder findings.now (Q.test question.now)) }
     ensures first { result ≡ first_settling findings.now (Q.test question.now) }
 {
-    first_below(&Settling { findings, question }, entry_count(findings))
+    first_entry(findings, key, &Settling { findings, question })
 }
 
-/// The entry whose word counts among those that pass: the first that settles, else the last.
+/// The entry whose word counts among those that pass, where all of them have this key: the first that
+/// settles, else the last.
 #[tactic(auto, unfolding(crate::specs::Word::telling))]
 pub(crate) fn telling<L: ExerciseLog, Q: Question>(
-    findings: &Findings<'_, L>,
+    findings: &Register<'_, L>,
+    key: Option<u64>,
     question: &Q,
 ) -> Option<usize>
+    requires { IfSome key (IsUnder findings.now (Q.test question.now)) }
     ensures { result ≡ telling findings.now (Q.test question.now) }
 {
-    match first_settling(findings, question) {
+    match first_settling(findings, key, question) {
         Some(entry) => Some(entry),
-        None => last_below(question, entry_count(findings)),
+        None => last_entry(findings, key, question),
     }
 }

@@ -6,7 +6,7 @@ use exercise_findings::Findings;
 use exercise_model::ExerciseLog;
 use exercise_recording::RecordingView;
 use exercise_review::*;
-use std::alloc::Global;
+use std::alloc::{AllocError, Global};
 
 /// The recording: 30 entries of the stations 1:1, 2:3 and 2:4, where 2:4 begins with entity 8 running.
 pub(crate) const LOSSES: [u8; 1425] = [
@@ -62,6 +62,12 @@ pub(crate) const LOSSES: [u8; 1425] = [
     0, 0, 0, 0x1C, 0, 0, 0, 1, 0, 1, 0, 0, 0, 2, 0, 4, 0, 8, 0, 0, 0, 7, 0, 0, 0, 0, 0x1E,
 ];
 
+/// What is found in a log, by stations and request identifiers.
+fn registered<'a, L: ExerciseLog>(alloc: Global, log: &'a L) -> Result<Register<'a, L>, AllocError> {
+    let findings = Findings::of(alloc, log)?;
+    Register::of(alloc, findings)
+}
+
 /// What became of an order at a station: the entry at which the order first stands, the station's
 /// index, how often the order was sent, the entry of its change there, and its fate.
 type Row = (usize, u16, usize, Option<usize>, Fate);
@@ -79,7 +85,7 @@ const ROWS: [Row; 8] = [
 ];
 
 /// Whether an order at a station is what a row says, if there is a row for it, and else is none.
-fn is_as_told<L: ExerciseLog>(findings: &Findings<'_, L>, entry: usize, station: u16) -> bool {
+fn is_as_told<L: ExerciseLog>(findings: &Register<'_, L>, entry: usize, station: u16) -> bool {
     let row = ROWS.iter().find(|row| row.0 == entry && row.1 == station);
     match (order_at(findings, entry), row) {
         (Some(order), Some(&(_, _, sends, change, fate))) => {
@@ -99,7 +105,7 @@ fn are_as_told(alloc: Global) -> bool {
     let Ok(log) = RecordingView::over(alloc, &LOSSES) else {
         return false;
     };
-    let Ok(findings) = Findings::of(alloc, &log) else {
+    let Ok(findings) = registered(alloc, &log) else {
         return false;
     };
     for entry in 0..40 {
@@ -128,7 +134,7 @@ fn has_lived(
     let Ok(log) = RecordingView::over(alloc, &LOSSES) else {
         return false;
     };
-    let Ok(findings) = Findings::of(alloc, &log) else {
+    let Ok(findings) = registered(alloc, &log) else {
         return false;
     };
     if usize::from(station) >= log.station_count() {
@@ -200,7 +206,7 @@ fn has_become(alloc: Global, entry: usize, wanted: &[Outcome]) -> bool {
     let Ok(log) = RecordingView::over(alloc, &LOSSES) else {
         return false;
     };
-    let Ok(findings) = Findings::of(alloc, &log) else {
+    let Ok(findings) = registered(alloc, &log) else {
         return false;
     };
     let Some(order) = order_at(&findings, entry) else {
@@ -251,7 +257,7 @@ fn are_parties(alloc: Global, entry: usize, wanted: &[(u16, u16)]) -> bool {
     let Ok(log) = RecordingView::over(alloc, &LOSSES) else {
         return false;
     };
-    let Ok(findings) = Findings::of(alloc, &log) else {
+    let Ok(findings) = registered(alloc, &log) else {
         return false;
     };
     let Some(order) = order_at(&findings, entry) else {

@@ -1,7 +1,7 @@
 use Rattle.std.proofs.Common.{◌≡◌, ◌≤◌, ◌-◌}
 use Rattle.exercise_review.specs.Order.{order_of}
 use Rattle.exercise_review.specs.Parties.{addresses, parties_below}
-use Rattle.exercise_review.proofs.parties.parties_of.Given as goal
+use Rattle.exercise_review.proofs.parties.parties_anywhere.Given as goal
 
 -- The parties at the addresses before the first that is left.
 abbrev pub invariant-loop-number : goal.invariant-loop-number

@@ -4,7 +4,7 @@ use Rattle.exercise_review.specs.declared.party.Party.{Party}
 use Rattle.exercise_review.specs.Order.{OrderData, order_of}
 use Rattle.exercise_review.specs.Parties.{parties_of}
 use Rattle.exercise_review.proofs.PartyPlaces.{no_parties, one_party, all_parties}
-use Rattle.exercise_review.proofs.parties.parties_of.Goals as goal
+use Rattle.exercise_review.proofs.parties.parties_anywhere.Goals as goal
 
 pub loop-number-init : goal.loop-number-init
 loop-number-init g c =

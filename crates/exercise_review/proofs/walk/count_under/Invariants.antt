@@ -1,0 +1,15 @@
+use Rattle.std.proofs.Common.{◌≡◌, ◌<◌, ◌≤◌, ◌+◌, length}
+use Rattle.exercise_review.specs.Register.{has_key}
+use Rattle.exercise_review.proofs.Walks.{past, IsCountOn, IsOn}
+use Rattle.exercise_review.proofs.walk.count_under.Given as goal
+
+-- As many pass as were asked behind the entry that is next.
+abbrev pub invariant-loop-next : goal.invariant-loop-next
+invariant-loop-next g l = record {
+  on : IsOn (has_key l.register l.key) (length l.register.entries) l.next;
+  count : IsCountOn (g.Q.Question.test l.question) (length l.register.entries) l.next l.count;
+  room : past l.next + l.count ≤ length l.register.entries;
+}
+
+abbrev pub decreases-loop-next : goal.decreases-loop-next
+decreases-loop-next g l = past l.next

@@ -1,0 +1,121 @@
+//! Entries under a key that pass a question: those of the whole log, where all that pass have the key.
+
+ghost use Rattle.std.specs.Prelude.{◌≡◌, ◌<◌, ◌≤◌, length, IfSome};
+ghost use Rattle.exercise_model.specs.Place.{first_below};
+ghost use Rattle.exercise_review.specs.Counted.{last_below, count_below};
+ghost use Rattle.exercise_review.specs.Register.{IsUnder};
+
+use crate::question::{self, Question};
+use crate::register::Register;
+use exercise_model::ExerciseLog;
+
+/// The first entry under a key that passes.
+fn first_under<L: ExerciseLog, Q: Question>(
+    register: &Register<'_, L>,
+    key: u64,
+    question: &Q,
+) -> Option<usize>
+    requires { IsUnder register.now (Q.test question.now) key }
+    ensures first { result ≡ first_below (Q.test question.now) (length register.now.entries) }
+    ensures within { IfSome result (λ entry. entry < length register.now.entries) }
+{
+    let mut first = None;
+    let mut next = register.last_under(key);
+    while let Some(entry) = next {
+        if question.passes(entry) {
+            first = Some(entry);
+        }
+        next = register.before(key, entry);
+    }
+    first
+}
+
+/// The last entry under a key that passes.
+fn last_under<L: ExerciseLog, Q: Question>(
+    register: &Register<'_, L>,
+    key: u64,
+    question: &Q,
+) -> Option<usize>
+    requires { IsUnder register.now (Q.test question.now) key }
+    ensures last { result ≡ last_below (Q.test question.now) (length register.now.entries) }
+    ensures within { IfSome result (λ entry. entry < length register.now.entries) }
+{
+    let mut next = register.last_under(key);
+    while let Some(entry) = next {
+        if question.passes(entry) {
+            return Some(entry);
+        }
+        next = register.before(key, entry);
+    }
+    None
+}
+
+/// How many entries under a key pass.
+fn count_under<L: ExerciseLog, Q: Question>(
+    register: &Register<'_, L>,
+    key: u64,
+    question: &Q,
+) -> usize
+    requires { IsUnder register.now (Q.test question.now) key }
+    ensures count { result ≡ count_below (Q.test question.now) (length register.now.entries) }
+    ensures within { result ≤ length register.now.entries }
+{
+    let _end = register.log().entry_count();
+    let mut count = 0;
+    let mut next = register.last_under(key);
+    while let Some(entry) = next {
+        if question.passes(entry) {
+            count += 1;
+        }
+        next = register.before(key, entry);
+    }
+    count
+}
+
+/// The first entry that passes, where all that pass have this key; without a key all are asked.
+pub(crate) fn first_entry<L: ExerciseLog, Q: Question>(
+    register: &Register<'_, L>,
+    key: Option<u64>,
+    question: &Q,
+) -> Option<usize>
+    requires { IfSome key (IsUnder register.now (Q.test question.now)) }
+    ensures first { result ≡ first_below (Q.test question.now) (length register.now.entries) }
+    ensures within { IfSome result (λ entry. entry < length register.now.entries) }
+{
+    match key {
+        Some(key) => first_under(register, key, question),
+        None => question::first_below(question, register.log().entry_count()),
+    }
+}
+
+/// The last entry that passes, where all that pass have this key; without a key all are asked.
+pub(crate) fn last_entry<L: ExerciseLog, Q: Question>(
+    register: &Register<'_, L>,
+    key: Option<u64>,
+    question: &Q,
+) -> Option<usize>
+    requires { IfSome key (IsUnder register.now (Q.test question.now)) }
+    ensures last { result ≡ last_below (Q.test question.now) (length register.now.entries) }
+    ensures within { IfSome result (λ entry. entry < length register.now.entries) }
+{
+    match key {
+        Some(key) => last_under(register, key, question),
+        None => question::last_below(question, register.log().entry_count()),
+    }
+}
+
+/// How many entries pass, where all that pass have this key; without a key all are asked.
+pub(crate) fn count_entries<L: ExerciseLog, Q: Question>(
+    register: &Register<'_, L>,
+    key: Option<u64>,
+    question: &Q,
+) -> usize
+    requires { IfSome key (IsUnder register.now (Q.test question.now)) }
+    ensures count { result ≡ count_below (Q.test question.now) (length register.now.entries) }
+    ensures within { result ≤ length register.now.entries }
+{
+    match key {
+        Some(key) => count_under(register, key, question),
+        None => question::count_below(question, register.log().entry_count()),
+    }
+}

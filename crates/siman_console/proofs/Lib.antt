@@ -16,3 +16,4 @@ mod Conversions
 mod LineParts
 mod Kept
 mod ReviewKeys
+mod Reviewed

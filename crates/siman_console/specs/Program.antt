@@ -6,6 +6,7 @@ pub mod Live
 pub mod Mend
 pub mod Pdus
 pub mod Review
+pub mod Reviewing
 pub mod Show
 pub mod ScriptTrial
 pub mod World

@@ -14,6 +14,7 @@ mod live;
 mod mend;
 pub(crate) mod pdu;
 pub(crate) mod pdus;
+pub(crate) mod review;
 pub(crate) mod script_trial;
 pub(crate) mod show;
 pub(crate) mod world;
@@ -51,7 +52,7 @@ fn do_one<'a, O: Outside, W: Write>(
 {
     match command {
         OneWord::Pdu => tell_word(alloc, word, out),
-        OneWord::Show => say_of_file::<ShowCommand, O, W>(alloc, word, outside, out),
+        OneWord::Show => say_of_file(alloc, &ShowCommand, word, outside, out),
     }
 }
 
@@ -89,7 +90,7 @@ fn end_task<'a, O: Outside, R: Read + Drop, W: Write, E: Write>(
         (deeds : List Deed) × Adds (O.deeds outside.old) (O.deeds outside.new) deeds × All (WasHeld (O.holds outside.old)) deeds × EndsTask (asked_by task.entry) deeds (R.remaining input) o }
 {
     match task {
-        Task::Trial => end(TrialCommand::say(alloc, input, out), errors),
+        Task::Trial => end(TrialCommand.say(alloc, input, out), errors),
         Task::Bare(NoWord::Pdus) => end_lines(alloc, input, out, errors),
         Task::One(command, word) => end(do_one(alloc, command, word, outside, out), errors),
         Task::Two(command, first, second) => {

@@ -12,7 +12,7 @@ use Rattle.exercise_check.specs.declared.checker.CheckFault.TheVariants.{Bad}
 use Rattle.exercise_check.proofs.Offered.{good_alike, refused_alike}
 use Rattle.exercise_audit.specs.declared.blocks.Block.{Block}
 use Rattle.exercise_audit.proofs.Offered.{blocked_alike}
-use Rattle.siman_console.specs.Report.{report_text}
+use Rattle.siman_reports.specs.Report.{report_text}
 use Rattle.siman_console.specs.Program.Check.{IsDue}
 use Rattle.siman_console.specs.Program.Audit.{blocked_text, IsListOf}
 

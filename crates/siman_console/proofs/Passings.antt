@@ -9,9 +9,9 @@ use Rattle.byte_files.specs.Writing.{WritesPart}
 use Rattle.byte_files.proofs.Offered.{writes_part, writes_later}
 use Rattle.siman_console.specs.declared.fault.Fault.{Fault}
 use Rattle.siman_console.specs.declared.fault.Fault.TheVariants.{Memory}
-use Rattle.siman_console.specs.Report.{texts_below}
+use Rattle.siman_reports.specs.Report.{texts_below}
 use Rattle.siman_console.specs.Program.Show.{IsPassedOn, PassesOn}
-use Rattle.siman_console.proofs.Texts.{texts-none, texts_below-more}
+use Rattle.siman_reports.proofs.Texts.{texts-none, texts_below-more}
 use Rattle.exercise_model.specs.Recording.{PlainRecording}
 use Rattle.exercise_recording.specs.Text.{recording_text}
 use Rattle.siman_console.specs.Making.{SaysSettled}

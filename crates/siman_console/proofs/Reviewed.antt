@@ -15,7 +15,7 @@ use Rattle.siman_console.specs.declared.fault.Fault.{Fault}
 use Rattle.siman_console.specs.Ending.{of_recording}
 use Rattle.siman_console.specs.FilterWords.{filter_of}
 use Rattle.siman_console.specs.Program.Check.{Recorded}
-use Rattle.siman_console.specs.Program.Reviewing.{AskFor, IsFirstBad, Reviews}
+use Rattle.siman_console.specs.Program.Review.{AskFor, IsFirstBad, Reviews}
 use Rattle.siman_console.proofs.Searches.{unsearched}
 
 -- a list, taken apart at one of its items

@@ -12,8 +12,9 @@ use Rattle.siman_console.specs.declared.fault.Fault.{Fault}
 use Rattle.siman_console.specs.Ending.{of_recording}
 use Rattle.siman_texts.specs.declared.spelling.Spelling.TheVariants.{Text}
 use Rattle.siman_texts.specs.Spelled.{line_spelled}
-use Rattle.siman_console.specs.Report.{texts_below}
-use Rattle.siman_console.specs.Program.Show.{counts_line, station_shown, entry_shown, show_text, Shows}
+use Rattle.siman_reports.specs.Report.{texts_below}
+use Rattle.siman_console.specs.Program.Show.{Shows}
+use Rattle.siman_reports.specs.EntryLines.{counts_line, station_shown, entry_shown, show_text}
 
 abbrev Recorded : Type 0
 Recorded = Result PlainRecording FormatFault

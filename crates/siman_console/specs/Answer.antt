@@ -13,7 +13,7 @@ use Rattle.siman_console.specs.HexText.{bytes_of}
 use Rattle.siman_texts.specs.declared.spelling.Spelling.TheVariants.{Text}
 use Rattle.siman_texts.specs.Line.{Number, Phrase, Bare, Line, named_line}
 use Rattle.siman_texts.specs.Spelled.{line_text, lines_spelled}
-use Rattle.siman_console.specs.Records.{pdu_lines}
+use Rattle.siman_reports.specs.Records.{pdu_lines}
 
 -- a status, and the text that goes out before
 pub record Said : Type 0 where

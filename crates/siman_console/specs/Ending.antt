@@ -28,7 +28,7 @@ use Rattle.siman_console.specs.declared.files_fault.FilesFault.{FilesFault}
 use Rattle.siman_console.specs.declared.files_fault.FilesFault.TheVariants as files
 use Rattle.siman_console.specs.declared.trial_fault.TrialFault.{TrialFault}
 use Rattle.siman_console.specs.declared.trial_fault.TrialFault.TheVariants as trials
-use Rattle.siman_console.specs.Records.{line_end}
+use Rattle.siman_reports.specs.Records.{line_end}
 
 -- the name of a fault of a move
 abbrev pub move_fault_name : MoveFault → List ℕ

@@ -1,12 +1,8 @@
-pub mod Head
-pub mod Records
 pub mod HexText
 pub mod Answer
-pub mod Report
 pub mod Ending
 pub mod Outside
 pub mod Program
-pub mod CountLine
 pub mod Making
 pub mod Opening
 pub mod Saying

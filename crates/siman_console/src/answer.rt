@@ -8,8 +8,8 @@ ghost use Rattle.siman_texts.specs.Spelled.{line_text};
 ghost use Rattle.siman_console.specs.Answer.{refusal_line, answer_to, said_of_hex, said_of_pdu};
 ghost use Rattle.siman_console.specs.Program.Pdus.{told_of_said, told_of_line};
 
-use crate::records::pdu_lines;
 use siman_pdus::{PduFault, spellings_are_apart, view};
+use siman_reports::pdu_lines;
 use siman_texts::{Field, Line, Spelling, Value, put_line};
 use std::alloc::{AllocError, Global};
 use std::marker::Model;

@@ -6,7 +6,7 @@ ghost use Rattle.exercise_model.specs.Recording.{PlainRecording};
 ghost use Rattle.exercise_model.specs.Conversion.{converted};
 ghost use Rattle.exercise_check.specs.declared.certificate.Step.{Step};
 ghost use Rattle.exercise_audit.specs.declared.blocks.Block.{Block};
-ghost use Rattle.siman_console.specs.Report.{report_text};
+ghost use Rattle.siman_reports.specs.Report.{report_text};
 ghost use Rattle.siman_console.specs.Program.Check.{IsDue};
 ghost use Rattle.siman_console.specs.Program.Audit.{blocked_text, IsListOf};
 

@@ -6,22 +6,18 @@
 //! [`pdu_command`] and [`pdus_command`] for datagrams in hex text, [`show_command`] for recordings,
 //! [`check_command`] for a recording and its certificate, [`audit_command`] for the search of a
 //! recording, [`world_command`] for a script and the recording of its world, and [`trial`] for a
-//! script and the report of its world. [`review_text`] has the lines of a review, which no command
-//! prints yet, and [`filter_of`] the words that choose among them. The contracts of the commands give
+//! script and the report of its world. The lines that they print are those of `siman_reports`;
+//! [`filter_of`] reads the words that choose among them. The contracts of the commands give
 //! the status and the bytes on the writer of the answer; the writer of faults gets bytes only where
 //! the status is 2 or 3.
 #![tactic(auto)]
 
 mod answer;
-mod count_line;
-mod entry_lines;
 mod fault;
 mod files_fault;
 mod filter_words;
-mod head;
 mod hex_text;
 mod input;
-mod keys;
 mod laws;
 mod making;
 mod opening;
@@ -30,10 +26,6 @@ mod place;
 mod product;
 mod program;
 mod recording_file;
-mod records;
-mod report;
-mod review_laws;
-mod review_lines;
 mod saying;
 mod trial_fault;
 mod usage;
@@ -42,7 +34,6 @@ pub use answer::answers_follow_the_grammar;
 pub use fault::Ended;
 pub use files_fault::FilesFault;
 pub use filter_words::filter_of;
-pub use keys::keys_come_once;
 pub use laws::conversion_keeps_answers;
 pub use outside::Outside;
 pub use program::audit::audit_command;
@@ -55,12 +46,10 @@ pub use program::run;
 pub use program::script_trial::{perform, trial};
 pub use program::show::{LARGEST_RECORDING, show_command};
 pub use program::world::world_command;
-pub use review_laws::{filters_take_away, json_says_the_same, review_keys_come_once};
-pub use review_lines::review_text;
 pub use siman_scripts::{
     Act, LARGEST_SCRIPT, Move, Script, ScriptFault, WorldStation, read_script,
 };
 pub use siman_texts::Spelling;
-pub use siman_words::{NoWord, OneWord, Task, TwoWords, asks_help, read_words};
+pub use siman_words::{JoinForm, NoWord, OneWord, Task, TwoWords, ViewWord, asks_help, read_words};
 pub use siman_worlds::{MoveFault, WorldFault, run_world};
 pub use trial_fault::TrialFault;

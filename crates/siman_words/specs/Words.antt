@@ -1,12 +1,19 @@
 -- What the words of a command line ask for (profile).
-use Rattle.std.specs.Prelude.{ℕ, ◌-◌, Bool, true, false, List, [], ◌∷◌, length, nat_lt, slice_index, ◌==◌, ◌&&◌, ◌||◌, codes, Option, Some, None, is_some, if◌then◌else◌}
+use Rattle.std.specs.Prelude.{ℕ, ◌-◌, Bool, true, false, not, List, [], ◌∷◌, length, map, nat_lt, slice_index, ◌==◌, ◌&&◌, ◌||◌, codes, Option, Some, None, is_some, if◌then◌else◌}
+use Rattle.std.specs.List.{starts_with}
 use Rattle.std.specs.Str.{bytes_eq}
+use Rattle.siman_texts.specs.declared.spelling.Spelling.{Spelling}
+use Rattle.siman_texts.specs.declared.spelling.Spelling.TheVariants.{Text, Json}
 use Rattle.siman_words.specs.declared.commands.NoWord.{NoWord}
 use Rattle.siman_words.specs.declared.commands.NoWord.TheVariants.{Pdus}
 use Rattle.siman_words.specs.declared.commands.OneWord.{OneWord}
 use Rattle.siman_words.specs.declared.commands.OneWord.TheVariants.{Pdu, Show}
 use Rattle.siman_words.specs.declared.commands.TwoWords.{TwoWords}
 use Rattle.siman_words.specs.declared.commands.TwoWords.TheVariants.{Check, Audit, World, Live, Convert, Mend}
+use Rattle.siman_words.specs.declared.commands.ViewWord.{ViewWord}
+use Rattle.siman_words.specs.declared.commands.ViewWord.TheVariants.{Review}
+use Rattle.siman_words.specs.declared.commands.JoinForm.{JoinForm}
+use Rattle.siman_words.specs.declared.commands.JoinForm.TheVariants.{Open, Closed}
 use Rattle.siman_words.specs.declared.commands.Takes.{Takes}
 use Rattle.siman_words.specs.declared.commands.Takes.TheVariants as shapes
 use Rattle.siman_words.specs.declared.commands.Task.{Task}
@@ -18,12 +25,19 @@ pub data Asked : Type 0 where
   Bare : NoWord → Asked
   One : OneWord → (word : List ℕ) → Asked
   Two : TwoWords → (first second : List ℕ) → Asked
+  -- the pieces of an exercise, the file that is to be made of them, and the form that it is to have, where the words say one
+  Join : (pieces : List (List ℕ)) → (made : List ℕ) → Option JoinForm → Asked
+  -- a view of a recording, the words that choose among its lines, and how these are spelled
+  View : ViewWord → (recording : List ℕ) → (filters : List (List ℕ)) → Spelling → Asked
 
-abbrev pub asked_by : Task → Asked
-asked_by tasks.Trial = Trial
-asked_by (tasks.Bare command) = Bare command
-asked_by (tasks.One command word) = One command word.now
-asked_by (tasks.Two command first second) = Two command first.now second.now
+-- words have the text that `text` gives
+abbrev pub asked_by : {S : Type 0} → (text : S → List ℕ) → Task S → Asked
+asked_by text tasks.Trial = Trial
+asked_by text (tasks.Bare command) = Bare command
+asked_by text (tasks.One command word) = One command word.now
+asked_by text (tasks.Two command first second) = Two command first.now second.now
+asked_by text (tasks.Join pieces made form) = Join (map text pieces.now) made.now form
+asked_by text (tasks.View view recording filters spelling) = View view recording.now (map text filters.now) spelling
 
 -- a word that begins with a hyphen, and has more, is an option
 abbrev pub is_option : List ℕ → Bool
@@ -38,7 +52,8 @@ takes_of (row ∷ rows) name = if bytes_eq row.0 name then Some row.1 else takes
 unfoldable pub takes_named : List ℕ → Option Takes
 takes_named = takes_of (
     (codes "pdu", shapes.One Pdu) ∷ (codes "pdus", shapes.Nothing Pdus) ∷ (codes "show", shapes.One Show) ∷ (codes "check", shapes.Two Check)
-    ∷ (codes "audit", shapes.Two Audit) ∷ (codes "world", shapes.Two World) ∷ (codes "live", shapes.Two Live) ∷ (codes "convert", shapes.Two Convert) ∷ (codes "mend", shapes.Two Mend) ∷ [])
+    ∷ (codes "audit", shapes.Two Audit) ∷ (codes "world", shapes.Two World) ∷ (codes "live", shapes.Two Live) ∷ (codes "convert", shapes.Two Convert) ∷ (codes "mend", shapes.Two Mend)
+    ∷ (codes "review", shapes.View Review) ∷ [])
 
 -- a command is asked for where it has the words that it takes, none of them an option
 abbrev pub bare_asked : NoWord → List (List ℕ) → Option Asked
@@ -53,11 +68,70 @@ abbrev pub two_asked : TwoWords → List (List ℕ) → Option Asked
 two_asked command (first ∷ second ∷ []) = if is_option first || is_option second then None else Some (Two command first second)
 two_asked command words = None
 
+-- of a word and what stands behind it
+abbrev pub before_last : List ℕ → Option (List (List ℕ) × List ℕ) → List (List ℕ) × List ℕ
+before_last word None = ([], word)
+before_last word (Some p) = (word ∷ p.0, p.1)
+
+-- the words before the last one, and that one
+abbrev pub last_apart : List (List ℕ) → Option (List (List ℕ) × List ℕ)
+last_apart [] = None
+last_apart (word ∷ words) = Some (before_last word (last_apart words))
+
+abbrev pub has_option : List (List ℕ) → Bool
+has_option [] = false
+has_option (word ∷ words) = is_option word || has_option words
+
+-- a word that says which form the joined recording is to have, and what it says, where that is a form
+abbrev pub is_form_word : List ℕ → Bool
+is_form_word word = starts_with (◌==◌) word (codes "form=")
+
+abbrev pub form_named : List ℕ → Option JoinForm
+form_named word = if bytes_eq word (codes "form=open") then Some Open else if bytes_eq word (codes "form=closed") then Some Closed else None
+
+abbrev pub form_behind : List (List ℕ) → Option (List (List ℕ) × List ℕ) → List (List ℕ) × Option JoinForm
+form_behind words None = (words, None)
+form_behind words (Some p) = if is_some (form_named p.1) then (p.0, form_named p.1) else (words, None)
+
+-- the words before that of the form, where it stands last, and the form
+abbrev pub form_apart : List (List ℕ) → List (List ℕ) × Option JoinForm
+form_apart words = form_behind words (last_apart words)
+
+-- words none of which is an option or that of a form
+abbrev pub are_names : List (List ℕ) → Bool
+are_names [] = true
+are_names (word ∷ words) = not (is_option word || is_form_word word) && are_names words
+
+-- PIECES ARE JOINED where at least one stands before the file to be made, and a form stands nowhere but at the end
+abbrev pub pieces_asked : Option JoinForm → Option (List (List ℕ) × List ℕ) → Option Asked
+pieces_asked form None = None
+pieces_asked form (Some p) = if length p.0 == 0 then None else Some (Join p.0 p.1 form)
+
+abbrev pub join_asked : List (List ℕ) → Option Asked
+join_asked words = let p = form_apart words in if are_names p.0 then pieces_asked p.1 (last_apart p.0) else None
+
+abbrev pub spelling_behind : List (List ℕ) → Option (List (List ℕ) × List ℕ) → List (List ℕ) × Spelling
+spelling_behind words None = (words, Text)
+spelling_behind words (Some p) = if bytes_eq p.1 (codes "--json") then (p.0, Json) else (words, Text)
+
+-- the words before `--json`, where it stands last, and how the lines are spelled then
+abbrev pub spelling_apart : List (List ℕ) → List (List ℕ) × Spelling
+spelling_apart words = spelling_behind words (last_apart words)
+
+-- A VIEW IS ASKED FOR of a recording; behind its name stand the words that choose, and `--json` nowhere but at the end
+abbrev pub view_asked : ViewWord → List (List ℕ) → Option Asked
+view_asked view [] = None
+view_asked view (recording ∷ words) =
+    let p = spelling_apart words in
+    if is_option recording || has_option p.0 then None else Some (View view recording p.0 p.1)
+
 abbrev pub taken : Option Takes → List (List ℕ) → Option Asked
 taken None words = None
 taken (Some (shapes.Nothing command)) words = bare_asked command words
 taken (Some (shapes.One command)) words = one_asked command words
 taken (Some (shapes.Two command)) words = two_asked command words
+taken (Some shapes.Pieces) words = join_asked words
+taken (Some (shapes.View view)) words = view_asked view words
 
 -- WHAT WORDS ASK FOR, the program's name first; other words ask for help, or break the usage
 abbrev pub asked : List (List ℕ) → Option Asked
@@ -79,11 +153,19 @@ abbrev pub helps_behind : (most : ℕ) → List (List ℕ) → Bool
 helps_behind most [] = false
 helps_behind most (word ∷ words) = is_help word || (if (most == 0) || is_option word then false else helps_behind (most - 1) words)
 
+-- behind a view `--json` may stand once before
+abbrev pub helps_view : (json : Bool) → List (List ℕ) → Bool
+helps_view json [] = false
+helps_view json (word ∷ words) =
+    is_help word || (if bytes_eq word (codes "--json") then (if json then false else helps_view true words) else if is_option word then false else helps_view json words)
+
 abbrev pub helps : Option Takes → List (List ℕ) → Bool
 helps None words = false
 helps (Some (shapes.Nothing command)) words = helps_behind 0 words
 helps (Some (shapes.One command)) words = helps_behind 1 words
 helps (Some (shapes.Two command)) words = helps_behind 2 words
+helps (Some shapes.Pieces) words = helps_behind (length words) words
+helps (Some (shapes.View view)) words = helps_view false words
 
 -- `help` stands alone, or before the name of a command or itself
 abbrev pub is_topic : List (List ℕ) → Bool

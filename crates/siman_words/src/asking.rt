@@ -1,9 +1,10 @@
 //! Reading words by the table of commands: the task that they ask for, or whether they ask for help.
 
-ghost use Rattle.std.specs.Prelude.{◌≡◌, map, option_map};
-ghost use Rattle.siman_words.specs.Words.{asked_by, is_option, takes_of, takes_named, bare_asked, one_asked, two_asked, taken, asked, is_short, is_help, is_version, helps_behind, is_topic, helps, asks_help};
+ghost use Rattle.std.specs.Prelude.{◌≡◌, false, length, map, option_map};
+ghost use Rattle.siman_words.specs.Words.{asked_by, is_option, takes_of, takes_named, bare_asked, one_asked, two_asked, taken, asked, is_short, is_help, is_version, helps_behind, helps_view, is_topic, helps, asks_help, last_apart, has_option, is_form_word, form_named, form_apart, are_names, pieces_asked, join_asked, spelling_apart, view_asked};
 
-use crate::commands::{NoWord, OneWord, ROWS, Row, Takes, Task, TwoWords};
+use crate::commands::{JoinForm, NoWord, OneWord, ROWS, Row, Takes, Task, TwoWords, ViewWord};
+use siman_texts::Spelling;
 use std::convert::AsStr;
 
 /// Whether a word is an option: it begins with a hyphen, and has more.
@@ -35,8 +36,8 @@ fn takes_named(name: &str) -> Option<Takes>
     takes_of(&ROWS, name)
 }
 
-fn no_word<S: AsStr>(command: NoWord, words: &[S]) -> Option<Task<'_>>
-    ensures { option_map asked_by result ≡ bare_asked command (map S.text words.now) }
+fn no_word<S: AsStr>(command: NoWord, words: &[S]) -> Option<Task<'_, S>>
+    ensures { option_map (asked_by S.text) result ≡ bare_asked command (map S.text words.now) }
 {
     match words {
         [] => Some(Task::Bare(command)),
@@ -44,8 +45,8 @@ fn no_word<S: AsStr>(command: NoWord, words: &[S]) -> Option<Task<'_>>
     }
 }
 
-fn one_word<S: AsStr>(command: OneWord, words: &[S]) -> Option<Task<'_>>
-    ensures { option_map asked_by result ≡ one_asked command (map S.text words.now) }
+fn one_word<S: AsStr>(command: OneWord, words: &[S]) -> Option<Task<'_, S>>
+    ensures { option_map (asked_by S.text) result ≡ one_asked command (map S.text words.now) }
 {
     match words {
         [word] if !is_option(word.as_str()) => Some(Task::One(command, word.as_str())),
@@ -53,8 +54,8 @@ fn one_word<S: AsStr>(command: OneWord, words: &[S]) -> Option<Task<'_>>
     }
 }
 
-fn two_words<S: AsStr>(command: TwoWords, words: &[S]) -> Option<Task<'_>>
-    ensures { option_map asked_by result ≡ two_asked command (map S.text words.now) }
+fn two_words<S: AsStr>(command: TwoWords, words: &[S]) -> Option<Task<'_, S>>
+    ensures { option_map (asked_by S.text) result ≡ two_asked command (map S.text words.now) }
 {
     match words {
         [first, second] if !is_option(first.as_str()) && !is_option(second.as_str()) => {
@@ -64,21 +65,141 @@ fn two_words<S: AsStr>(command: TwoWords, words: &[S]) -> Option<Task<'_>>
     }
 }
 
+/// The words before the last one, and that one.
+#[tactic(auto, using(crate::proofs::Lasts::last_behind))]
+fn last_apart<S: AsStr>(words: &[S]) -> Option<(&[S], &str)>
+    ensures { option_map (λ p. (map S.text p.0.now, p.1.now)) result ≡ last_apart (map S.text words.now) }
+{
+    match words.split_last() {
+        Some((last, before)) => Some((before, last.as_str())),
+        None => None,
+    }
+}
+
+/// Whether an option is among words.
+fn has_option<S: AsStr>(words: &[S]) -> bool
+    ensures { result ≡ has_option (map S.text words.now) }
+{
+    let mut others = words;
+    while let [word, rest @ ..] = others {
+        if is_option(word.as_str()) {
+            return true;
+        }
+        others = rest;
+    }
+    false
+}
+
+/// Whether a word says which form a joined recording is to have.
+fn is_form_word(word: &str) -> bool
+    ensures { result ≡ is_form_word word.now }
+{
+    word.as_bytes().starts_with(b"form=")
+}
+
+/// The form that a word names.
+fn form_named(word: &str) -> Option<JoinForm>
+    ensures { result ≡ form_named word.now }
+{
+    if word == "form=open" {
+        return Some(JoinForm::Open);
+    }
+    if word == "form=closed" {
+        return Some(JoinForm::Closed);
+    }
+    None
+}
+
+/// The words before that of the form, where it stands last, and the form.
+fn form_apart<S: AsStr>(words: &[S]) -> (&[S], Option<JoinForm>)
+    ensures { (map S.text result.0.now, result.1) ≡ form_apart (map S.text words.now) }
+{
+    match last_apart(words) {
+        Some((before, last)) => match form_named(last) {
+            Some(form) => (before, Some(form)),
+            None => (words, None),
+        },
+        None => (words, None),
+    }
+}
+
+/// Whether all words may name a file to be joined, or the one that is made.
+fn are_names<S: AsStr>(words: &[S]) -> bool
+    ensures { result ≡ are_names (map S.text words.now) }
+{
+    let mut others = words;
+    while let [word, rest @ ..] = others {
+        let word = word.as_str();
+        if is_option(word) || is_form_word(word) {
+            return false;
+        }
+        others = rest;
+    }
+    true
+}
+
+/// Pieces and the file to be made of them, at least one piece.
+fn pieces<S: AsStr>(form: Option<JoinForm>, words: &[S]) -> Option<Task<'_, S>>
+    ensures { option_map (asked_by S.text) result ≡ pieces_asked form (last_apart (map S.text words.now)) }
+{
+    match last_apart(words) {
+        Some((pieces, made)) if !pieces.is_empty() => Some(Task::Join(pieces, made, form)),
+        _ => None,
+    }
+}
+
+fn join_words<S: AsStr>(words: &[S]) -> Option<Task<'_, S>>
+    ensures { option_map (asked_by S.text) result ≡ join_asked (map S.text words.now) }
+{
+    let (names, form) = form_apart(words);
+    if are_names(names) {
+        return pieces(form, names);
+    }
+    None
+}
+
+/// The words before `--json`, where it stands last, and how the lines are spelled then.
+fn spelling_apart<S: AsStr>(words: &[S]) -> (&[S], Spelling)
+    ensures { (map S.text result.0.now, result.1) ≡ spelling_apart (map S.text words.now) }
+{
+    match last_apart(words) {
+        Some((before, last)) if last == "--json" => (before, Spelling::Json),
+        _ => (words, Spelling::Text),
+    }
+}
+
+fn view_words<S: AsStr>(view: ViewWord, words: &[S]) -> Option<Task<'_, S>>
+    ensures { option_map (asked_by S.text) result ≡ view_asked view (map S.text words.now) }
+{
+    match words {
+        [] => None,
+        [recording, rest @ ..] => {
+            let (filters, spelling) = spelling_apart(rest);
+            if is_option(recording.as_str()) || has_option(filters) {
+                return None;
+            }
+            Some(Task::View(view, recording.as_str(), filters, spelling))
+        }
+    }
+}
+
 /// The task of a command, where it takes just these words.
-fn taken<S: AsStr>(takes: Option<Takes>, words: &[S]) -> Option<Task<'_>>
-    ensures { option_map asked_by result ≡ taken takes (map S.text words.now) }
+fn taken<S: AsStr>(takes: Option<Takes>, words: &[S]) -> Option<Task<'_, S>>
+    ensures { option_map (asked_by S.text) result ≡ taken takes (map S.text words.now) }
 {
     match takes {
         None => None,
         Some(Takes::Nothing(command)) => no_word(command, words),
         Some(Takes::One(command)) => one_word(command, words),
         Some(Takes::Two(command)) => two_words(command, words),
+        Some(Takes::Pieces) => join_words(words),
+        Some(Takes::View(view)) => view_words(view, words),
     }
 }
 
 /// The task that words ask for by the table of commands, the program's name first.
-pub(crate) fn task_of<S: AsStr>(words: &[S]) -> Option<Task<'_>>
-    ensures { option_map asked_by result ≡ asked (map S.text words.now) }
+pub(crate) fn task_of<S: AsStr>(words: &[S]) -> Option<Task<'_, S>>
+    ensures { option_map (asked_by S.text) result ≡ asked (map S.text words.now) }
 {
     match words {
         [] | [_] => Some(Task::Trial),
@@ -127,6 +248,28 @@ fn helps_behind<S: AsStr>(most: usize, words: &[S]) -> bool
     false
 }
 
+/// Whether words behind a view ask for its help, before one that it does not take; `--json` may
+/// stand once before.
+fn helps_view<S: AsStr>(words: &[S]) -> bool
+    ensures { result ≡ helps_view false (map S.text words.now) }
+{
+    let mut json = false;
+    let mut others = words;
+    while let [word, rest @ ..] = others {
+        let word = word.as_str();
+        if is_help(word) {
+            return true;
+        }
+        let is_json = word == "--json";
+        if (is_json && json) || (!is_json && is_option(word)) {
+            return false;
+        }
+        json = json || is_json;
+        others = rest;
+    }
+    false
+}
+
 fn helps<S: AsStr>(takes: Option<Takes>, words: &[S]) -> bool
     ensures { result ≡ helps takes (map S.text words.now) }
 {
@@ -135,6 +278,8 @@ fn helps<S: AsStr>(takes: Option<Takes>, words: &[S]) -> bool
         Some(Takes::Nothing(_)) => helps_behind(0, words),
         Some(Takes::One(_)) => helps_behind(1, words),
         Some(Takes::Two(_)) => helps_behind(2, words),
+        Some(Takes::Pieces) => helps_behind(words.len(), words),
+        Some(Takes::View(_)) => helps_view(words),
     }
 }
 

@@ -1,5 +1,7 @@
 //! The table of commands, from which the reading of words, usage and help follow.
 
+use siman_texts::Spelling;
+
 /// A command that takes no words.
 #[derive(Clone, Copy)]
 pub enum NoWord {
@@ -35,9 +37,25 @@ pub enum TwoWords {
     Mend,
 }
 
-/// What the words of a command line ask for.
+/// A view of a recording: a command that takes its file, and words that choose among its lines.
 #[derive(Clone, Copy)]
-pub enum Task<'a> {
+pub enum ViewWord {
+    /// What became of each order, and how each entity lived.
+    Review,
+}
+
+/// The form that words ask for of a joined recording.
+#[derive(Clone, Copy)]
+pub enum JoinForm {
+    /// Stations may have taken part that nobody recorded.
+    Open,
+    /// Every station that took part is recorded.
+    Closed,
+}
+
+/// What the words of a command line ask for.
+#[derive(Drop)]
+pub enum Task<'a, S> {
     /// No words: run the script that standard input has, search the recording of its world for an
     /// order, and judge it.
     Trial,
@@ -47,6 +65,12 @@ pub enum Task<'a> {
     One(OneWord, &'a str),
     /// A command and its two words.
     Two(TwoWords, &'a str, &'a str),
+    /// The pieces of an exercise are joined: their files, the file that is made of them, and the form
+    /// that it is to have, where the words say one.
+    Join(&'a [S], &'a str, Option<JoinForm>),
+    /// A view: the file of the recording, the words that choose among the lines, and how these are
+    /// spelled.
+    View(ViewWord, &'a str, &'a [S], Spelling),
 }
 
 /// What a command takes, and so what it is.
@@ -55,6 +79,26 @@ pub enum Takes {
     Nothing(NoWord),
     One(OneWord),
     Two(TwoWords),
+    /// Files of pieces, the file that is made of them, and perhaps a form.
+    Pieces,
+    /// The file of a recording, words that choose, and perhaps `--json`.
+    View(ViewWord),
+}
+
+/// How often a word of a command may stand.
+#[derive(Clone, Copy)]
+pub(crate) enum Often {
+    Once,
+    OnceOrMore,
+    AnyTimes,
+}
+
+/// A word that a command takes: how usage calls it, how often it may stand, and what it is.
+#[derive(Clone, Copy)]
+pub(crate) struct Word {
+    pub name: &'static str,
+    pub often: Often,
+    pub about: &'static str,
 }
 
 /// A command of the table.
@@ -65,18 +109,21 @@ pub(crate) struct Row {
     /// What it does.
     pub about: &'static str,
     pub example: &'static str,
-    /// Of each word that it takes how usage calls it, and what it is.
-    pub words: &'static [(&'static str, &'static str)],
+    pub words: &'static [Word],
 }
 
 /// The table of the commands, in the order of the help.
-pub(crate) const ROWS: [Row; 9] = [
+pub(crate) const ROWS: [Row; 10] = [
     Row {
         name: "pdu",
         takes: Takes::One(OneWord::Pdu),
         about: "Shows the PDU of a datagram",
         example: "Example:\n  siman pdu 07010B0500000000001C000000010001000000020003000700000001",
-        words: &[("HEX", "The bytes of the datagram, as pairs of hex digits")],
+        words: &[Word {
+            name: "HEX",
+            often: Often::Once,
+            about: "The bytes of the datagram, as pairs of hex digits",
+        }],
     },
     Row {
         name: "pdus",
@@ -90,7 +137,11 @@ pub(crate) const ROWS: [Row; 9] = [
         takes: Takes::One(OneWord::Show),
         about: "Shows a recording, a line for each entry",
         example: "Example:\n  siman show exercise.dsrc",
-        words: &[("REC", "The file of the recording")],
+        words: &[Word {
+            name: "REC",
+            often: Often::Once,
+            about: "The file of the recording",
+        }],
     },
     Row {
         name: "check",
@@ -98,8 +149,16 @@ pub(crate) const ROWS: [Row; 9] = [
         about: "Checks whether a certificate explains a recording, and reports what it says",
         example: "Example:\n  siman check exercise.dsrc exercise.dsct",
         words: &[
-            ("REC", "The file of the recording"),
-            ("CERT", "The file of the certificate"),
+            Word {
+                name: "REC",
+                often: Often::Once,
+                about: "The file of the recording",
+            },
+            Word {
+                name: "CERT",
+                often: Often::Once,
+                about: "The file of the certificate",
+            },
         ],
     },
     Row {
@@ -108,11 +167,16 @@ pub(crate) const ROWS: [Row; 9] = [
         about: "Searches a recording for an order that explains it, and writes its certificate",
         example: "Example:\n  siman audit exercise.dsrc exercise.dsct",
         words: &[
-            ("REC", "The file of the recording"),
-            (
-                "CERT",
-                "The file of the certificate, which is made anew where there is one",
-            ),
+            Word {
+                name: "REC",
+                often: Often::Once,
+                about: "The file of the recording",
+            },
+            Word {
+                name: "CERT",
+                often: Often::Once,
+                about: "The file of the certificate, which is made anew where there is one",
+            },
         ],
     },
     Row {
@@ -121,8 +185,16 @@ pub(crate) const ROWS: [Row; 9] = [
         about: "Runs the exercise that a script describes, and writes its recording",
         example: "Example:\n  siman world exercise.script exercise.dsrc",
         words: &[
-            ("SCRIPT", "The file of the script"),
-            ("REC", "The file of the recording, which is made anew"),
+            Word {
+                name: "SCRIPT",
+                often: Often::Once,
+                about: "The file of the script",
+            },
+            Word {
+                name: "REC",
+                often: Often::Once,
+                about: "The file of the recording, which is made anew",
+            },
         ],
     },
     Row {
@@ -131,11 +203,16 @@ pub(crate) const ROWS: [Row; 9] = [
         about: "Makes the moves of a script over UDP sockets of the loopback, one a station, and writes their recording",
         example: "Example:\n  siman live exercise.script exercise.dsrc",
         words: &[
-            ("SCRIPT", "The file of the script"),
-            (
-                "REC",
-                "The file of the recording, which must not be there yet",
-            ),
+            Word {
+                name: "SCRIPT",
+                often: Often::Once,
+                about: "The file of the script",
+            },
+            Word {
+                name: "REC",
+                often: Often::Once,
+                about: "The file of the recording, which must not be there yet",
+            },
         ],
     },
     Row {
@@ -144,11 +221,16 @@ pub(crate) const ROWS: [Row; 9] = [
         about: "Carries a recording of the first format over to the second, closed",
         example: "Example:\n  siman convert old.dsrc new.dsrc",
         words: &[
-            ("OLD", "The file of the recording, of the first format"),
-            (
-                "NEW",
-                "The file of the same recording in the second format, which is made anew",
-            ),
+            Word {
+                name: "OLD",
+                often: Often::Once,
+                about: "The file of the recording, of the first format",
+            },
+            Word {
+                name: "NEW",
+                often: Often::Once,
+                about: "The file of the same recording in the second format, which is made anew",
+            },
         ],
     },
     Row {
@@ -157,11 +239,34 @@ pub(crate) const ROWS: [Row; 9] = [
         about: "Keeps the entries of a torn recording that stand whole, and writes them with an end",
         example: "Example:\n  siman mend torn.dsrc mended.dsrc",
         words: &[
-            ("OLD", "The file of the recording, whose end may be torn"),
-            (
-                "NEW",
-                "The file of what stands whole of it, which is made anew",
-            ),
+            Word {
+                name: "OLD",
+                often: Often::Once,
+                about: "The file of the recording, whose end may be torn",
+            },
+            Word {
+                name: "NEW",
+                often: Often::Once,
+                about: "The file of what stands whole of it, which is made anew",
+            },
+        ],
+    },
+    Row {
+        name: "review",
+        takes: Takes::View(ViewWord::Review),
+        about: "Tells what became of each order of a recording, and how each entity lived",
+        example: "Example:\n  siman review exercise.dsrc fate=lost",
+        words: &[
+            Word {
+                name: "REC",
+                often: Often::Once,
+                about: "The file of the recording",
+            },
+            Word {
+                name: "FILTER",
+                often: Often::AnyTimes,
+                about: "Which lines are told: station=S:A, entity=S:A:E, request=S:A/N or fate=WORD; words of one key add to each other",
+            },
         ],
     },
 ];

@@ -17,14 +17,14 @@ use crate::asking::task_of;
 use crate::usage::usage_of;
 pub use asking::asks_help;
 use clap::Error;
-pub use commands::{NoWord, OneWord, Task, TwoWords};
+pub use commands::{JoinForm, NoWord, OneWord, Task, TwoWords, ViewWord};
 use std::alloc::Global;
 use std::convert::AsStr;
 
 /// What the words ask for, the program's name first. Words that ask for help or break the usage
 /// give an error, which tells it; so does want of memory then, and a task takes none.
-pub fn read_words<S: AsStr>(alloc: Global, words: &[S]) -> Result<Task<'_>, Error>
-    ensures { option_map asked_by (result_ok result) ≡ asked (map S.text words.now) }
+pub fn read_words<S: AsStr>(alloc: Global, words: &[S]) -> Result<Task<'_, S>, Error>
+    ensures { option_map (asked_by S.text) (result_ok result) ≡ asked (map S.text words.now) }
 {
     match task_of(words) {
         Some(task) => Ok(task),

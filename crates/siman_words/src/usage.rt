@@ -1,23 +1,39 @@
 //! The usage of the program and its help, as `clap` tells them.
 
-use crate::commands::{ABOUT, ROWS, Row, STATUSES, VERSION};
+use crate::commands::{ABOUT, Often, ROWS, Row, STATUSES, Takes, VERSION, Word};
 use clap::error::ErrorKind;
 use clap::{Arg, ArgAction, Command, Error};
 use std::alloc::{AllocError, Global};
 use std::convert::AsStr;
 
-fn arguments<'a>(
-    alloc: Global,
-    words: &[(&'static str, &'static str)],
-) -> Result<Vec<Arg<'a>>, AllocError> {
+/// An argument that stands where it is named.
+fn argument<'a>(alloc: Global, word: Word) -> Arg<'a> {
+    let argument = Arg::new(alloc, word.name).help(word.about);
+    match word.often {
+        Often::Once => argument.required(true).action(ArgAction::Set),
+        Often::OnceOrMore => argument
+            .required(true)
+            .action(ArgAction::Append)
+            .num_args(1..),
+        Often::AnyTimes => argument.action(ArgAction::Append).num_args(0..),
+    }
+}
+
+/// `--json`, which a view takes.
+fn json<'a>(alloc: Global) -> Arg<'a> {
+    Arg::new(alloc, "json")
+        .long("json")
+        .action(ArgAction::SetTrue)
+        .help("As the last word: the lines are told in JSON, one object a line")
+}
+
+fn arguments<'a>(alloc: Global, row: Row) -> Result<Vec<Arg<'a>>, AllocError> {
     let mut arguments = Vec::new(alloc);
-    for (name, help) in words {
-        arguments.push(
-            Arg::new(alloc, name)
-                .required(true)
-                .action(ArgAction::Set)
-                .help(help),
-        )?;
+    for word in row.words {
+        arguments.push(argument(alloc, *word))?;
+    }
+    if let Takes::View(_) = row.takes {
+        arguments.push(json(alloc))?;
     }
     Ok(arguments)
 }
@@ -25,11 +41,18 @@ fn arguments<'a>(
 /// A command of the table, once its arguments are there: nothing half built is alive where memory
 /// may run out.
 fn command<'a>(alloc: Global, row: Row) -> Result<Command<'a>, AllocError> {
-    let arguments = arguments(alloc, row.words)?;
-    Command::new(alloc, row.name)
+    let arguments = arguments(alloc, row)?;
+    let command = Command::new(alloc, row.name)
         .about(row.about)
-        .after_help(row.example)
-        .args(arguments)
+        .after_help(row.example);
+    let command = match row.takes {
+        Takes::Pieces => command.override_usage(
+            "siman join <PIECE>... <NEW> [form=open|form=closed]",
+        ),
+        Takes::View(_) => command.override_usage("siman review <REC> [FILTER]... [--json]"),
+        Takes::Nothing(_) | Takes::One(_) | Takes::Two(_) => command,
+    };
+    command.args(arguments)
 }
 
 fn commands<'a>(alloc: Global) -> Result<Vec<Command<'a>>, AllocError> {
@@ -61,13 +84,26 @@ fn siman<'a>(alloc: Global, ending: &'a str) -> Result<Command<'a>, AllocError> 
         .subcommands(commands)
 }
 
+/// What is wrong with words that ask for no task, and that `clap` takes.
+fn complaint<S: AsStr>(words: &[S]) -> &'static str {
+    if words.iter().any(|word| word.as_str() == "--") {
+        // `--` ends the options elsewhere; here no word needs it.
+        return "unexpected argument '--' found";
+    }
+    match words {
+        [_, name, ..] if name.as_str() == "join" => {
+            "the form is 'form=open' or 'form=closed', and stands as the last word"
+        }
+        _ => "'--json' stands as the last word",
+    }
+}
+
 /// The help that words ask for, or how they break the usage.
 pub(crate) fn usage_of<S: AsStr>(alloc: Global, words: &[S]) -> Result<Error, Error> {
     let ending = ending(alloc)?;
     let mut command = siman(alloc, &ending)?;
     match command.try_get_matches_from_mut(words) {
         Err(error) => Ok(error),
-        // `--` ends the options elsewhere; here no word needs it.
-        Ok(_) => Ok(command.error(ErrorKind::UnknownArgument, "unexpected argument '--' found")?),
+        Ok(_) => Ok(command.error(ErrorKind::UnknownArgument, complaint(words))?),
     }
 }

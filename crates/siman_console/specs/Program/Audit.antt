@@ -21,7 +21,7 @@ use Rattle.siman_console.specs.declared.fault.Fault.TheVariants.{Recording, Outp
 use Rattle.siman_console.specs.declared.program.audit.Finding.{Finding}
 use Rattle.siman_console.specs.declared.program.audit.Finding.TheVariants.{Order, Stuck}
 use Rattle.siman_console.specs.Program.Check.{Recorded}
-use Rattle.siman_console.specs.CountLine.{counted}
+use Rattle.siman_reports.specs.CountLine.{counted}
 use Rattle.siman_console.specs.Ending.{EndsWith}
 use Rattle.siman_console.specs.Outside.{Has, Stream, Deed}
 use Rattle.siman_console.specs.Making.{WritesShort, MakesFile}

@@ -27,7 +27,7 @@ use Rattle.siman_console.specs.declared.program.show.TheConstants.{LARGEST_RECOR
 use Rattle.exercise_recording.specs.Reading.{recording_at}
 use Rattle.exercise_check.specs.Certificate.{certificate_at}
 use Rattle.siman_console.specs.Outside.{Has, Stream}
-use Rattle.siman_console.specs.Report.{report_text, no_text}
+use Rattle.siman_reports.specs.Report.{report_text, no_text}
 
 -- what reading a recording gives, and what reading a certificate gives: its steps
 abbrev pub Recorded : Type 0

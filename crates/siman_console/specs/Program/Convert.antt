@@ -8,7 +8,7 @@ use Rattle.siman_console.specs.declared.program.convert.Carried.{Carried}
 use Rattle.siman_console.specs.declared.fault.Fault.{Fault}
 use Rattle.siman_console.specs.declared.fault.Fault.TheVariants.{Already}
 use Rattle.siman_console.specs.Program.Check.{Recorded}
-use Rattle.siman_console.specs.CountLine.{counted}
+use Rattle.siman_reports.specs.CountLine.{counted}
 use Rattle.siman_console.specs.declared.program.convert.TheConstants.{LARGEST_OLD_RECORDING}
 use Rattle.exercise_recording.specs.Reading.{recording_at}
 use Rattle.siman_console.specs.Outside.{Has, Stream, Deed}

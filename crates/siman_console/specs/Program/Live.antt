@@ -15,7 +15,7 @@ use Rattle.std.specs.declared.io.ErrorKind.{ErrorKind}
 use Rattle.std.specs.declared.io.ErrorKind.TheVariants.{AlreadyExists, OutOfMemory}
 use Rattle.siman_console.specs.Outside.{Has, Stream, Deed, LooksFor, Creates, Leaves}
 use Rattle.siman_console.specs.Making.{Answered}
-use Rattle.siman_console.specs.CountLine.{counted}
+use Rattle.siman_reports.specs.CountLine.{counted}
 use Rattle.siman_texts.specs.Spelled.{line_text}
 use Rattle.siman_console.specs.Program.World.{Scripted}
 

@@ -14,7 +14,7 @@ use Rattle.siman_console.specs.declared.fault.Fault.{Fault}
 use Rattle.siman_console.specs.declared.fault.Fault.TheVariants.{Recording, Output, Memory}
 use Rattle.siman_console.specs.declared.program.mend.MendedFile.{MendedFile}
 use Rattle.siman_console.specs.declared.program.mend.TheConstants.{LARGEST_TORN_RECORDING}
-use Rattle.siman_console.specs.CountLine.{counted}
+use Rattle.siman_reports.specs.CountLine.{counted}
 use Rattle.siman_console.specs.Ending.{of_recording}
 use Rattle.siman_console.specs.Making.{MakesFile}
 use Rattle.siman_console.specs.Outside.{Has, Stream, Deed}

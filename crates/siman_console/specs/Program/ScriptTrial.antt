@@ -18,7 +18,7 @@ use Rattle.siman_console.specs.declared.trial_fault.TrialFault.TheVariants.{Read
 use Rattle.siman_console.specs.Ending.{of_trial}
 use Rattle.siman_scripts.specs.Script.{script_at}
 use Rattle.siman_console.specs.Outside.{Has, Stream}
-use Rattle.siman_console.specs.Report.{report_text}
+use Rattle.siman_reports.specs.Report.{report_text}
 use Rattle.siman_console.specs.Program.Audit.{explained_text}
 use Rattle.siman_console.specs.Program.World.{Scripted, recording_of, refusal_of, world_text}
 

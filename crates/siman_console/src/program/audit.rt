@@ -12,7 +12,6 @@ ghost use Rattle.siman_console.specs.Outside.{Has, Stream, Deed, Found, Adds, Wa
 ghost use Rattle.siman_texts.specs.Spelled.{lines_text};
 ghost use Rattle.siman_console.specs.Program.Audit.{block_line, Finds, Searches, PutsBlocked, PutsFinding, TellsAudit, EndsAudit, MakesFinding};
 
-use crate::count_line::counted;
 use crate::fault::{Fault, end};
 use crate::making::{Making, make_file, settle_and_say};
 use crate::outside::Outside;
@@ -23,6 +22,7 @@ use exercise_audit::{Audit, Block, audit};
 use exercise_check::{Certificate, good_steps_have_no_cause, write_certificate};
 use exercise_model::{ExerciseLog, entries_stand, what_explains_holds};
 use exercise_recording::{RecordingView, fetch_recording};
+use siman_reports::counted;
 use siman_texts::{Field, Line, Spelling, Value, put_line};
 use std::alloc::{AllocError, Global};
 use std::io::{Read, Write};

@@ -12,12 +12,12 @@ ghost use Rattle.siman_console.specs.Program.Check.{Judges, judged_status, EndsC
 use crate::fault::{Fault, end};
 use crate::files_fault::FilesFault;
 use crate::program::show::LARGEST_RECORDING;
-use crate::report::{no_line, report_text};
 use crate::saying::OfFiles;
 use byte_files::put;
 use exercise_check::{Certificate, CheckFault, check, fetch_certificate};
 use exercise_model::ExerciseLog;
 use exercise_recording::{RecordingView, fetch_recording};
+use siman_reports::{no_line, report_text};
 use std::alloc::Global;
 use std::io::{Read, Write};
 

@@ -6,12 +6,12 @@ ghost use Rattle.siman_console.specs.declared.program.convert.TheConstants.{LARG
 ghost use Rattle.siman_console.specs.Outside.{Has};
 ghost use Rattle.siman_console.specs.Program.Convert.{Carries};
 
-use crate::count_line::counted;
 use crate::fault::Fault;
 use crate::making::{Making, make_file, settle_and_say};
 use crate::outside::Outside;
 use crate::product::Product;
 use exercise_recording::Conversion;
+use siman_reports::counted;
 use std::alloc::Global;
 use std::io::{Read, Write};
 

@@ -10,7 +10,6 @@ ghost use Rattle.siman_console.specs.Outside.{Stream, Deed, Found, Adds, WasHeld
 
 mod moves;
 
-use crate::count_line::counted;
 use crate::fault::Fault;
 use crate::input::read_text;
 use crate::outside::Outside;
@@ -20,6 +19,7 @@ use byte_files::put;
 use exercise_model::{ExerciseLog, Recording};
 use exercise_recording::RecordingWriter;
 use siman_lines::{Line, StationAtLine};
+use siman_reports::counted;
 use siman_scripts::{LARGEST_SCRIPT, Move, Script, read_script};
 use siman_stations::Node;
 use siman_worlds::{Beginning, begin_world};

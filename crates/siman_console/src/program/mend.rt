@@ -7,12 +7,12 @@ ghost use Rattle.siman_console.specs.Outside.{Has};
 ghost use Rattle.siman_console.specs.Program.Mend.{of_mend, torn_line, mended_text, Mends};
 ghost use Rattle.siman_texts.specs.Spelled.{line_text};
 
-use crate::count_line::counted;
 use crate::fault::Fault;
 use crate::making::{Making, make_file, settle_and_say};
 use crate::outside::Outside;
 use crate::product::Product;
 use exercise_recording::{FormatFault, MendFault, Mended, Mending};
+use siman_reports::counted;
 use siman_texts::{Field, Line, Spelling, Value, put_line};
 use std::alloc::{AllocError, Global};
 use std::io::{Read, Write};

@@ -10,17 +10,16 @@ ghost use Rattle.siman_scripts.specs.Script.{script_at};
 ghost use Rattle.siman_console.specs.Outside.{Has};
 ghost use Rattle.siman_console.specs.Program.ScriptTrial.{trial_text, Performs, Tries, tried_status};
 
-use crate::count_line::counted;
 use crate::fault::Fault;
 use crate::input::read_text;
 use crate::program::world::world_line;
-use crate::report::report_text;
 use crate::saying::OfFile;
 use crate::trial_fault::TrialFault;
 use byte_files::put;
 use exercise_audit::{Audit, audit};
 use exercise_check::{Certificate, CheckFault, Checked, check};
 use exercise_model::{ExerciseLog, Recording};
+use siman_reports::{counted, report_text};
 use siman_scripts::{LARGEST_SCRIPT, Script, read_script};
 use siman_worlds::run_world;
 use std::alloc::{AllocError, Global};

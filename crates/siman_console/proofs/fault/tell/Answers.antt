@@ -1,7 +1,7 @@
 -- The text, and then its line end.
 use Rattle.byte_files.proofs.Offered.{at_error, writes_part, writes_then}
 use Rattle.siman_console.specs.Ending.{fault_text}
-use Rattle.siman_console.specs.Records.{line_end}
+use Rattle.siman_reports.specs.Records.{line_end}
 use Rattle.siman_console.proofs.fault.tell.Goals as goal
 
 pub returns-in_err-tell_text : goal.returns-in_err-tell_text

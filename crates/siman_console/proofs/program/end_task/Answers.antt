@@ -1,7 +1,13 @@
 -- What standard input asks for is answered with no file; what words ask for, as their files have it.
-use Rattle.std.proofs.Common.{[], refl}
+use Rattle.std.proofs.Common.{ℕ, List, [], Option, refl}
+use Rattle.std.proofs.KnownBytes.{Keeps-refl}
 use Rattle.std.proofs.lemmas.List.Elements.{All-nil}
-use Rattle.siman_console.specs.Outside.{WasHeld}
+use Rattle.siman_words.specs.declared.commands.NoWord.{NoWord}
+use Rattle.siman_words.specs.declared.commands.NoWord.TheVariants.{Pdus}
+use Rattle.siman_scripts.specs.Text.{lines_of}
+use Rattle.siman_console.specs.Outside.{Has, Outcome, WasHeld}
+use Rattle.siman_console.specs.Program.{EndsBare}
+use Rattle.siman_console.specs.Program.Pdus.{EndsLines}
 use Rattle.siman_console.proofs.Openings.{adds_none}
 use Rattle.siman_console.proofs.program.end_task.Goals as goal
 
@@ -18,3 +24,30 @@ pub returns-in-Two : goal.returns-in-Two
 returns-in-Two g c =
     let did = c.do_two.ensures in
     rw c.in-Two.is (did.0, did.1, did.2, (c.do_two.result, did.3, c.end-in-Two.ensures))
+
+-- the only command that takes no words ends so
+lines_end : (command : NoWord) (input : Option (List ℕ)) (o : Outcome) → (bytes : List ℕ) × Has input bytes × EndsLines (lines_of bytes) o → EndsBare command input o
+lines_end Pdus input o ended = ended
+
+pub returns-in-Bare-Pdus : goal.returns-in-Bare-Pdus
+returns-in-Bare-Pdus g c =
+    rw c.in-Bare-Pdus.is (
+      [],
+      adds_none _,
+      All-nil (WasHeld (g.O.Outside.holds c.args.outside.now)),
+      (refl, lines_end c.in-Bare-Pdus.field-0 (g.R.Read.remaining c.args.input) _ c.end_lines.ensures),
+    )
+
+pub returns-in-Join : goal.returns-in-Join
+returns-in-Join g c =
+    rw c.in-Join.is (
+      [],
+      adds_none _,
+      All-nil (WasHeld (g.O.Outside.holds c.args.outside.now)),
+      (refl, Keeps-refl (g.W.Write.contents c.args.out.now), c.end-in-Join.ensures),
+    )
+
+pub returns-in-View : goal.returns-in-View
+returns-in-View g c =
+    let did = c.do_view.ensures in
+    rw c.in-View.is (did.0, did.1, did.2, (c.do_view.result, did.3, c.end-in-View.ensures))

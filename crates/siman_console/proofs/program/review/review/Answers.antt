@@ -3,7 +3,7 @@ use Rattle.std.proofs.Common.{ℕ, List, subst}
 use Rattle.exercise_recording.specs.Reading.{recording_at}
 use Rattle.siman_console.specs.declared.program.show.TheConstants.{LARGEST_RECORDING}
 use Rattle.siman_console.specs.Program.Check.{Recorded}
-use Rattle.siman_console.specs.Program.Reviewing.{Reviews}
+use Rattle.siman_console.specs.Program.Review.{Reviews}
 use Rattle.siman_console.proofs.Inputs.{of_recording, of_any, unfetched_recording}
 use Rattle.siman_console.proofs.Reviewed.{unreviewed}
 use Rattle.siman_console.proofs.program.review.review.Goals as goal

@@ -5,7 +5,7 @@ use Rattle.exercise_review.specs.declared.party.Party.TheVariants.{Station}
 use Rattle.exercise_review.specs.declared.review.TheConstants.{MOST_LINES}
 use Rattle.exercise_review.specs.Fate.{fate_of}
 use Rattle.exercise_review.specs.Review.{line_count}
-use Rattle.siman_console.specs.Program.Reviewing.{IsFateIn}
+use Rattle.siman_console.specs.Program.Review.{IsFateIn}
 use Rattle.siman_console.proofs.Reviewed.{each_fate}
 use Rattle.siman_console.proofs.program.review.review_log.Goals as goal
 

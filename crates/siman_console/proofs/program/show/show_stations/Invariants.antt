@@ -1,7 +1,8 @@
 -- What is out and what is held are the lines so far.
 use Rattle.std.proofs.Common.{◌++◌, string_bytes}
-use Rattle.siman_console.specs.Report.{texts_below}
-use Rattle.siman_console.specs.Program.Show.{station_shown, IsPassedOn}
+use Rattle.siman_reports.specs.Report.{texts_below}
+use Rattle.siman_console.specs.Program.Show.{IsPassedOn}
+use Rattle.siman_reports.specs.EntryLines.{station_shown}
 use Rattle.siman_console.proofs.program.show.show_stations.Given as goal
 
 abbrev pub invariant-loop-index : goal.invariant-loop-index

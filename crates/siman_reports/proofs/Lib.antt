@@ -1,0 +1,5 @@
+mod Keyed
+mod Kept
+mod LineParts
+mod ReviewKeys
+pub mod Texts

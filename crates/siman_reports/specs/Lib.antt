@@ -1,0 +1,6 @@
+pub mod CountLine
+pub mod EntryLines
+pub mod Head
+pub mod Records
+pub mod Report
+pub mod Review

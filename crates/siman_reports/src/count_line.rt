@@ -1,0 +1,18 @@
+//! The line of a count.
+
+ghost use Rattle.std.specs.Prelude.{◌≡◌, IfOk, string_bytes};
+ghost use Rattle.siman_texts.specs.Spelled.{line_text};
+ghost use Rattle.siman_reports.specs.CountLine.{counted};
+
+use siman_texts::{Field, Line, Spelling, Value, put_line};
+use std::alloc::{AllocError, Global};
+
+/// The line of a word that tells how many there are, as `explained steps=16`.
+pub fn counted(alloc: Global, word: &str, key: &str, count: usize) -> Result<String, AllocError>
+    ensures { IfOk result (λ line. string_bytes line ≡ line_text (counted word.now key.now count)) }
+{
+    let fields = [Field::Keyed(key, Value::Number(count as u64))];
+    let mut line = String::new(alloc);
+    put_line(&mut line, Spelling::Text, &Line::named(word, &fields))?;
+    Ok(line)
+}

@@ -12,3 +12,4 @@ pub mod LineReadings
 pub mod Judged
 pub mod Lived
 mod Conversions
+mod Reviewed

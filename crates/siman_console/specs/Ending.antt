@@ -23,7 +23,7 @@ use Rattle.siman_console.specs.declared.place.Place.{Place}
 use Rattle.siman_console.specs.declared.place.Place.TheVariants.{Offset, Line, Move}
 use Rattle.siman_console.specs.declared.fault.Fault.{Fault}
 use Rattle.siman_console.specs.declared.fault.Ended.{Ended}
-use Rattle.siman_console.specs.declared.fault.Fault.TheVariants.{NotBytePairs, HexLine, Input, File, Words, Recording, Already, Certificate, Script, ScriptRead, World, LineFailed, Output, SameAs, Exists, Memory}
+use Rattle.siman_console.specs.declared.fault.Fault.TheVariants.{NotBytePairs, HexLine, Input, File, Words, Recording, Already, Certificate, Script, ScriptRead, World, LineFailed, Filter, OverLimit, Output, SameAs, Exists, Memory}
 use Rattle.siman_console.specs.declared.files_fault.FilesFault.{FilesFault}
 use Rattle.siman_console.specs.declared.files_fault.FilesFault.TheVariants as files
 use Rattle.siman_console.specs.declared.trial_fault.TrialFault.{TrialFault}
@@ -63,6 +63,8 @@ told_as (World worlds.Stations) = (codes "world: ", codes "stations", None)
 told_as (World (worlds.Move number fault)) = (codes "world: ", move_fault_name fault, Some (Move number))
 told_as (World worlds.Memory) = (codes "world: ", codes "memory", None)
 told_as LineFailed = (codes "live: ", codes "line", None)
+told_as (Filter word) = (codes "filter: ", word.now, None)
+told_as OverLimit = (codes "view: ", codes "over-limit", None)
 told_as Output = (codes "output: ", codes "write", None)
 told_as (SameAs name) = (codes "output: same as ", name.now, None)
 told_as Exists = (codes "output: ", codes "exists", None)

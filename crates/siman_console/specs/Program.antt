@@ -5,6 +5,7 @@ pub mod Convert
 pub mod Live
 pub mod Mend
 pub mod Pdus
+pub mod Review
 pub mod Show
 pub mod ScriptTrial
 pub mod World
@@ -13,9 +14,11 @@ use Rattle.std.specs.declared.alloc.Global.{Global}
 use Rattle.std.specs.Io.KnownBytes.{Keeps}
 use Rattle.std.specs.declared.io.ErrorKind.{ErrorKind}
 use Rattle.siman_scripts.specs.Text.{lines_of}
+use Rattle.siman_texts.specs.declared.spelling.Spelling.{Spelling}
 use Rattle.siman_words.specs.declared.commands.NoWord.{NoWord}
 use Rattle.siman_words.specs.declared.commands.OneWord.{OneWord}
 use Rattle.siman_words.specs.declared.commands.TwoWords.{TwoWords}
+use Rattle.siman_words.specs.declared.commands.ViewWord.{ViewWord}
 use Rattle.siman_words.specs.Words.{Asked, Trial, Bare, One, Two, Join, View, asked, asks_help}
 use Rattle.siman_console.specs.declared.fault.Fault.{Fault}
 use Rattle.siman_console.specs.declared.fault.Fault.TheVariants.{Words, Output, Memory}
@@ -30,6 +33,7 @@ use Rattle.siman_console.specs.Making.{Answered}
 use Rattle.siman_console.specs.Program.Mend.{MendsFile, MakesMended}
 use Rattle.siman_console.specs.Opening.{WorksOn}
 use Rattle.siman_console.specs.Program.Pdus.{EndsLines}
+use Rattle.siman_console.specs.Program.Review.{ReviewsNamed}
 use Rattle.siman_console.specs.Saying.{SaysOfFile, SaysOfFiles}
 use Rattle.siman_console.specs.Program.Show.{ShowsFile}
 use Rattle.siman_console.specs.Program.ScriptTrial.{TriesInput}
@@ -39,6 +43,10 @@ use Rattle.siman_console.specs.Program.World.{RunsFile, MakesWorld}
 abbrev pub DoesOne : OneWord → (word : List ℕ) → List Deed → Answered → Stream → Type 0
 DoesOne OneWord.Pdu hex deeds answered out = (deeds ≡ []) × IsSaid (said_of_hex hex) answered out.old out.new
 DoesOne OneWord.Show recording deeds answered out = SaysOfFile ShowsFile recording deeds answered out
+
+-- a view of a recording, under the words that choose among its lines, in a spelling
+abbrev pub DoesView : ViewWord → (recording : List ℕ) → (filters : List (List ℕ)) → Spelling → List Deed → Answered → Stream → Type 0
+DoesView ViewWord.Review recording filters spelling = ReviewsNamed spelling recording filters
 
 -- with the status of what was answered, or with that of the fault that was met, which is then told
 abbrev pub EndsAs : (Answered → Stream → Type 0) → Outcome → Type 0
@@ -64,7 +72,7 @@ EndsTask (Bare command) deeds input o = (deeds ≡ []) × EndsBare command input
 EndsTask (One command word) deeds input o = EndsAs (DoesOne command word deeds) o
 EndsTask (Two command first second) deeds input o = EndsTwo command first second deeds o
 EndsTask (Join pieces made form) deeds input o = (deeds ≡ []) × Keeps o.out.old o.out.new × Ends (Err Words) o.ended o.errors.old o.errors.new
-EndsTask (View view recording filters spelling) deeds input o = (deeds ≡ []) × Keeps o.out.old o.out.new × Ends (Err Words) o.ended o.errors.old o.errors.new
+EndsTask (View view recording filters spelling) deeds input o = EndsAs (DoesView view recording filters spelling deeds) o
 
 -- HOW WORDS END that ask for no task: with want of memory, with the help that they ask for, or as a fault of usage, which is told on the writer of faults
 abbrev pub EndsUsage : (helps : Bool) → Outcome → Type 0

@@ -16,7 +16,7 @@ use itoa::Buffer;
 use siman_manager::OrderFault;
 use siman_scripts::ScriptFault;
 use siman_worlds::{MoveFault, WorldFault};
-use std::alloc::AllocError;
+use std::alloc::{AllocError, AllocFailed};
 use std::io::{ErrorKind, Write};
 use std::{fmt, io};
 
@@ -47,6 +47,10 @@ pub enum Fault<'a> {
     World(WorldFault),
     /// A line of a station could not be had, or a call of it failed.
     LineFailed,
+    /// This word asks for no filter.
+    Filter(&'a str),
+    /// The view would have more than 4,194,304 lines.
+    OverLimit,
     /// The answer could not be written whole.
     Output,
     /// The file that is to be made is the one that is read, which the words call so.
@@ -99,6 +103,8 @@ impl<'a> Fault<'a> {
             }
             Fault::World(WorldFault::Memory) => ("world: ", "memory", None),
             Fault::LineFailed => ("live: ", "line", None),
+            Fault::Filter(word) => ("filter: ", word, None),
+            Fault::OverLimit => ("view: ", "over-limit", None),
             Fault::Output => ("output: ", "write", None),
             Fault::SameAs(name) => ("output: same as ", name, None),
             Fault::Exists => ("output: ", "exists", None),
@@ -154,6 +160,14 @@ impl From<AllocError> for Fault<'_> {
     ghost from_gives = { λ _ fault. fault ≡ Memory };
 
     fn from(_e: AllocError) -> Self {
+        Fault::Memory
+    }
+}
+
+impl<T: Drop> From<AllocFailed<T>> for Fault<'_> {
+    ghost from_gives = { λ _ fault. fault ≡ Memory };
+
+    fn from(_e: AllocFailed<T>) -> Self {
         Fault::Memory
     }
 }

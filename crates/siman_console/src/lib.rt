@@ -41,6 +41,7 @@ pub use program::check::{LARGEST_CERTIFICATE, check_command, check_files};
 pub use program::convert::LARGEST_OLD_RECORDING;
 pub use program::pdu::pdu_command;
 pub use program::pdus::pdus_command;
+pub use program::review::review_command;
 pub use program::run;
 pub use program::script_trial::{perform, trial};
 pub use program::show::{LARGEST_RECORDING, show_command};
@@ -48,6 +49,7 @@ pub use program::world::world_command;
 pub use siman_scripts::{
     Act, LARGEST_SCRIPT, Move, Script, ScriptFault, WorldStation, read_script,
 };
+pub use siman_texts::Spelling;
 pub use siman_words::{JoinForm, NoWord, OneWord, Task, TwoWords, ViewWord, asks_help, read_words};
 pub use siman_worlds::{MoveFault, WorldFault, run_world};
 pub use trial_fault::TrialFault;

@@ -1,10 +1,10 @@
 //! The whole way from the words of a command line to the status.
 
-ghost use Rattle.std.specs.Prelude.{List, string_bytes};
+ghost use Rattle.std.specs.Prelude.{List, string_bytes, map};
 ghost use Rattle.std.specs.IoError.{error_kind};
 ghost use Rattle.std.specs.List.{All};
 ghost use Rattle.siman_console.specs.Outside.{Deed, Adds, WasHeld, Stream, Outcome};
-ghost use Rattle.siman_console.specs.Program.{DoesOne, EndsTwo, EndsTask, EndsProgram, words_by};
+ghost use Rattle.siman_console.specs.Program.{DoesOne, DoesView, EndsTwo, EndsTask, EndsProgram, words_by};
 ghost use Rattle.siman_words.specs.Words.{asked_by};
 
 pub(crate) mod audit;
@@ -14,6 +14,7 @@ mod live;
 mod mend;
 pub(crate) mod pdu;
 pub(crate) mod pdus;
+pub(crate) mod review;
 pub(crate) mod script_trial;
 pub(crate) mod show;
 pub(crate) mod world;
@@ -28,12 +29,14 @@ use crate::program::live::end_live;
 use crate::program::mend::MendedFile;
 use crate::program::pdu::tell_word;
 use crate::program::pdus::end_lines;
+use crate::program::review::review_named;
 use crate::program::script_trial::TrialCommand;
 use crate::program::show::ShowCommand;
 use crate::saying::{OfFile, say_of_file, say_of_files};
 use crate::usage::end_usage;
 use exercise_model::Recording;
-use siman_words::{NoWord, OneWord, Task, TwoWords, asks_help, read_words};
+use siman_texts::Spelling;
+use siman_words::{NoWord, OneWord, Task, TwoWords, ViewWord, asks_help, read_words};
 use std::alloc::Global;
 use std::io;
 use std::io::{Read, Write};
@@ -51,7 +54,7 @@ fn do_one<'a, O: Outside, W: Write>(
 {
     match command {
         OneWord::Pdu => tell_word(alloc, word, out),
-        OneWord::Show => say_of_file::<ShowCommand, O, W>(alloc, word, outside, out),
+        OneWord::Show => say_of_file(alloc, &ShowCommand, word, outside, out),
     }
 }
 
@@ -92,6 +95,25 @@ fn end_two<O: Outside, W: Write, E: Write>(
     }
 }
 
+/// Does what a view of a recording asks for: the file of that, and the words that choose among its
+/// lines.
+fn do_view<'a, O: Outside, W: Write>(
+    alloc: Global,
+    view: ViewWord,
+    words: (&'a str, &'a [String]),
+    spelling: Spelling,
+    outside: &mut O,
+    out: &mut W,
+) -> Result<u8, Fault<'a>>
+    ensures { let out : Stream = record { old = W.contents out.old; new = W.contents out.new } in
+        (deeds : List Deed) × Adds (O.deeds outside.old) (O.deeds outside.new) deeds × All (WasHeld (O.holds outside.old)) deeds × DoesView view words.entry.0.now (map string_bytes words.entry.1.now) spelling deeds result out }
+{
+    let (recording, words) = words;
+    match view {
+        ViewWord::Review => review_named(alloc, recording, words, spelling, outside, out),
+    }
+}
+
 /// Does what the words ask for, and ends as that asks for.
 fn end_task<'a, O: Outside, R: Read + Drop, W: Write, E: Write>(
     alloc: Global,
@@ -105,7 +127,7 @@ fn end_task<'a, O: Outside, R: Read + Drop, W: Write, E: Write>(
         (deeds : List Deed) × Adds (O.deeds outside.old) (O.deeds outside.new) deeds × All (WasHeld (O.holds outside.old)) deeds × EndsTask (asked_by string_bytes task.entry) deeds (R.remaining input) o }
 {
     match task {
-        Task::Trial => end(TrialCommand::say(alloc, input, out), errors),
+        Task::Trial => end(TrialCommand.say(alloc, input, out), errors),
         Task::Bare(NoWord::Pdus) => end_lines(alloc, input, out, errors),
         Task::One(command, word) => end(do_one(alloc, command, word, outside, out), errors),
         Task::Two(command, first, second) => {
@@ -113,7 +135,10 @@ fn end_task<'a, O: Outside, R: Read + Drop, W: Write, E: Write>(
             end_two(alloc, command, words, outside, out, errors)
         }
         Task::Join(_, _, _) => end(Err(Fault::Words), errors),
-        Task::View(_, _, _, _) => end(Err(Fault::Words), errors),
+        Task::View(view, recording, words, spelling) => {
+            let words = (recording, words);
+            end(do_view(alloc, view, words, spelling, outside, out), errors)
+        }
     }
 }
 

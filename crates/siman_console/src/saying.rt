@@ -16,16 +16,17 @@ use std::io::{Read, Write};
 pub(crate) trait OfFile {
     /// What is said of a file that has these bytes, where they are known, and the status or the
     /// fault that is answered.
-    ghost says: { (known : Option (List ℕ)) → Result ℕ Fault → (out : Stream) → Type 0 };
+    ghost says: { Self → (known : Option (List ℕ)) → Result ℕ Fault → (out : Stream) → Type 0 };
 
     /// Says what there is to say of what a reader has, and gives the status.
     fn say<R: Read + Drop, W: Write>(
+        &self,
         alloc: Global,
         file: R,
         out: &mut W,
     ) -> Result<u8, Fault<'static>>
         ensures { let out : Stream = record { old = W.contents out.old; new = W.contents out.new } in
-            says (R.remaining file) result out };
+            says self.now (R.remaining file) result out };
 }
 
 /// A command that says something of two files.
@@ -47,17 +48,18 @@ pub(crate) trait OfFiles {
 /// Opens a file, and says of it what a command says.
 pub(crate) fn say_of_file<'a, C: OfFile, O: Outside, W: Write>(
     alloc: Global,
+    command: &C,
     name: &'a str,
     outside: &mut O,
     out: &mut W,
 ) -> Result<u8, Fault<'a>>
     ensures { let out : Stream = record { old = W.contents out.old; new = W.contents out.new } in
-        (deeds : List Deed) × Adds (O.deeds outside.old) (O.deeds outside.new) deeds × All (WasHeld (O.holds outside.old)) deeds × SaysOfFile C.says name.now deeds result out }
+        (deeds : List Deed) × Adds (O.deeds outside.old) (O.deeds outside.new) deeds × All (WasHeld (O.holds outside.old)) deeds × SaysOfFile (C.says command.now) name.now deeds result out }
 {
     match outside.open(name) {
         Ok(opened) => {
             let file = outside.read(opened);
-            C::say(alloc, file, out)
+            command.say(alloc, file, out)
         }
         Err(error) => Err(unopened(name, &error)),
     }

@@ -8,6 +8,7 @@ mod datagrams;
 mod load;
 mod machines;
 mod recordings;
+mod reviews;
 mod stations;
 
 use crate::datagrams::{COMMENT, Copying, Decoding, Encoding, Showing, pdu_of, to_encode};
@@ -16,6 +17,7 @@ use crate::recordings::{
     APART, Carrying, Checking, FetchingSteps, Pushing, Reading, ReadingSteps, Searching, Seeing,
     recording_of, to_check,
 };
+use crate::reviews::Reviewing;
 use crate::stations::{Issuing, Nudging, Serving, to_issue, to_nudge, to_serve};
 pub use call::{Call, Said, put_call, refused, usual};
 pub use load::{put_halves, put_station};
@@ -35,6 +37,7 @@ pub fn put_library_calls<W: Write>(alloc: Global, out: &mut W) -> io::Result<()>
     put_call::<Pushing, _, _>(alloc, "push", recording_of(alloc, &RECORDING), out)?;
     put_call::<Checking, _, _>(alloc, "check", to_check(alloc), out)?;
     put_call::<Searching, _, _>(alloc, "audit", recording_of(alloc, &APART), out)?;
+    put_call::<Reviewing, _, _>(alloc, "review_of", recording_of(alloc, &APART), out)?;
     put_call::<ReadingSteps, _, _>(alloc, "read_certificate", Ok(()), out)?;
     put_call::<FetchingSteps, _, _>(alloc, "fetch_certificate", Ok(()), out)?;
     put_call::<Carrying, _, _>(alloc, "convert", room(alloc), out)?;

@@ -113,7 +113,7 @@ pub(crate) struct Row {
 }
 
 /// The table of the commands, in the order of the help.
-pub(crate) const ROWS: [Row; 9] = [
+pub(crate) const ROWS: [Row; 10] = [
     Row {
         name: "pdu",
         takes: Takes::One(OneWord::Pdu),
@@ -248,6 +248,24 @@ pub(crate) const ROWS: [Row; 9] = [
                 name: "NEW",
                 often: Often::Once,
                 about: "The file of what stands whole of it, which is made anew",
+            },
+        ],
+    },
+    Row {
+        name: "review",
+        takes: Takes::View(ViewWord::Review),
+        about: "Tells what became of each order of a recording, and how each entity lived",
+        example: "Example:\n  siman review exercise.dsrc fate=lost",
+        words: &[
+            Word {
+                name: "REC",
+                often: Often::Once,
+                about: "The file of the recording",
+            },
+            Word {
+                name: "FILTER",
+                often: Often::AnyTimes,
+                about: "Which lines are told: station=S:A, entity=S:A:E, request=S:A/N or fate=WORD; words of one key add to each other",
             },
         ],
     },

@@ -72,9 +72,10 @@ pub(crate) struct TrialCommand;
 impl OfFile for TrialCommand {
     ghost use Rattle.siman_console.specs.Program.ScriptTrial.{TriesInput};
 
-    ghost says = { TriesInput };
+    ghost says = { λ _. TriesInput };
 
     fn say<R: Read + Drop, W: Write>(
+        &self,
         alloc: Global,
         file: R,
         out: &mut W,

@@ -47,9 +47,5 @@ returns-in-Join g c =
 
 pub returns-in-View : goal.returns-in-View
 returns-in-View g c =
-    rw c.in-View.is (
-      [],
-      adds_none _,
-      All-nil (WasHeld (g.O.Outside.holds c.args.outside.now)),
-      (refl, Keeps-refl (g.W.Write.contents c.args.out.now), c.end-in-View.ensures),
-    )
+    let did = c.do_view.ensures in
+    rw c.in-View.is (did.0, did.1, did.2, (c.do_view.result, did.3, c.end-in-View.ensures))

@@ -11,6 +11,9 @@ import sys
 from pathlib import Path
 
 TOP = Path(__file__).resolve().parent.parent
+# How usage has a word that may stand so often, and what may stand behind the words of some commands.
+OFTEN = {"Once": "{}", "OnceOrMore": "{} ..", "AnyTimes": "[{} ..]"}
+BEHIND = {"View": ["[--json]"]}
 TABLE = TOP / "crates" / "siman_words" / "src" / "commands.rt"
 
 
@@ -20,8 +23,9 @@ def rows_of_program():
     found = []
     for row in re.split(r"^    Row \{$", rows, flags=re.M)[1:]:
         name = re.search(r'name: "([^"]+)"', row)[1]
-        words = re.findall(r'\(\s*"([A-Z]+)",', row.partition("words:")[2])
-        found.append(" ".join([name, *words]))
+        takes = re.search(r"takes: Takes::(\w+)", row)[1]
+        words = re.findall(r'name: "([A-Z]+)",\s*often: Often::(\w+),', row.partition("words:")[2])
+        found.append(" ".join([name, *(OFTEN[often].format(word) for word, often in words), *BEHIND.get(takes, [])]))
     return found
 
 

@@ -17,6 +17,31 @@ JOINED_REPORT = (
 JOINED_NO = b"no step=3 cause=13 wrong-state\n"
 # What check says of open.dsrc with open.dsct.
 OPEN_REPORT = b"yes records=3 others=0\nanswer 1 request 0\nentity 2:3:7 stopped\n"
+# What review says of losses.dsrc, and the order line that it has of open.dsrc.
+LOSSES_REVIEW = b"""\
+review exercise=1 stations=3 records=30 others=0 explained=yes orders=7 done=4 answered=0 refused=1 pending=0 unheard=1 unanswered=1 lost=1 unknown=0 nobody=0
+station 1:1 records=14 made=7 done=0 answered=0 refused=0 pending=0 unheard=0 unanswered=0 lost=0 unknown=0 entities=0 running=0
+station 2:3 records=10 made=0 done=3 answered=0 refused=1 pending=0 unheard=0 unanswered=0 lost=0 unknown=0 entities=1 running=0
+station 2:4 records=6 made=0 done=1 answered=0 refused=0 pending=0 unheard=1 unanswered=1 lost=1 unknown=0 entities=2 running=2
+order 0 from=1:1 request=1 create-entity to=2:3:7 at=2:3 sends=1 receipts=1 got=1 said=able answer=2 heard=able news=3 took=2 change=2 fate=done
+order 4 from=1:1 request=2 create-entity to=2:4:9 at=2:4 sends=2 receipts=1 got=6 said=able answer=7 heard=able news=8 took=12 change=7 fate=done
+order 9 from=1:1 request=3 start-resume to=65535:65535:65535 at=2:3 sends=1 receipts=1 got=10 said=able answer=12 heard=able news=14 took=3 change=12 fate=done
+order 9 from=1:1 request=3 start-resume to=65535:65535:65535 at=2:4 sends=1 receipts=1 got=11 said=able answer=13 heard=- news=- took=- change=13 fate=unheard
+order 16 from=1:1 request=4 stop-freeze to=2:3:5 at=2:3 sends=1 receipts=1 got=17 said=unable answer=18 heard=unable news=19 took=2 change=- fate=refused
+order 20 from=1:1 request=5 data-query to=2:4:0 at=2:4 sends=1 receipts=1 got=21 said=- answer=- heard=- news=- took=- change=- fate=unanswered
+order 24 from=1:1 request=6 stop-freeze to=2:3:7 at=2:3 sends=1 receipts=1 got=25 said=able answer=26 heard=able news=27 took=2 change=26 fate=done
+order 29 from=1:1 request=7 remove-entity to=2:4:8 at=2:4 sends=1 receipts=0 got=- said=- answer=- heard=- news=- took=- change=- fate=lost
+state 2:3:7 stopped from=2 to=12 since=501 until=521 by=1:1 request=1
+state 2:3:7 running from=12 to=26 since=521 until=551 by=1:1 request=3
+state 2:3:7 stopped from=26 to=- since=551 until=- by=1:1 request=6
+state 2:4:8 running from=- to=- since=- until=- by=- request=-
+state 2:4:9 stopped from=7 to=13 since=914 until=922 by=1:1 request=2
+state 2:4:9 running from=13 to=- since=922 until=- by=1:1 request=3
+"""
+OPEN_ORDER = (
+    b"order 0 from=9:9 request=1 create-entity to=2:3:7 at=2:3 sends=- receipts=1 got=0 said=able answer=1 "
+    b"heard=- news=- took=- change=1 fate=unknown\n"
+)
 WORKED_SCRIPT = "examples/lost_copied_swapped.script"
 WORKED_LINE = b"world records=16 sent=8\n"
 WORKED_ANSWER = (

@@ -8,7 +8,7 @@ import time
 import pages
 from cases import texts
 from cases.trials import Verdict
-from pages import ABSENT, NO_LINK, Outcome, Recording, Station
+from pages import ABSENT, NO_LINK, STOPPED, Outcome, Recording, Station
 
 MOST_ENTRIES, LARGEST, MOST_SCRIPT = 1_048_576, 268_435_456, 1_048_576
 HEAD = b"DSRC0001\1\0\1\0\1\0\1\0\0"  # of exercise 1 with station 1:1 alone
@@ -195,6 +195,18 @@ def try_entities(runs):
         runs.verdicts.append(Verdict("the answer to one entity more", (response,), made[-5 - 5]))
 
 
+def try_views(runs):
+    """The lines of a review: one for each of 65 stations, one for each entity that these open with, and the first."""
+    first = b"review exercise=1 stations=65 records=0 others=0 explained=yes orders=0 done=0 "
+    for count, where in ((125, "below"), (126, "at"), (127, "above")):
+        openings = [range(1, 65_534)] * 64 + [range(1, count + 1)]
+        stations = [Station(site, 1, [(n, STOPPED) for n in own]) for site, own in enumerate(openings, 1)]
+        name = runs.file("views.dsrc", texts.recording_text(Recording(1, stations, [])))
+        refused = fault("view: over-limit") if count > 126 else None
+        for words in (["review", name], ["review", name, "fate=lost"]):
+            runs.run("4,194,304 lines", where, words, refused or Ends(0, first))
+
+
 def try_hex(runs):
     for size, where, told in ((65_534, "below", b"refused 5 long\n"), (65_536, "at", b"refused 5 long\n"), (65_538, "above", b"")):
         word = "07010B05" + "00" * ((size - 8) // 2)
@@ -214,6 +226,8 @@ def try_datagrams(runs):
 def try_all(trials):
     """What was tried, and the lines of a table of it."""
     runs = Measured(trials)
-    for part in (try_stations, try_entries, try_steps, try_bytes, try_scripts, try_entities, try_hex, try_datagrams):
+    for part in (
+        try_stations, try_entries, try_steps, try_bytes, try_scripts, try_entities, try_views, try_hex, try_datagrams,
+    ):  # fmt: skip
         part(runs)
     return runs.verdicts, ["limit | where | command | status | processor seconds | seconds | MiB", *runs.lines]

@@ -26,6 +26,24 @@ BLOCKED = (
 )
 
 
+REVIEW = (
+    b"review exercise=1 stations=2 records=4 others=0 explained=yes orders=1 done=1 answered=0 refused=0 pending=0 "
+    b"unheard=0 unanswered=0 lost=0 unknown=0 nobody=0\n"
+)
+REVIEWED = (
+    b"order 0 from=1:1 request=1 create-entity to=2:3:7 at=2:3 sends=1 receipts=1 got=1 said=able answer=2 heard=able "
+    b"news=3 took=0 change=2 fate=done\n"
+)
+REVIEW_IN_JSON = (
+    b'{"line":"review","exercise":1,"stations":2,"records":4,"others":0,"explained":true,"orders":1,"done":1,'
+    b'"answered":0,"refused":0,"pending":0,"unheard":0,"unanswered":0,"lost":0,"unknown":0,"nobody":0}\n'
+    b'{"line":"order","entry":0,"from":"1:1","request":1,"kind":"create-entity","to":"2:3:7","at":"2:3","sends":1,'
+    b'"receipts":1,"got":1,"said":"able","answer":2,"heard":"able","news":3,"took":"0","change":2,"fate":"done"}\n'
+    b'{"line":"state","entity":"2:3:7","state":"stopped","from":2,"to":null,"since":"0","until":null,"by":"1:1",'
+    b'"request":1}\n'
+)
+
+
 def rows(trials):
     """Words and what is given on standard input, with the usual outcome."""
     script = (TOP / WORKED_SCRIPT).read_bytes()
@@ -39,6 +57,8 @@ def rows(trials):
         (["check", recording, certificate], b"", Outcome(0, REPORT, b"")),
         (["audit", moved, "found.dsct"], b"", Outcome(0, b"explained steps=4\n", b"")),
         (["audit", crossed, "none.dsct"], b"", Outcome(1, BLOCKED, b"")),
+        (["review", recording, "fate=done", "fate=lost"], b"", Outcome(0, REVIEW + REVIEWED, b"")),
+        (["review", recording, "entity=2:3:7", "request=1:1/1", "--json"], b"", Outcome(0, REVIEW_IN_JSON, b"")),
         ([], script, Outcome(0, WORKED_ANSWER, b"")),
         (["world", WORKED_SCRIPT, "row.dsrc"], b"", Outcome(0, WORKED_LINE, b"")),
         (["live", WORKED_SCRIPT, "lived.row.dsrc"], b"", Outcome(0, b"live records=13\n", b"")),

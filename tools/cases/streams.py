@@ -49,7 +49,9 @@ def try_unreadable(trials, examples):
 def answers(trials, examples):
     """Words and what is given on standard input, with the usual outcome: an answer of each command."""
     good, certificate, wrong = examples
-    shown = pages.answer_to_show((trials.folder / good).read_bytes())
+    text = (trials.folder / good).read_bytes()
+    shown, reviewed = pages.answer_to_show(text), pages.answer_to_review(text)
+    in_json = pages.answer_to_review(text, ["fate=done"], pages.json_of)
     # What one call makes no other call makes: it would find it locked.
     new = f"{trials.file(b'')}.new"
     return [
@@ -61,6 +63,8 @@ def answers(trials, examples):
         (["show", good], b"", shown),
         (["check", good, certificate], b"", Outcome(0, TEXTS_REPORT, b"")),
         (["check", wrong, certificate], b"", Outcome(1, b"no step=8 cause=13 wrong-state\n", b"")),
+        (["review", good], b"", reviewed),
+        (["review", good, "fate=done", "--json"], b"", in_json),
         (["world", WORKED_SCRIPT, f"{new}.world"], b"", Outcome(0, WORKED_LINE, b"")),
         (["live", WORKED_SCRIPT, f"{new}.live"], b"", Outcome(0, b"live records=13\n", b"")),
         (["convert", good, f"{new}.convert"], b"", Outcome(0, b"converted records=9\n", b"")),
@@ -79,6 +83,9 @@ def faults(examples):
         (["show", certificate], b"", pages.fault("recording: magic at 0")),
         (["check", good, "none"], b"", pages.fault("file: none")),
         (["check", good, good], b"", pages.fault("certificate: magic at 0")),
+        (["review", "none"], b"", pages.fault("file: none")),
+        (["review", certificate, "fate=lost"], b"", pages.fault("recording: magic at 0")),
+        (["review", good, "fate=lots"], b"", pages.fault("filter: fate=lots")),
         (["world", good, "none"], b"", pages.fault("script: bad-line at line 1")),
         (["show", b"\xff"], b"", pages.fault("words: not UTF-8")),
         (["check", good], b"", Outcome(2, b"", Some())),

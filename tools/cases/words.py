@@ -22,6 +22,7 @@ def try_words(trials):
         ["live"], ["live", "a"], ["live", "a", "b", "c"], ["live", "-a", "b"],
         ["convert"], ["convert", "a"], ["convert", "a", "b", "c"], ["convert", "-a", "b"], ["convert", recording, "-a"],
         ["mend"], ["mend", "a"], ["mend", "a", "b", "c"], ["mend", "-a", "b"], ["mend", recording, "-a"],
+        ["review"], ["review", "-a"], ["review", "--json"], ["review", recording, "-a"], ["review", recording, "--json", "a"],
         ["pdus", "07"], ["pdus", ""], ["pdus", "-x"], ["trial"], ["audit"], ["audit", recording], ["audit", recording, "a", "b"], ["audit", recording, "-a"],
     ]:  # fmt: skip
         trials.expect(words, usage)

@@ -22,6 +22,12 @@ known 3 change 2
 known 7 change 6
 entity 2:3:7 running
 """
+REVIEWED = (
+    "review exercise=1 stations=3 records=30 others=0 explained=yes orders=7 done=4 answered=0 refused=1 pending=0 "
+    "unheard=1 unanswered=1 lost=1 unknown=0 nobody=0\n"
+    "order 29 from=1:1 request=7 remove-entity to=2:4:8 at=2:4 sends=1 receipts=0 got=- said=- answer=- heard=- news=- "
+    "took=- change=- fate=lost\n"
+)
 NO = "no step=3 cause=13 wrong-state\n"
 REAL = (
     (["pdu", HEX], None, LINE, "", 0),
@@ -30,6 +36,8 @@ REAL = (
     (["show", "examples/created_and_started.dsrc"], None, "exercise=1 stations=2 records=9\nstation 0 1:1\n", "", 0),
     (["check", "examples/created_and_started.dsrc", "examples/created_and_started.dsct"], None, CHECKED, "", 0),
     (["check", "examples/logs_joined_wrong_state.dsrc", "examples/logs_joined.dsct"], None, NO, "", 1),
+    (["review", "examples/losses.dsrc", "fate=lost"], None, REVIEWED, "", 0),
+    (["review", "examples/missing.dsrc", "--json"], None, "", "file: examples/missing.dsrc\n", 2),
     (["show", "examples/missing.dsrc"], None, "", "file: examples/missing.dsrc\n", 2),
     ([], "examples/lost_copied_swapped.script", TRIAL, "", 0),
     (["--help"], None, "Shows Simulation Management PDUs", "", 0),

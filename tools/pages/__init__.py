@@ -1,10 +1,11 @@
 """What the program answers by the pages of docs/, for the script outside.py.
 
 LAYOUTS.md and PROFILE.md say which datagrams spell a PDU, FORMATS.md which files are recordings and certificates,
-MODEL.md when a certificate explains a recording, SCRIPTS.md which texts are scripts, and TEXTS.md how each answer is
-written. Nothing here looks at the program.
+MODEL.md when a certificate explains a recording, REVIEW.md what became of its orders, SCRIPTS.md which texts are
+scripts, and TEXTS.md how each answer is written. Nothing here looks at the program.
 """
 from .datagrams import *
 from .files import *
 from .histories import *
+from .reviews import *
 from .scripts import *

@@ -10,7 +10,7 @@ use Rattle.exercise_findings.specs.Column.{IsColumn}
 use Rattle.exercise_findings.specs.Number.{entry_number}
 use Rattle.exercise_findings.specs.Source.{source_of, first_source}
 use Rattle.exercise_findings.specs.Earlier.{request_in, source_in, IsEarlierAt, IsSoFarAt}
-use Rattle.exercise_findings.proofs.Sources.{source_here, source_whole, source_stays, source_below}
+use Rattle.exercise_findings.proofs.Sources.{source_here, source_whole, source_within, source_stays, source_below}
 use Rattle.exercise_findings.proofs.Looks.{below, pair_here, pair_earlier}
 
 -- ---- numbers
@@ -56,8 +56,8 @@ pub found_below : (r : PlainRecording) (b : List ℕ) (n : ℕ) (o : Option ℕ)
 found_below r b n None le found = tt
 found_below r b n (Some e) le found = omega (arith, le, subst (λ o. IfSome o (λ x. x < n)) found (source_below r b n))
 
-pub source_few : (r : PlainRecording) (b : List ℕ) → length r.entries ≤ 1048576 → IfSome (first_source r b (length r.entries)) (λ e. e < 1048576)
-source_few r b few = at_most (first_source r b (length r.entries)) (source_below r b (length r.entries))
+pub source_of_few : (r : PlainRecording) (i : ℕ) → length r.entries ≤ 1048576 → IfSome (source_of r i) (λ e. e < 1048576)
+source_of_few r i few = at_most (source_of r i) (source_within r i)
   where
     at_most : (o : Option ℕ) → IfSome o (λ e. e < length r.entries) → IfSome o (λ e. e < 1048576)
     at_most None l = tt

@@ -1,7 +1,7 @@
 //! The earlier entry that each entry goes back to, in one column: what was sent to the request that
 //! it takes up, what was received to its source.
 
-ghost use Rattle.std.specs.Prelude.{◌≡◌, ◌≢◌, ◌<◌, ◌+◌, ℕ, length, slice_index_or, IfSome, IfNone, Some, is_some, true, unwrap_or, option_map};
+ghost use Rattle.std.specs.Prelude.{◌≡◌, ◌≢◌, ◌<◌, ◌+◌, ℕ, length, slice_index_or, IfSome, IfNone, Some, None, is_some, true, unwrap_or, option_map};
 ghost use Rattle.exercise_model.specs.Recording.{PlainRecording, IsRecording};
 ghost use Rattle.exercise_findings.specs.Column.{IsColumn};
 ghost use Rattle.exercise_findings.specs.Earlier.{request_in, source_in, IsEarlierAt, IsSoFarAt};
@@ -11,7 +11,7 @@ ghost use Rattle.exercise_findings.specs.Source.{first_source, source_of};
 
 use crate::column::replace;
 use crate::number::NO_ENTRY;
-use crate::senders::{Senders, first_source};
+use crate::senders::{Hints, Senders, first_source, latest_source, next_source};
 use exercise_model::{EntryView, ExerciseLog};
 
 /// Stands for entry 0 as a source; no entry has a number as large.
@@ -91,7 +91,7 @@ fn source_so_far(
     ensures later { looks.new.later ≡ 0 → (looks.old.later ≡ 0) × (is_some result ≡ true) }
 {
     if is_looked_for(looks, entry) {
-        let source = first_source(senders, datagram);
+        let source = latest_source(senders, datagram);
         if source.is_some() {
             looks.misses = 0;
             return source;
@@ -120,16 +120,44 @@ pub(crate) fn earlier_so_far<L: ExerciseLog>(
     source_number(source_so_far(senders, looks, datagram, entry), LATER)
 }
 
+/// What an entry receives.
+fn received_at<L: ExerciseLog>(log: &L, entry: usize) -> Option<&[u8]>
+    requires within { entry < length (L.recording log.now).entries }
+    ensures some { let r = L.recording log.now in IfSome result (λ bytes. source_of r entry ≡ first_source r bytes.now (length r.entries)) }
+    ensures none { let r = L.recording log.now in IfNone result (source_of r entry ≡ None) }
+{
+    match log.entry(entry) {
+        EntryView::Received { bytes, .. } => Some(bytes),
+        EntryView::Sent { .. } | EntryView::Told { .. } => None,
+    }
+}
+
 /// The source of an entry, looked up once all are known.
 fn source_at<L: ExerciseLog>(senders: &Senders<'_>, log: &L, entry: usize) -> Option<u32>
     requires within { entry < length (L.recording log.now).entries }
     requires senders { let r = L.recording log.now in AreSenders r (length r.entries) senders.now }
-    ensures source { result ≡ source_of (L.recording log.now) entry }
-    ensures few { IfSome result (λ s. s < 1048576) }
+    ensures { result ≡ source_of (L.recording log.now) entry }
 {
-    match log.entry(entry) {
-        EntryView::Received { bytes, .. } => first_source(senders, bytes),
-        EntryView::Sent { .. } | EntryView::Told { .. } => None,
+    match received_at(log, entry) {
+        Some(bytes) => first_source(senders, bytes),
+        None => None,
+    }
+}
+
+/// The same, looked for where the hints lead first.
+fn source_by_hint<L: ExerciseLog>(
+    senders: &Senders<'_>,
+    hints: &mut Hints,
+    log: &L,
+    entry: usize,
+) -> Option<u32>
+    requires within { entry < length (L.recording log.now).entries }
+    requires senders { let r = L.recording log.now in AreSenders r (length r.entries) senders.now }
+    ensures { result ≡ source_of (L.recording log.now) entry }
+{
+    match received_at(log, entry) {
+        Some(bytes) => next_source(senders, hints, bytes),
+        None => None,
     }
 }
 
@@ -154,7 +182,14 @@ pub(crate) fn source_kept<L: ExerciseLog>(
 }
 
 /// Finds the source of an entry, where it is yet to be found.
-fn find_source<L: ExerciseLog>(column: &mut Vec<u32>, senders: &Senders<'_>, log: &L, entry: usize)
+fn find_source<L: ExerciseLog>(
+    column: &mut Vec<u32>,
+    senders: &Senders<'_>,
+    hints: &mut Hints,
+    log: &L,
+    entry: usize,
+)
+    requires limits { IsRecording (L.recording log.now) }
     requires within { entry < length (L.recording log.now).entries }
     requires senders { let r = L.recording log.now in AreSenders r (length r.entries) senders.now }
     requires so_far { let r = L.recording log.now in IsColumn 0 (IsSoFarAt r) (length r.entries) column.old.items }
@@ -163,7 +198,7 @@ fn find_source<L: ExerciseLog>(column: &mut Vec<u32>, senders: &Senders<'_>, log
     ensures others { (j : ℕ) → j ≢ entry → slice_index_or column.new.items j 0 ≡ slice_index_or column.old.items j 0 }
 {
     if column[entry] == LATER {
-        let source = source_number(source_at(senders, log, entry), NO_ENTRY);
+        let source = source_number(source_by_hint(senders, hints, log, entry), NO_ENTRY);
         replace(column, entry, source);
     }
 }
@@ -172,10 +207,12 @@ fn find_source<L: ExerciseLog>(column: &mut Vec<u32>, senders: &Senders<'_>, log
 /// sent first.
 pub(crate) fn settle_source<L: ExerciseLog>(
     senders: &Option<Senders<'_>>,
+    hints: &mut Hints,
     column: &mut Vec<u32>,
     log: &L,
     entry: usize,
 )
+    requires limits { IsRecording (L.recording log.now) }
     requires within { entry < length (L.recording log.now).entries }
     requires senders { let r = L.recording log.now in IfSome senders.now (AreSenders r (length r.entries)) }
     requires so_far { let r = L.recording log.now in IsColumn 0 (IsSoFarAt r) (length r.entries) column.old.items }
@@ -183,7 +220,7 @@ pub(crate) fn settle_source<L: ExerciseLog>(
     ensures so_far { let r = L.recording log.now in IsColumn 0 (IsSoFarAt r) (length r.entries) column.new.items }
 {
     if let Some(senders) = senders {
-        find_source(column, senders, log, entry);
+        find_source(column, senders, hints, log, entry);
     }
 }
 
@@ -191,10 +228,12 @@ pub(crate) fn settle_source<L: ExerciseLog>(
 /// so many sources that are yet to be found.
 pub(crate) fn all_earlier<L: ExerciseLog>(
     senders: &Senders<'_>,
+    hints: &mut Hints,
     log: &L,
     so_far: Vec<u32>,
     later: u32,
 ) -> Vec<u32>
+    requires limits { IsRecording (L.recording log.now) }
     requires senders { let r = L.recording log.now in AreSenders r (length r.entries) senders.now }
     requires so_far { let r = L.recording log.now in IsColumn 0 (IsSoFarAt r) (length r.entries) so_far.items }
     requires found { let r = L.recording log.now in later ≡ 0 → IsColumn 0 (IsEarlierAt r) (length r.entries) so_far.items }
@@ -205,7 +244,7 @@ pub(crate) fn all_earlier<L: ExerciseLog>(
         return column;
     }
     for entry in 0..log.entry_count() {
-        find_source(&mut column, senders, log, entry);
+        find_source(&mut column, senders, hints, log, entry);
     }
     column
 }

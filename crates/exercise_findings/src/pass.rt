@@ -13,7 +13,7 @@ use crate::earlier::{Looks, all_earlier, earlier_so_far, settle_source};
 use crate::found::{find_received, find_sent};
 use crate::number::{NO_ENTRY, entry_number};
 use crate::requests::{Requests, no_requests};
-use crate::senders::{Senders, no_senders, note_sender};
+use crate::senders::{Hints, Senders, no_hints, no_senders, note_sender};
 use crate::tables::{Tables, no_tables, note_key, note_tables};
 use dis_records::EntityState;
 use exercise_model::{Cause, EntryView, ExerciseLog};
@@ -55,6 +55,8 @@ pub(crate) struct Passed<'a> {
     /// The entry by which each datagram was sent first by the station that it comes from, if it is
     /// kept.
     pub senders: Option<Senders<'a>>,
+    /// Where sources are looked for first.
+    pub hints: Hints,
     /// What the changes behind the Ables that were received are looked up by.
     pub ables: Vec<Able>,
     /// How many datagrams are "other".
@@ -210,8 +212,9 @@ fn pass_over<'a, L: ExerciseLog>(alloc: Global, log: &'a L) -> Result<Pass<'a>, 
 
 /// What all entries were found to be, with all sources. It is not asked for any more where a datagram
 /// was sent first.
-fn with_all_sources<'a, L: ExerciseLog>(log: &L, pass: Pass<'_>) -> Passed<'a>
-    requires { let r = L.recording log.now in IsPass r (length r.entries) pass }
+fn with_all_sources<'a, L: ExerciseLog>(log: &L, pass: Pass<'_>, hints: Hints) -> Passed<'a>
+    requires limits { IsRecording (L.recording log.now) }
+    requires pass { let r = L.recording log.now in IsPass r (length r.entries) pass }
     ensures { AreFound (L.recording log.now) result }
 {
     let Pass {
@@ -223,18 +226,20 @@ fn with_all_sources<'a, L: ExerciseLog>(log: &L, pass: Pass<'_>) -> Passed<'a>
         senders,
         others,
     } = pass;
+    let mut hints = hints;
     Passed {
         tables,
         causes,
-        earlier: all_earlier(&senders, log, earlier, looks.later),
+        earlier: all_earlier(&senders, &mut hints, log, earlier, looks.later),
         senders: None,
+        hints,
         ables,
         others,
     }
 }
 
 /// What all entries were found to be, where sources are looked up when they are asked for.
-fn with_senders<'a, L: ExerciseLog>(log: &L, pass: Pass<'a>) -> Passed<'a>
+fn with_senders<'a, L: ExerciseLog>(log: &L, pass: Pass<'a>, hints: Hints) -> Passed<'a>
     requires { let r = L.recording log.now in IsPass r (length r.entries) pass }
     ensures { AreFound (L.recording log.now) result }
 {
@@ -252,6 +257,7 @@ fn with_senders<'a, L: ExerciseLog>(log: &L, pass: Pass<'a>) -> Passed<'a>
         causes,
         earlier,
         senders: Some(senders),
+        hints,
         ables,
         others,
     }
@@ -264,18 +270,26 @@ pub(crate) fn find<'a, L: ExerciseLog>(alloc: Global, log: &'a L) -> Result<Pass
     ensures { IfOk result (AreFindings (L.recording log.now)) }
 {
     let pass = pass_over(alloc, log)?;
+    let hints = no_hints(alloc)?;
     if pass.looks.later > pass.looks.most {
-        Ok(with_senders(log, pass))
+        Ok(with_senders(log, pass, hints))
     } else {
-        Ok(with_all_sources(log, pass))
+        Ok(with_all_sources(log, pass, hints))
     }
 }
 
 /// Finds the source of an entry, where it is yet to be found.
 pub(crate) fn settle<L: ExerciseLog>(found: &mut Passed<'_>, log: &L, entry: usize)
+    requires limits { IsRecording (L.recording log.now) }
     requires within { entry < length (L.recording log.now).entries }
     requires found { AreFound (L.recording log.now) found.old }
     ensures { AreFound (L.recording log.now) found.new }
 {
-    settle_source(&found.senders, &mut found.earlier, log, entry);
+    settle_source(
+        &found.senders,
+        &mut found.hints,
+        &mut found.earlier,
+        log,
+        entry,
+    );
 }

@@ -1,6 +1,6 @@
 //! Where each datagram was sent first, kept in a table under its bytes.
 
-ghost use Rattle.std.specs.Prelude.{◌≡◌, ◌<◌, ◌+◌, ◌∷◌, [], ℕ, None, length, OnOk, bytes_eq};
+ghost use Rattle.std.specs.Prelude.{◌≡◌, ◌<◌, ◌+◌, ◌∷◌, [], ℕ, Some, None, length, IfSome, OnOk, bytes_eq};
 ghost use Rattle.std.specs.Cmp.Rules.{comparing, hashing};
 ghost use Rattle.std.specs.Cmp.Lexicographic.{bytes_decides};
 ghost use Rattle.std.proofs.Common.{ap};
@@ -87,6 +87,79 @@ pub(crate) fn first_source(senders: &Senders<'_>, datagram: &[u8]) -> Option<u32
 {
     match senders.get(&Datagram { bytes: datagram }) {
         Some(entry) => Some(*entry),
+        None => None,
+    }
+}
+
+/// The entry by which what is kept at a place was sent first, where that has these bytes.
+fn kept_at(senders: &Senders<'_>, place: usize, datagram: &[u8]) -> Option<u32>
+    ensures { (r : PlainRecording) (n : ℕ) → AreSenders r n senders.now → IfSome result (λ source. first_source r datagram.now n ≡ Some source) }
+{
+    match senders.get_index(place) {
+        Some((kept, entry)) if kept.bytes == datagram => Some(*entry),
+        _ => None,
+    }
+}
+
+/// As [`first_source`], of a datagram that was mostly kept last: where that one has these bytes,
+/// nothing is hashed.
+pub(crate) fn latest_source(senders: &Senders<'_>, datagram: &[u8]) -> Option<u32>
+    ensures { (r : PlainRecording) (n : ℕ) → AreSenders r n senders.now → result ≡ first_source r datagram.now n }
+{
+    match kept_at(senders, senders.len().saturating_sub(1), datagram) {
+        Some(source) => Some(source),
+        None => first_source(senders, datagram),
+    }
+}
+
+/// Where the next datagram of a sender is looked for first, under so many of its address: behind the
+/// last one that was found. What is found is the same whatever stands here.
+pub(crate) type Hints = Vec<usize>;
+
+/// How many hints there are.
+const HINTS: usize = 256;
+
+/// Nothing was found so far.
+pub(crate) fn no_hints(alloc: Global) -> Result<Hints, AllocError> {
+    vec![in alloc; 0; HINTS]
+}
+
+/// The number of the hint for a datagram, by where it says that it comes from.
+fn hint_of(datagram: &[u8]) -> usize {
+    match (datagram.get(13), datagram.get(15)) {
+        (Some(site), Some(application)) => {
+            (usize::from(*site) * 16 + usize::from(*application)) % HINTS
+        }
+        _ => 0,
+    }
+}
+
+/// Keeps that a datagram of this hint was found at a place.
+fn keep_hint(hints: &mut Hints, hint: usize, place: usize) {
+    if hint < hints.len() {
+        hints[hint] = place.saturating_add(1);
+    }
+}
+
+/// As [`first_source`], looked for first behind the last datagram of the same sender: stations mostly
+/// receive what one sent in the order in which it was sent.
+pub(crate) fn next_source(senders: &Senders<'_>, hints: &mut Hints, datagram: &[u8]) -> Option<u32>
+    ensures { (r : PlainRecording) (n : ℕ) → AreSenders r n senders.now → result ≡ first_source r datagram.now n }
+{
+    let hint = hint_of(datagram);
+    let place = match hints.get(hint) {
+        Some(place) => *place,
+        None => 0,
+    };
+    if let Some(source) = kept_at(senders, place, datagram) {
+        keep_hint(hints, hint, place);
+        return Some(source);
+    }
+    match senders.get_full(&Datagram { bytes: datagram }) {
+        Some((place, _, entry)) => {
+            keep_hint(hints, hint, place);
+            Some(*entry)
+        }
         None => None,
     }
 }

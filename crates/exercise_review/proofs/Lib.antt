@@ -17,3 +17,4 @@ mod Registered
 mod Under
 mod Stationed
 mod Tallies
+mod Places

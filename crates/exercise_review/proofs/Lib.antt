@@ -18,3 +18,4 @@ mod Under
 mod Stationed
 mod Tallies
 mod Places
+mod Idle

@@ -1,5 +1,5 @@
 -- How many orders have each fate, and what is counted of each station (profile).
-use Rattle.std.specs.Prelude.{◌≡◌, ◌<◌, ℕ, ◌+◌, ◌*◌, List, length, option_map, option_and_then, slice_index_or, Bool, true, false, ◌&&◌, ◌==◌, Option, Some, None, slice_get}
+use Rattle.std.specs.Prelude.{◌≡◌, ◌<◌, ℕ, ◌+◌, ◌*◌, List, length, option_map, option_and_then, slice_index_or, Bool, false, ◌&&◌, ◌==◌, Option, Some, None, slice_get}
 use Rattle.std.specs.Option.{option_map_or}
 use Rattle.dis_records.specs.declared.entity_state.EntityState.{EntityState}
 use Rattle.exercise_model.specs.Entry.{Entry}

@@ -17,3 +17,5 @@ mod Registered
 mod Under
 mod Stationed
 mod Tallies
+mod Places
+mod Idle

@@ -1,6 +1,6 @@
 -- A life by the changes of its station alone.
-use Rattle.std.proofs.Common.{◌≡◌, ℕ, zero, suc, ◌+◌, ◌<◌, List, [], ◌∷◌, ◌++◌, length, take, get_or, cond, Bool, true, false, Option, Some, None, refl, sym, ap, ◌∙◌, arith}
-use Rattle.std.specs.Prelude.{option_map, option_and_then, if◌then◌else◌}
+use Rattle.std.proofs.Common.{◌≡◌, ℕ, zero, suc, ◌+◌, ◌<◌, List, [], ◌∷◌, ◌++◌, length, take, get_or, cond, true, Option, Some, None, refl, sym, ap, ◌∙◌}
+use Rattle.std.specs.Prelude.{option_map, option_and_then}
 use Rattle.std.specs.Option.{option_map_or, option_to_list}
 use Rattle.std.proofs.lemmas.List.{take_more}
 use Rattle.dis_records.specs.declared.entity_state.EntityState.{EntityState}
@@ -39,7 +39,7 @@ entity_more x o e r s i =
       | Some v ↦ refl
     ]
 
-state_is : (r : PlainRecording) (s e n : ℕ) → is_entity e ≡ true → state_before r s e n ≡ entity_state r.setting.exercise (station_at r s) (log_before r s n) e
+pub state_is : (r : PlainRecording) (s e n : ℕ) → is_entity e ≡ true → state_before r s e n ≡ entity_state r.setting.exercise (station_at r s) (log_before r s n) e
 unfolding state_after
 state_is r s e n is = ap (λ b. cond b (entity_state r.setting.exercise (station_at r s) (log_before r s n) e) states.Absent) is
 
@@ -54,7 +54,7 @@ lived_by-append : (e : ℕ) (l : LifeSoFar) (xs ys : List Made) → lived_by e l
 lived_by-append e l [] ys = refl
 lived_by-append e l (x ∷ xs) ys = lived_by-append e (lived_on l x.entry (changed e l.state x.change)) xs ys
 
-lived_by-more : (e : ℕ) (l : LifeSoFar) (xs : List Made) (m : Made)
+pub lived_by-more : (e : ℕ) (l : LifeSoFar) (xs : List Made) (m : Made)
     → lived_by e l (xs ++ m ∷ []) ≡ lived_on (lived_by e l xs) m.entry (changed e (lived_by e l xs).state m.change)
 lived_by-more e l xs m = lived_by-append e l xs (m ∷ [])
 

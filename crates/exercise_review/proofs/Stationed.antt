@@ -1,5 +1,5 @@
 -- The parties of an order of which nobody outside can be one: recorded stations, whose addresses rise.
-use Rattle.std.proofs.Common.{◌≡◌, ◌≢◌, ⊎_elim, ℕ, zero, suc, ◌+◌, ◌*◌, ◌<◌, ◌≤◌, List, [], ◌∷◌, ◌++◌, length, Bool, true, false, Option, Some, None, refl, sym, ap, ◌∙◌, subst, arith}
+use Rattle.std.proofs.Common.{◌≡◌, ◌≢◌, ⊎_elim, ℕ, zero, suc, ◌+◌, ◌<◌, ◌≤◌, List, [], ◌∷◌, ◌++◌, length, Bool, true, false, Option, Some, None, refl, sym, ap, ◌∙◌, arith}
 use Rattle.std.specs.Prelude.{◌&&◌, ◌||◌, not, is_some, nat_lt, nat_le, slice_index_or, if◌then◌else◌}
 use Rattle.std.specs.List.{list_all}
 use Rattle.std.specs.Option.{option_or, option_to_list}
@@ -8,7 +8,7 @@ use Rattle.std.proofs.lemmas.Bool.{lt-ltb, ltb-true, leb-true, eqb-true, eq-eqb,
 use Rattle.dis_records.specs.declared.address.TheConstants.{LARGEST_ADDRESS_PART}
 use Rattle.dis_records.specs.Address.{Pair, is_address_part, is_address}
 use Rattle.exercise_model.specs.declared.station.TheConstants.{MOST_STATIONS}
-use Rattle.exercise_model.specs.Station.{StationData, is_station, is_below, is_above, are_rising}
+use Rattle.exercise_model.specs.Station.{StationData, is_station, is_below, are_rising}
 use Rattle.exercise_model.specs.Recording.{PlainRecording, IsRecording}
 use Rattle.exercise_model.specs.History.{station_at}
 use Rattle.exercise_model.specs.Setting.{nowhere, is_open}

@@ -1,6 +1,6 @@
 -- All entries that have to do with an order at a station have the key of the station and of the order.
 use Rattle.std.proofs.Common.{◌≡◌, ℕ, List, length, Bool, true, false, cond, Option, Some, None, refl, sym, ap, ◌∙◌}
-use Rattle.std.specs.Prelude.{IfSome, nat_eq, ◌&&◌, bytes_eq, is_some, slice_get, option_map, option_and_then, if◌then◌else◌}
+use Rattle.std.specs.Prelude.{IfSome, nat_eq, ◌&&◌, bytes_eq, slice_get, option_map, option_and_then}
 use Rattle.std.specs.Option.{option_map_or}
 use Rattle.std.specs.Cmp.Lexicographic.{bytes_decides}
 use Rattle.std.proofs.lemmas.Bool.{eqb-true, eq-eqb, and_parts}
@@ -16,7 +16,7 @@ use Rattle.dis_records.specs.Address.{Pair}
 use Rattle.exercise_review.specs.Entries.{bytes_sent_by, bytes_got_by, bytes_sent, bytes_got, sent_by, got_by}
 use Rattle.exercise_review.specs.Order.{OrderData, sends_order, gets_order, sends_under_id, is_first_under_id}
 use Rattle.exercise_review.specs.Party.{is_told_from, tells_from}
-use Rattle.exercise_review.specs.Reply.{answers_order, takes_copy, is_reply, is_changing_reply, replies_in, has_reply_in, is_news}
+use Rattle.exercise_review.specs.Reply.{answers_order, is_reply, is_changing_reply, replies_in, has_reply_in, is_news}
 use Rattle.exercise_review.specs.Word.{is_settling}
 use Rattle.exercise_review.specs.Register.{number_under, pdu_key, maker_key, entry_key, key_at, has_key, IsUnder}
 use Rattle.exercise_review.proofs.Runs.{some_passes, there}

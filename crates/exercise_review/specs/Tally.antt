@@ -1,5 +1,5 @@
 -- How many orders have each fate, and what is counted of each station (profile).
-use Rattle.std.specs.Prelude.{◌≡◌, ℕ, List, length, Bool, true, false, ◌&&◌, ◌==◌, Option, Some, None, slice_get}
+use Rattle.std.specs.Prelude.{◌≡◌, ◌<◌, ℕ, ◌+◌, ◌*◌, List, length, option_map, option_and_then, slice_index_or, Bool, false, ◌&&◌, ◌==◌, Option, Some, None, slice_get}
 use Rattle.std.specs.Option.{option_map_or}
 use Rattle.dis_records.specs.declared.entity_state.EntityState.{EntityState}
 use Rattle.exercise_model.specs.Entry.{Entry}
@@ -15,6 +15,7 @@ use Rattle.exercise_review.specs.declared.party.Party.{Party}
 use Rattle.exercise_review.specs.declared.party.Party.TheVariants as parties
 use Rattle.exercise_review.specs.declared.told.OrderAt.{OrderAt}
 use Rattle.exercise_review.specs.declared.tally.FateCounts.{FateCounts}
+use Rattle.exercise_review.specs.declared.tally.Counts.{Counts}
 use Rattle.exercise_review.specs.declared.tally.StationCounts.{StationCounts}
 use Rattle.exercise_review.specs.Counted.{count_below}
 use Rattle.exercise_review.specs.Order.{OrderData}
@@ -92,6 +93,28 @@ is_made_by s o = same_id o.maker (Some s)
 abbrev pub is_running : ℕ × EntityState → Bool
 is_running present = same_state present.1 Running
 
+-- ---- where they are counted
+
+-- the station of each entry
+unfoldable pub entry_places : PlainRecording → ℕ → Option ℕ
+entry_places r i = option_map (λ e. station_of (event_of e)) (slice_get r.entries i)
+
+-- the maker of each order, if a recorded station made it
+unfoldable pub maker_places : List OrderData → ℕ → Option ℕ
+maker_places os i = option_and_then (λ o. o.maker) (slice_get os i)
+
+-- each station has nine places, one for each fate
+abbrev pub place_at : Fate → Option Party → Option ℕ
+place_at f None = None
+place_at f (Some (parties.Station t)) = Some (t * 9 + fate_number f)
+place_at f (Some (parties.Outside a)) = None
+
+abbrev pub fate_place : OrderAt → Option ℕ
+fate_place x = place_at x.outcome.fate x.outcome.party
+
+unfoldable pub fate_places : List OrderAt → ℕ → Option ℕ
+fate_places xs i = option_and_then fate_place (slice_get xs i)
+
 -- WHAT IS COUNTED OF STATION s, beside its address: the entries of its log, the orders that it made, the fates of those that it was party to, and its entities
 -- that are there at the end, and how many of them run
 unfoldable pub station_counts : PlainRecording → ℕ → StationCounts
@@ -103,3 +126,12 @@ station_counts r s = record {
   entities = length (states_of r s);
   running = many is_running (states_of r s);
 }
+
+-- what was counted of each station: its entries, the orders that it made, and the fates of those that it was party to
+pub record AreCounted (r : PlainRecording) (c : Counts) : Type 0 where
+  pub records : (s : ℕ) → s < length r.setting.stations → slice_index_or c.records.items s 0 ≡ many (is_entry_of s) r.entries
+  pub made : (s : ℕ) → s < length r.setting.stations → slice_index_or c.made.items s 0 ≡ many (is_made_by s) (orders_of r)
+  pub fates : (s : ℕ) → s < length r.setting.stations → (f : Fate) → slice_index_or c.fates.items (s * 9 + fate_number f) 0 ≡ many (is_fate_at s f) (orders_told r)
+  pub room : length c.fates.items ≡ length r.setting.stations * 9
+  pub many_records : length c.records.items ≡ length r.setting.stations
+  pub many_made : length c.made.items ≡ length r.setting.stations

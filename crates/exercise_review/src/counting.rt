@@ -39,7 +39,8 @@ pub(crate) fn counts_of<P: Placing>(
     end: usize,
     places: usize,
 ) -> Result<Vec<usize>, AllocError>
-    ensures { IfOk result (λ counts. (k : ℕ) → k < places → slice_index_or counts.items k 0 ≡ count_at (P.places placing.now) k end) }
+    ensures count { IfOk result (λ counts. length counts.items ≡ places) }
+    ensures each { IfOk result (λ counts. (k : ℕ) → k < places → slice_index_or counts.items k 0 ≡ count_at (P.places placing.now) k end) }
 {
     let mut counts = vec![in alloc; 0; places]?;
     for number in 0..end {

@@ -128,11 +128,8 @@ fn has_replied<L: ExerciseLog>(replies: &Replies<'_, L>) -> bool
 fn heard<L: ExerciseLog>(replies: &Replies<'_, L>) -> Option<Word>
     ensures { result ≡ word_heard replies.now.findings.now (order_of replies.now.order.now) replies.now.station }
 {
-    match first_settling(
-        replies.findings,
-        replies.order.maker_key(),
-        &News { replies },
-    ) {
+    let news = News { replies };
+    match first_settling(replies.findings, replies.order.maker_key(), &news) {
         Some(entry) => word_at(replies.findings, entry),
         None => None,
     }

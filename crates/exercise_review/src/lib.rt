@@ -23,6 +23,7 @@ mod fault;
 mod filter;
 mod laws;
 mod life;
+mod marks;
 mod missing;
 mod order;
 mod outcome;

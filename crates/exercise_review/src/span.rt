@@ -1,6 +1,6 @@
 //! The stretches of the lives of a recording's entities, as they are told.
 
-ghost use Rattle.std.specs.Prelude.{◌≡◌, ◌<◌, ◌≤◌, ◌&&◌, ◌==◌, length, map, slice_get, option_map, option_and_then, true, IfOk, OnOk, if◌then◌else◌, None};
+ghost use Rattle.std.specs.Prelude.{◌≡◌, ◌<◌, ◌≤◌, ◌&&◌, ◌==◌, [], length, map, slice_get, slice_index_or, false, option_map, option_and_then, true, IfOk, OnOk, if◌then◌else◌, None};
 ghost use Rattle.siman_pdus.specs.Reading.{pdu_of};
 ghost use Rattle.exercise_model.specs.Station.{is_entity};
 ghost use Rattle.exercise_review.specs.Life.{life_in, life_before, lives_of};
@@ -11,6 +11,7 @@ ghost use Rattle.exercise_review.specs.Span.{request_behind, span_of, entity_spa
 use crate::entries::{entry_at, entry_count, meant_at};
 use crate::fault::ReviewFault;
 use crate::life::{Life, Stretch, end_stretch, live_on};
+use crate::marks::{is_marked, marks_of};
 use crate::outcome::stamp_at;
 use crate::parties::{parts_in, station_parts};
 use crate::party::Outsider;
@@ -209,6 +210,31 @@ fn push_entity<L: ExerciseLog>(
     push_stretches(spans, most, findings, id, &stretches)
 }
 
+/// Adds those of an entity of a station, of which nothing is told where it is not marked.
+fn push_marked<L: ExerciseLog>(
+    alloc: Global,
+    spans: &mut Vec<Span>,
+    most: usize,
+    findings: &Register<'_, L>,
+    station: u16,
+    entity: u16,
+    changes: &[Made],
+    marks: &[bool],
+) -> Result<(), ReviewFault>
+    requires at { station < length findings.now.setting.stations }
+    requires entity { is_entity entity ≡ true }
+    requires changes { changes.now ≡ changes_made findings.now station }
+    requires marks { slice_index_or marks.now entity true ≡ false → entity_spans findings.now station entity ≡ [] }
+    requires room { length spans.old.items ≤ most }
+    ensures { AddsWithin most spans.old.items (entity_spans findings.now station entity) result spans.new.items }
+{
+    if is_marked(marks, entity) {
+        push_entity(alloc, spans, most, findings, station, entity, changes)
+    } else {
+        Ok(())
+    }
+}
+
 /// Adds the stretches of the lives of a station's entities, where there is room for so many.
 #[tactic(auto, unfolding(crate::specs::Span::spans_of))]
 fn push_station<L: ExerciseLog>(
@@ -223,8 +249,18 @@ fn push_station<L: ExerciseLog>(
     ensures { AddsWithin most spans.old.items (spans_of findings.now station) result spans.new.items }
 {
     let changes = changes_made(alloc, findings, station)?;
+    let marks = marks_of(alloc, findings, station, &changes)?;
     for below in 0..LARGEST_ENTITY {
-        push_entity(alloc, spans, most, findings, station, below + 1, &changes)?;
+        push_marked(
+            alloc,
+            spans,
+            most,
+            findings,
+            station,
+            below + 1,
+            &changes,
+            &marks,
+        )?;
     }
     Ok(())
 }

@@ -1,12 +1,14 @@
 //! How many orders have each fate, and what is counted of each station.
 
-ghost use Rattle.std.specs.Prelude.{◌≡◌, ◌<◌, ◌≤◌, length, map, IfOk, slice_index_or, [], ℕ};
+ghost use Rattle.std.specs.Prelude.{◌≡◌, ◌<◌, ◌≤◌, ◌+◌, ◌*◌, length, map, IfOk, slice_index_or, [], ℕ};
 ghost use Rattle.exercise_model.specs.Account.{states_of, values_below};
 ghost use Rattle.exercise_findings.specs.Account.{TellsAccount};
 ghost use Rattle.exercise_review.specs.Order.{order_of};
 ghost use Rattle.exercise_review.specs.Told.{orders_of, orders_told};
-ghost use Rattle.exercise_review.specs.Tally.{fate_number, same_fate, is_station, is_fate, is_fate_at, passes_at, many, fates_of, fates_at, is_entry_of, is_made_by, is_running, station_counts};
+ghost use Rattle.exercise_review.specs.Tally.{fate_number, same_fate, is_fate, is_fate_at, passes_at, many, counts_by, fates_of, is_entry_of, is_made_by, is_running, fate_place, fate_places, entry_places, maker_places, AreCounted, station_counts};
+ghost use Rattle.exercise_review.specs.declared.fate.Fate.{Fate};
 
+use crate::counting::{Placing, counts_of};
 use crate::fate::Fate;
 use crate::order::Order;
 use crate::parties::parts_of;
@@ -17,6 +19,9 @@ use dis_records::EntityState;
 use exercise_findings::Account;
 use exercise_model::{EntryView, ExerciseLog};
 use std::alloc::{AllocError, Global};
+
+/// How many fates there are.
+const FATES: usize = 9;
 
 /// How many orders at their parties have each fate.
 #[derive(Clone, Copy, PartialEq, Eq)]
@@ -114,130 +119,128 @@ pub(crate) fn fates_of(told: &[OrderAt]) -> FateCounts
     }
 }
 
-/// Whether a party is a recorded station.
-fn is_station(station: u16, party: Option<Party>) -> bool
-    ensures { result ≡ is_station station party }
+/// Where an order at a party is counted, if that is a recorded station: each has a place for each fate.
+fn fate_place(told: &OrderAt) -> Option<usize>
+    ensures { result ≡ fate_place told.now }
 {
-    match party {
-        Some(Party::Station(at)) => at == station,
-        Some(Party::Outside(_)) | None => false,
-    }
-}
-
-/// Which orders have a fate at a station.
-#[derive(Drop)]
-struct HaveFateAt<'a> {
-    station: u16,
-    told: &'a [OrderAt],
-    fate: Fate,
-}
-
-impl Question for HaveFateAt<'_> {
-    ghost test = { λ q. passes_at (is_fate_at q.station q.fate) q.told.now };
-
-    #[tactic(auto, unfolding(crate::specs::Tally::passes_at))]
-    fn passes(&self, place: usize) -> bool {
-        match self.told.get(place) {
-            Some(told) => {
-                is_station(self.station, told.outcome.party)
-                    && told.outcome.fate.number() == self.fate.number()
-            }
-            None => false,
+    match told.outcome.party {
+        Some(Party::Station(station)) => {
+            Some(usize::from(station) * FATES + usize::from(told.outcome.fate.number()))
         }
+        Some(Party::Outside(_)) | None => None,
     }
 }
 
-/// How many orders have a fate at a station.
-#[tactic(auto, unfolding(crate::specs::Tally::many))]
-fn fated_at(station: u16, told: &[OrderAt], fate: Fate) -> usize
-    ensures { result ≡ many (is_fate_at station fate) told.now }
-{
-    let question = HaveFateAt {
-        station,
-        told,
-        fate,
-    };
-    count_below(&question, told.len())
-}
-
-/// How many orders have each fate at a station.
-#[tactic(auto, unfolding(crate::specs::Tally::fates_at))]
-fn fates_at(station: u16, told: &[OrderAt]) -> FateCounts
-    ensures { result ≡ fates_at station told.now }
-{
-    FateCounts {
-        done: fated_at(station, told, Fate::Done),
-        answered: fated_at(station, told, Fate::Answered),
-        refused: fated_at(station, told, Fate::Refused),
-        pending: fated_at(station, told, Fate::Pending),
-        unheard: fated_at(station, told, Fate::Unheard),
-        unanswered: fated_at(station, told, Fate::Unanswered),
-        lost: fated_at(station, told, Fate::Lost),
-        unknown: fated_at(station, told, Fate::Unknown),
-        nobody: fated_at(station, told, Fate::Nobody),
-    }
-}
-
-/// Which entries are those of a station.
+/// Where orders at their parties are counted.
 #[derive(Drop)]
-struct EntriesOf<'a, L: ExerciseLog> {
-    log: &'a L,
-    station: u16,
+struct FatePlaces<'a> {
+    told: &'a [OrderAt],
 }
 
-impl<L: ExerciseLog> Question for EntriesOf<'_, L> {
-    ghost test = { λ q. passes_at (is_entry_of q.station) (L.recording q.log.now).entries };
+impl Placing for FatePlaces<'_> {
+    ghost places = { λ q. fate_places q.told.now };
 
-    #[tactic(auto, unfolding(crate::specs::Tally::passes_at))]
-    fn passes(&self, entry: usize) -> bool {
+    #[tactic(auto, unfolding(crate::specs::Tally::fate_places))]
+    fn place(&self, number: usize) -> Option<usize> {
+        fate_place(self.told.get(number)?)
+    }
+}
+
+/// Which station each entry is one of.
+#[derive(Drop)]
+struct EntryPlaces<'a, L: ExerciseLog> {
+    log: &'a L,
+}
+
+impl<L: ExerciseLog> Placing for EntryPlaces<'_, L> {
+    ghost places = { λ q. entry_places (L.recording q.log.now) };
+
+    #[tactic(auto, unfolding(crate::specs::Tally::entry_places))]
+    fn place(&self, entry: usize) -> Option<usize> {
         if entry >= self.log.entry_count() {
-            return false;
+            return None;
         }
         let at = match self.log.entry(entry) {
             EntryView::Sent { station, .. } => station,
             EntryView::Received { station, .. } => station,
             EntryView::Told { station, .. } => station,
         };
-        at == self.station
+        Some(usize::from(at))
     }
 }
 
-/// How many entries the log of a station has.
-#[tactic(auto, unfolding(crate::specs::Tally::many))]
-fn records_of<L: ExerciseLog>(log: &L, station: u16) -> usize
-    ensures { result ≡ many (is_entry_of station) (L.recording log.now).entries }
-{
-    count_below(&EntriesOf { log, station }, log.entry_count())
-}
-
-/// Which orders a station made.
+/// Which station made each order.
 #[derive(Drop)]
-struct AreMadeBy<'a> {
+struct MakerPlaces<'a> {
     orders: &'a [Order<'a>],
-    station: u16,
 }
 
-impl Question for AreMadeBy<'_> {
-    ghost test = { λ q. passes_at (is_made_by q.station) (map order_of q.orders.now) };
+impl Placing for MakerPlaces<'_> {
+    ghost places = { λ q. maker_places (map order_of q.orders.now) };
 
-    #[tactic(auto, unfolding(crate::specs::Tally::passes_at))]
-    fn passes(&self, place: usize) -> bool {
-        match self.orders.get(place) {
-            Some(order) => match order.maker {
-                Some(maker) => maker == self.station,
-                None => false,
-            },
-            None => false,
-        }
+    #[tactic(auto, unfolding(crate::specs::Tally::maker_places))]
+    fn place(&self, number: usize) -> Option<usize> {
+        Some(usize::from(self.orders.get(number)?.maker?))
     }
 }
 
-/// How many of these orders a station made.
-#[tactic(auto, unfolding(crate::specs::Tally::many))]
-fn made_by(orders: &[Order<'_>], station: u16) -> usize
-    ensures { result ≡ many (is_made_by station) (map order_of orders.now) }
+/// How many entries the log of each station has.
+#[tactic(auto, using(crate::proofs::Places::entries_counted))]
+fn records_by_station<L: ExerciseLog>(alloc: Global, log: &L) -> Result<Vec<usize>, AllocError>
+    ensures each { let r = L.recording log.now in IfOk result (λ counts. (s : ℕ) → s < length r.setting.stations → slice_index_or counts.items s 0 ≡ many (is_entry_of s) r.entries) }
+    ensures count { IfOk result (λ counts. length counts.items ≡ length (L.recording log.now).setting.stations) }
 {
-    count_below(&AreMadeBy { orders, station }, orders.len())
+    counts_of(
+        alloc,
+        &EntryPlaces { log },
+        log.entry_count(),
+        log.station_count(),
+    )
+}
+
+/// How many of these orders each of so many stations made.
+#[tactic(auto, using(crate::proofs::Places::orders_counted))]
+fn made_by_station(
+    alloc: Global,
+    orders: &[Order<'_>],
+    stations: usize,
+) -> Result<Vec<usize>, AllocError>
+    ensures each { IfOk result (λ counts. (s : ℕ) → s < stations → slice_index_or counts.items s 0 ≡ many (is_made_by s) (map order_of orders.now)) }
+    ensures count { IfOk result (λ counts. length counts.items ≡ stations) }
+{
+    counts_of(alloc, &MakerPlaces { orders }, orders.len(), stations)
+}
+
+/// How many of these orders at their parties have each fate at each of so many stations.
+#[tactic(auto, using(crate::proofs::Places::fates_counted, crate::proofs::Places::place_within))]
+fn fates_by_station(
+    alloc: Global,
+    told: &[OrderAt],
+    stations: usize,
+) -> Result<Vec<usize>, AllocError>
+    requires { stations ≤ 65536 }
+    ensures each { IfOk result (λ counts. (s : ℕ) → s < stations → (f : Fate) → slice_index_or counts.items (s * 9 + fate_number f) 0 ≡ many (is_fate_at s f) told.now) }
+    ensures count { IfOk result (λ counts. length counts.items ≡ stations * 9) }
+{
+    counts_of(alloc, &FatePlaces { told }, told.len(), stations * FATES)
+}
+
+/// The counts of all fates, which stand one after the other from a place on.
+fn fates_from(counts: &[usize], first: usize) -> FateCounts
+    requires { first + 9 ≤ length counts.now }
+    ensures { result ≡ counts_by (λ f. slice_index_or counts.now (first + fate_number f) 0) }
+{
+    FateCounts {
+        done: counts[first],
+        answered: counts[first + 1],
+        refused: counts[first + 2],
+        pending: counts[first + 3],
+        unheard: counts[first + 4],
+        unanswered: counts[first + 5],
+        lost: counts[first + 6],
+        unknown: counts[first + 7],
+        nobody: counts[first + 8],
+    }
 }
 
 /// Which entities run.
@@ -266,28 +269,57 @@ fn running_of(present: &[(u16, EntityState)]) -> usize
     count_below(&AreRunning { present }, present.len())
 }
 
-/// What is counted of a station, by the account of the recording, its orders, and these at their
-/// parties.
-#[tactic(auto, unfolding(crate::specs::Tally::station_counts))]
+/// What is counted of the entries, of the orders and of these at their parties.
+#[derive(Drop)]
+struct Counts {
+    records: Vec<usize>,
+    made: Vec<usize>,
+    fates: Vec<usize>,
+}
+
+/// Counts the entries of each station, the orders that it made, and the fates of those that it was
+/// party to.
+fn counts_by_station<L: ExerciseLog>(
+    alloc: Global,
+    log: &L,
+    orders: &[Order<'_>],
+    told: &[OrderAt],
+) -> Result<Counts, AllocError>
+    requires orders { map order_of orders.now ≡ orders_of (L.recording log.now) }
+    requires told { told.now ≡ orders_told (L.recording log.now) }
+    ensures { IfOk result (AreCounted (L.recording log.now)) }
+{
+    let stations = log.station_count();
+    let records = records_by_station(alloc, log)?;
+    let made = made_by_station(alloc, orders, stations)?;
+    let fates = fates_by_station(alloc, told, stations)?;
+    Ok(Counts {
+        records,
+        made,
+        fates,
+    })
+}
+
+/// What is counted of a station, by the account of the recording and these counts.
+#[tactic(auto, using(crate::proofs::Places::fates_are), unfolding(crate::specs::Tally::station_counts))]
 fn station_counts<L: ExerciseLog>(
     log: &L,
     account: &Account,
-    orders: &[Order<'_>],
-    told: &[OrderAt],
+    counts: &Counts,
     station: u16,
 ) -> StationCounts
     requires account { TellsAccount (L.recording log.now) account.now }
-    requires orders { map order_of orders.now ≡ orders_of (L.recording log.now) }
-    requires told { told.now ≡ orders_told (L.recording log.now) }
+    requires counts { AreCounted (L.recording log.now) counts.now }
     requires within { station < length (L.recording log.now).setting.stations }
     ensures { result ≡ station_counts (L.recording log.now) station }
 {
-    let present = account.states(usize::from(station));
+    let station = usize::from(station);
+    let present = account.states(station);
     StationCounts {
-        at: parts_of(log.station(usize::from(station)).address()),
-        records: records_of(log, station),
-        made: made_by(orders, station),
-        fates: fates_at(station, told),
+        at: parts_of(log.station(station).address()),
+        records: counts.records[station],
+        made: counts.made[station],
+        fates: fates_from(&counts.fates, station * FATES),
         entities: present.len(),
         running: running_of(present),
     }
@@ -307,9 +339,10 @@ pub(crate) fn stations_counted<L: ExerciseLog>(
     requires told { told.now ≡ orders_told (L.recording log.now) }
     ensures { let r = L.recording log.now in IfOk result (λ counts. counts.items ≡ values_below (station_counts r) (length r.setting.stations)) }
 {
+    let counted = counts_by_station(alloc, log, orders, told)?;
     let mut counts = Vec::new(alloc);
     for station in 0..log.station_count() {
-        counts.push(station_counts(log, account, orders, told, station as u16))?;
+        counts.push(station_counts(log, account, &counted, station as u16))?;
     }
     Ok(counts)
 }

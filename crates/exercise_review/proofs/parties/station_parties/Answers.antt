@@ -1,6 +1,5 @@
-use Rattle.std.proofs.Common.{◌≡◌, ℕ, ◌+◌, ◌<◌, List, [], ◌∷◌, ◌++◌, length, refl, sym, ap, ◌∙◌, subst, arith}
+use Rattle.std.proofs.Common.{◌≡◌, ℕ, ◌+◌, ◌<◌, length, sym, ap, ◌∙◌, subst, arith}
 use Rattle.exercise_model.specs.Recording.{PlainRecording, IsRecording}
-use Rattle.exercise_review.specs.declared.party.Party.{Party}
 use Rattle.exercise_review.specs.Order.{OrderData, order_of}
 use Rattle.exercise_review.specs.Parties.{parties_below}
 use Rattle.exercise_review.proofs.Stationed.{up_to, first_station, with_station, no_station, all_stations}

@@ -1,4 +1,3 @@
-use Rattle.std.proofs.Common.{sym, ap, ◌∙◌}
 use Rattle.exercise_review.specs.Life.{life_in}
 use Rattle.exercise_review.proofs.Spans.{lives_are}
 use Rattle.exercise_review.proofs.span.lives_by.Goals as goal

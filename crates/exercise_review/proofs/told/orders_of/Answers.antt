@@ -1,8 +1,7 @@
-use Rattle.std.proofs.Common.{◌≡◌, ℕ, ◌+◌, List, map, sym, ap, ◌∙◌}
+use Rattle.std.proofs.Common.{◌≡◌, ℕ, ◌+◌, map, sym, ap, ◌∙◌}
 use Rattle.std.specs.Prelude.{option_map}
 use Rattle.std.proofs.lemmas.List.{map-append}
 use Rattle.exercise_model.specs.Recording.{PlainRecording}
-use Rattle.exercise_review.specs.declared.order.Order.{Order}
 use Rattle.exercise_review.specs.Order.{order_of}
 use Rattle.exercise_review.specs.Room.{lists_below}
 use Rattle.exercise_review.specs.Told.{orders_at}

@@ -1,4 +1,4 @@
-use Rattle.std.proofs.Common.{◌≡◌, ◌<◌, ◌≤◌, ◌+◌, ℕ, Bool, length, Option, Some, None, refl, sym, ap, ◌∙◌, subst, arith}
+use Rattle.std.proofs.Common.{◌≤◌, ◌+◌, ℕ, length, sym, ap, ◌∙◌, subst, arith}
 use Rattle.exercise_model.specs.Recording.{PlainRecording}
 use Rattle.exercise_review.specs.Register.{has_key}
 use Rattle.exercise_review.proofs.Walks.{past, IsCountOn, on_last, lower, count_starts, count_passes, count_fails, count_ends}

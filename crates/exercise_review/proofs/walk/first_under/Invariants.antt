@@ -1,4 +1,4 @@
-use Rattle.std.proofs.Common.{◌≡◌, ◌<◌, length}
+use Rattle.std.proofs.Common.{◌<◌, length}
 use Rattle.std.specs.Prelude.{IfSome}
 use Rattle.exercise_review.specs.Register.{has_key}
 use Rattle.exercise_review.proofs.Walks.{past, IsFirstOn, IsOn}

@@ -1,4 +1,4 @@
-use Rattle.std.proofs.Common.{◌≡◌, ◌<◌, ℕ, Bool, length, Option, Some, None, refl, sym, ap, ◌∙◌, subst, arith}
+use Rattle.std.proofs.Common.{ℕ, length, sym, ap, ◌∙◌, arith}
 use Rattle.exercise_model.specs.Recording.{PlainRecording}
 use Rattle.exercise_review.specs.Register.{has_key}
 use Rattle.exercise_review.proofs.Walks.{past, on_last, lower, last_starts, last_passes, last_fails, last_ends}

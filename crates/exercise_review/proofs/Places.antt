@@ -1,0 +1,113 @@
+-- What falls to a place is what is counted of a station.
+use Rattle.std.proofs.Common.{◌≡◌, ℕ, ◌+◌, ◌*◌, ◌<◌, List, length, map, true, false, Option, Some, None, refl, sym, ap, ◌∙◌, arith}
+use Rattle.std.specs.Prelude.{nat_eq, ◌&&◌, option_map, option_and_then, slice_get, slice_index_or}
+use Rattle.std.specs.Option.{option_map_or}
+use Rattle.std.proofs.lemmas.List.{length-map}
+use Rattle.std.proofs.lemmas.Bool.{eqb-true, eq-eqb, ne_eqb}
+use Rattle.siman_pdus.specs.Answers.{same_id}
+use Rattle.exercise_model.specs.Entry.{Entry}
+use Rattle.exercise_model.specs.History.{event_of, station_of}
+use Rattle.exercise_model.specs.Recording.{PlainRecording}
+use Rattle.exercise_review.specs.declared.fate.Fate.{Fate}
+use Rattle.exercise_review.specs.declared.fate.Fate.TheVariants as fates
+use Rattle.exercise_review.specs.declared.party.Party.{Party}
+use Rattle.exercise_review.specs.declared.party.Party.TheVariants as parties
+use Rattle.exercise_review.specs.declared.told.OrderAt.{OrderAt}
+use Rattle.exercise_review.specs.declared.tally.Counts.{Counts}
+use Rattle.exercise_review.specs.Told.{orders_told}
+use Rattle.exercise_review.specs.Counted.{count_below, count_at}
+use Rattle.exercise_review.specs.declared.order.Order.{Order}
+use Rattle.exercise_review.specs.Order.{OrderData, order_of}
+use Rattle.exercise_review.specs.Tally.{fate_number, same_fate, is_station, is_fate_at, passes_at, many, counts_by, fates_at, AreCounted, is_entry_of, is_made_by, place_at, fate_place, fate_places, entry_places, maker_places}
+use Rattle.exercise_review.proofs.Tallies.{count_same}
+
+pub entries_counted : (r : PlainRecording) (s n : ℕ) → n ≡ length r.entries → count_at (entry_places r) s n ≡ many (is_entry_of s) r.entries
+unfolding count_at many entry_places passes_at
+entries_counted r s n end =
+    count_same (λ i. same_id (entry_places r i) (Some s)) (passes_at (is_entry_of s) r.entries) same n ∙ ap (count_below (passes_at (is_entry_of s) r.entries)) end
+  where
+    same : (i : ℕ) → same_id (entry_places r i) (Some s) ≡ passes_at (is_entry_of s) r.entries i
+    same i = elim (slice_get r.entries i) as (λ (o : Option Entry). same_id (option_map (λ e. station_of (event_of e)) o) (Some s) ≡ option_map_or (is_entry_of s) o false) [
+      | None ↦ refl
+      | Some e ↦ refl
+    ]
+
+makers_counted : (os : List OrderData) (s n : ℕ) → n ≡ length os → count_at (maker_places os) s n ≡ many (is_made_by s) os
+unfolding count_at many maker_places passes_at
+makers_counted os s n end =
+    count_same (λ i. same_id (maker_places os i) (Some s)) (passes_at (is_made_by s) os) same n ∙ ap (count_below (passes_at (is_made_by s) os)) end
+  where
+    same : (i : ℕ) → same_id (maker_places os i) (Some s) ≡ passes_at (is_made_by s) os i
+    same i = elim (slice_get os i) as (λ (o : Option OrderData). same_id (option_and_then (λ (x : OrderData). x.maker) o) (Some s) ≡ option_map_or (is_made_by s) o false) [
+      | None ↦ refl
+      | Some x ↦ refl
+    ]
+
+pub orders_counted : (xs : List Order) (s n : ℕ) → n ≡ length xs → count_at (maker_places (map order_of xs)) s n ≡ many (is_made_by s) (map order_of xs)
+orders_counted xs s n end = makers_counted (map order_of xs) s n (end ∙ sym (length-map xs order_of))
+
+few_fates : (f : Fate) → fate_number f < 9
+few_fates fates.Done = omega arith
+few_fates fates.Answered = omega arith
+few_fates fates.Refused = omega arith
+few_fates fates.Pending = omega arith
+few_fates fates.Unheard = omega arith
+few_fates fates.Unanswered = omega arith
+few_fates fates.Lost = omega arith
+few_fates fates.Unknown = omega arith
+few_fates fates.Nobody = omega arith
+
+one_place : (t s m k : ℕ) → m < 9 → k < 9 → nat_eq (t * 9 + m) (s * 9 + k) ≡ (nat_eq t s && nat_eq m k)
+one_place t s m k few less =
+    elim (nat_eq t s) as (λ b. nat_eq t s ≡ b → nat_eq (t * 9 + m) (s * 9 + k) ≡ (b && nat_eq m k)) [
+      | true ↦ λ same. let at = eqb-true t s same in
+          elim (nat_eq m k) as (λ b. nat_eq m k ≡ b → nat_eq (t * 9 + m) (s * 9 + k) ≡ b) [
+            | true ↦ λ equal. eq-eqb (t * 9 + m) (s * 9 + k) (let is = eqb-true m k equal in omega (arith, at, is))
+            | false ↦ λ apart. ne_eqb (t * 9 + m) (s * 9 + k) (λ (e : t * 9 + m ≡ s * 9 + k).
+                let is : m ≡ k = omega (arith, at, e) in
+                let no : true ≡ false = sym (eq-eqb m k is) ∙ apart in absurd (cc))
+          ] refl
+      | false ↦ λ apart. ne_eqb (t * 9 + m) (s * 9 + k) (λ (e : t * 9 + m ≡ s * 9 + k).
+          let is : t ≡ s = omega (arith, few, less, e) in
+          let no : true ≡ false = sym (eq-eqb t s is) ∙ apart in absurd (cc))
+    ] refl
+
+fate_same : (s : ℕ) (f g : Fate) (p : Option Party) → same_id (place_at g p) (Some (s * 9 + fate_number f)) ≡ (is_station s p && same_fate g f)
+fate_same s f g None = refl
+fate_same s f g (Some (parties.Station t)) = one_place t s (fate_number g) (fate_number f) (few_fates g) (few_fates f)
+fate_same s f g (Some (parties.Outside a)) = refl
+
+pub fates_counted : (xs : List OrderAt) (s n : ℕ) (f : Fate) → n ≡ length xs → count_at (fate_places xs) (s * 9 + fate_number f) n ≡ many (is_fate_at s f) xs
+unfolding count_at many fate_places passes_at
+fates_counted xs s n f end =
+    count_same (λ i. same_id (fate_places xs i) (Some (s * 9 + fate_number f))) (passes_at (is_fate_at s f) xs) same n ∙ ap (count_below (passes_at (is_fate_at s f) xs)) end
+  where
+    same : (i : ℕ) → same_id (fate_places xs i) (Some (s * 9 + fate_number f)) ≡ passes_at (is_fate_at s f) xs i
+    same i = elim (slice_get xs i) as (λ (o : Option OrderAt). same_id (option_and_then fate_place o) (Some (s * 9 + fate_number f)) ≡ option_map_or (is_fate_at s f) o false) [
+      | None ↦ refl
+      | Some x ↦ fate_same s f x.outcome.fate x.outcome.party
+    ]
+
+-- a place for a fate is one of those of its station
+pub place_within : (s n : ℕ) (f : Fate) → s < n → s * 9 + fate_number f < n * 9
+place_within s n f l = let few = few_fates f in omega (arith, few, l)
+
+counts_same : (f g : Fate → ℕ) → ((x : Fate) → f x ≡ g x) → counts_by f ≡ counts_by g
+counts_same f g same =
+    rw (
+      same fates.Done,
+      same fates.Answered,
+      same fates.Refused,
+      same fates.Pending,
+      same fates.Unheard,
+      same fates.Unanswered,
+      same fates.Lost,
+      same fates.Unknown,
+      same fates.Nobody,
+    ) refl
+
+-- the nine places of a station are the counts of its fates
+pub fates_are : (r : PlainRecording) (c : Counts) (s : ℕ) → AreCounted r c → s < length r.setting.stations
+    → counts_by (λ f. slice_index_or c.fates.items (s * 9 + fate_number f) 0) ≡ fates_at s (orders_told r)
+unfolding fates_at
+fates_are r c s are l = counts_same (λ f. slice_index_or c.fates.items (s * 9 + fate_number f) 0) (λ f. many (is_fate_at s f) (orders_told r)) (are.fates s l)

@@ -1,5 +1,7 @@
-"""The sockets of `live`: where they are bound, how many there are, that none waits, and calls of them that fail."""
+"""The sockets of `live`: where they are bound, how many there are, that none waits, that what comes from elsewhere is not
+heard, and calls of them that fail."""
 import os
+import socket
 import subprocess
 import sys
 import threading
@@ -48,23 +50,38 @@ def sockets_of(process):
     return found
 
 
+def places_of(process, sockets):
+    """The addresses of UDP and the ports at which these sockets of a program are bound."""
+    with open(f"/proc/{process.pid}/net/udp", encoding="ascii") as file:
+        rows = [line.split() for line in file.readlines()[1:]]
+    return [row[1].split(":") for row in rows if row[9] in sockets]
+
+
 def bound(process):
     """How many sockets a program has; at which addresses of UDP, at how many ports; and whether none of them waits."""
     sockets = sockets_of(process)
-    with open(f"/proc/{process.pid}/net/udp", encoding="ascii") as file:
-        rows = [line.split() for line in file.readlines()[1:]]
-    places = [row[1].split(":") for row in rows if row[9] in sockets]
+    places = places_of(process, sockets)
     return len(sockets), {address for address, _ in places}, len({port for _, port in places}), all(sockets.values())
 
 
-def look(trials, script, name):
-    """What `live` has while it waits for a reader of its file, which is a pipe; its outcome; and what it wrote."""
+def intrude(process, count):
+    """Sends so many datagrams from elsewhere to each socket of a program; to how many."""
+    places = places_of(process, sockets_of(process))
+    with socket.socket(socket.AF_INET, socket.SOCK_DGRAM) as stranger:
+        for _, port in places:
+            for _ in range(count):
+                stranger.sendto(ABLE, ("127.0.0.1", int(port, 16)))
+    return len(places)
+
+
+def look(trials, script, name, sees=bound):
+    """What is seen of `live` while it waits for a reader of its file, which is a pipe; its outcome; and what it wrote."""
     pipe = trials.folder / name
     os.mkfifo(pipe)
     words = [trials.program, "live", script, name]
     process = subprocess.Popen(words, cwd=trials.folder, stdout=subprocess.PIPE, stderr=subprocess.PIPE)
     waits_for_file(process)
-    seen = bound(process) if process.poll() is None else None
+    seen = sees(process) if process.poll() is None else None
     wrote = []
     reads = threading.Thread(target=lambda: wrote.append(pipe.read_bytes()), daemon=True)
     reads.start()
@@ -95,6 +112,26 @@ def try_bound(trials):
                 Verdict(f"the sockets of {count} stations", ((count, {LOOPBACK}, count, True),), seen),
                 Verdict(f"live of {count} stations into a pipe", (usual,), came),
                 Verdict(f"what live of {count} stations wrote into a pipe", (True,), wrote == lived),
+            ]
+
+        trials.tasks.append(tried)
+
+
+def try_strangers(trials):
+    """What comes from elsewhere is not heard, also where it is more than one receive passes over."""
+    if not os.path.exists("/proc/self/net/udp"):
+        trials.skipped.append("datagrams from elsewhere: no /proc/self/net/udp")
+        return
+    moves = [Create(0, station_at(1), 7)]
+    script, lived = trials.file(script_of(2, moves)), Exchanges(2).over_lines(moves)
+    for count in (1, 63, 64, 65, 200):
+
+        def tried(count=count):
+            seen, came, wrote = look(trials, script, f"strangers.{count}", lambda process: intrude(process, count))
+            return [
+                Verdict(f"the sockets to which {count} strangers came", (2,), seen),
+                Verdict(f"live among {count} strangers", (Outcome(0, b"live records=4\n", b""),), came),
+                Verdict(f"what live wrote among {count} strangers", (True,), wrote == lived),
             ]
 
         trials.tasks.append(tried)
@@ -142,4 +179,5 @@ def try_calls(trials):
 
 def try_all(trials, _):
     try_bound(trials)
+    try_strangers(trials)
     try_calls(trials)

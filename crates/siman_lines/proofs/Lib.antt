@@ -11,3 +11,6 @@ pub mod Stations
 pub mod Identifiers
 pub mod Coming
 pub mod Refusing
+pub mod Rounds
+pub mod AtLines
+pub mod Offered

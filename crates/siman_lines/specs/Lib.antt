@@ -5,3 +5,6 @@ pub mod Ordering
 pub mod KeptAtLine
 pub mod Calls
 pub mod AtLine
+pub mod Steps
+pub mod AtLines
+pub mod Udp

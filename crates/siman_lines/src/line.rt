@@ -30,6 +30,9 @@ pub trait Line {
     // From the first state to the second a receive found nothing.
     ghost finds_nothing: { Self → Self → Type 0 };
 
+    // How many datagrams that came from elsewhere than its peers it passed over.
+    ghost strangers: { Self → ℕ };
+
     // What lines of its kind say, beside what all lines do, of a send of this datagram from the first state to the second, with this answer.
     ghost sends: { List ℕ → Self → Self → Result (Unit {0}) LineFault → Type 0 } = { λ _ _ _ _. ⊤ };
 
@@ -57,4 +60,9 @@ pub trait Line {
         ensures own { receives self.old self.new result }
         ensures worked { OnOk result (failures self.new ≡ failures self.old) }
         ensures failed { OnErr result (failures self.old < failures self.new) };
+
+    /// How many datagrams that came from elsewhere than its peers it passed over so far; where its
+    /// count is at its most, it stays there.
+    fn strangers(&self) -> u64
+        ensures { result ≡ strangers self.now };
 }

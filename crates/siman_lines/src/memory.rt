@@ -81,6 +81,9 @@ impl Line for MemoryLine {
 
     ghost finds_nothing = { FoundNothing };
 
+    // Nothing comes from elsewhere.
+    ghost strangers = { λ _. 0 };
+
     ghost sends = { SendEnds };
 
     ghost receives = { ReceiveEnds };
@@ -109,5 +112,9 @@ impl Line for MemoryLine {
         buffer[..taken].copy_from_slice(&datagram[..taken]);
         self.given += 1;
         Ok(Some(taken))
+    }
+
+    fn strangers(&self) -> u64 {
+        0
     }
 }

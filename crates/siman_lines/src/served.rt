@@ -1,6 +1,7 @@
 //! What a station did in some turns.
 
 ghost use Rattle.std.specs.Prelude.{◌≡◌, false, if◌then◌else◌};
+ghost use Rattle.siman_lines.specs.AtLines.{is_busy};
 
 /// What a station did in some turns at its line.
 #[derive(Clone, Copy, Debug, PartialEq, Eq)]
@@ -50,5 +51,12 @@ impl Served {
             dropped: 0,
             idle: false,
         }
+    }
+
+    /// Whether something may be left to serve, where its line met a stranger or not.
+    pub(crate) fn is_busy(self, met: bool) -> bool
+        ensures { result ≡ is_busy self met }
+    {
+        self.taken > 0 || self.dropped > 0 || met || !self.idle
     }
 }

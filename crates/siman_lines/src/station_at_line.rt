@@ -1,9 +1,10 @@
 //! A station at its line: what it does when it is asked to, and the rounds in which stations are
 //! served.
 
-ghost use Rattle.std.specs.Prelude.{◌≡◌, ◌⊎◌, None, OnOk, IfErr};
+ghost use Rattle.std.specs.Prelude.{◌≡◌, ◌≤◌, ◌⊎◌, ◌^◌, ◌++◌, [], ◌∷◌, None, OnOk, IfOk, IfErr, length};
 ghost use Rattle.siman_stations.specs.Asked.{order_fault, tell_fault};
 ghost use Rattle.siman_lines.specs.AtLine.{Hinders};
+ghost use Rattle.siman_lines.specs.AtLines.{Telling, AtLines, posts_from, posts_of, Misfits, OrdersAt, RepeatsAt, TellsAt, ServesAt, RoundEnds, RoundsEnd, Follows};
 ghost use Rattle.siman_lines.specs.KeptAtLine.{Keeps};
 
 use crate::fault::{AtLineFault, IssueFault, ServeFault};
@@ -27,6 +28,11 @@ pub struct StationAtLine<L: Drop> {
     pub node: Node,
     /// The line that it has of its own.
     pub line: L,
+    /// How many datagrams of over 8192 bytes it dropped so far; the most of 64 bits stands for more.
+    pub dropped: u64,
+    /// Whether something may be left to serve since it was served last: it took or dropped a
+    /// datagram, its line passed one over, or its last receive found one.
+    pub busy: bool,
 }
 
 /// One more station at its line.
@@ -35,25 +41,38 @@ fn add_station<L: Line + Drop>(
     index: u16,
     node: Node,
     line: L,
-) -> Result<(), AllocError> {
-    stations.push(StationAtLine { index, node, line })?;
+) -> Result<(), AllocError>
+    ensures { OnOk result (stations.new.items ≡ stations.old.items ++ posts_from index ((node, line) ∷ [])) }
+{
+    stations.push(StationAtLine {
+        index,
+        node,
+        line,
+        dropped: 0,
+        busy: false,
+    })?;
     Ok(())
 }
 
-/// Stations at their lines, the first at the first. Where there are not as many lines as stations,
-/// it is the lines' fault.
+/// Stations at their lines, the first at the first. Where there are not as many lines as stations, or
+/// more than 65,536 of them, it is the lines' fault.
 pub fn stations_at_lines<L: Line + Drop>(
     alloc: Global,
     nodes: Vec<Node>,
     lines: Vec<L>,
 ) -> Result<Vec<StationAtLine<L>>, AtLineFault>
-    ensures { IfErr result (λ fault. (fault ≡ AtLineFault.Line) ⊎ (fault ≡ AtLineFault.Memory)) }
+    ensures lines { OnOk result (length lines.items ≡ length nodes.items) }
+    ensures posts { IfOk result (λ stations. stations.items ≡ posts_of nodes.items lines.items) }
+    ensures fault { IfErr result (λ fault. ((fault ≡ AtLineFault.Line) × Misfits nodes.items lines.items) ⊎ (fault ≡ AtLineFault.Memory)) }
 {
     if lines.len() != nodes.len() {
         return Err(AtLineFault::Line);
     }
     let mut stations = Vec::new(alloc);
-    for (index, (node, line)) in (0..=u16::MAX).zip(nodes.into_iter().zip(lines)) {
+    for (node, line) in nodes.into_iter().zip(lines.into_iter()) {
+        let Ok(index) = u16::try_from(stations.len()) else {
+            return Err(AtLineFault::Line);
+        };
         if add_station(&mut stations, index, node, line).is_err() {
             return Err(AtLineFault::Memory);
         }
@@ -69,15 +88,23 @@ pub fn order_at<L: Line + Drop, W: Write>(
     now: u64,
     order: Order,
 ) -> Result<(), AtLineFault>
+    ensures ends { let told : Telling L = record { received = L.received; sent = L.sent; failures = L.failures; strangers = L.strangers } in
+        OrdersAt told now order station.old recorder.old station.new recorder.new result }
     ensures made { OnOk result (order_fault station.old.node.manager now order ≡ None) }
     ensures fault { IfErr result (Hinders (order_fault station.old.node.manager now order)) }
+    ensures index { station.new.index ≡ station.old.index }
     // What was kept of the station is kept, with a fault too.
     ensures keeps { Keeps station.old.index station.old.node recorder.old (L.sent station.old.line) station.new.node recorder.new (L.sent station.new.line) }
 {
     if !order.body.is_request() {
         return Err(AtLineFault::Station(StationFault::NotARequest));
     }
-    let StationAtLine { index, node, line } = station;
+    let StationAtLine {
+        index,
+        node,
+        line,
+        ..
+    } = station;
     match issue(alloc, line, node, recorder, *index, order, now) {
         Ok(_) => Ok(()),
         Err(IssueFault::Order(OrderFault::Memory) | IssueFault::Memory) => Err(AtLineFault::Memory),
@@ -94,11 +121,19 @@ pub fn repeat_at<L: Line + Drop, W: Write>(
     recorder: &mut RecordingWriter<'_, W>,
     now: u64,
 ) -> Result<(), AtLineFault>
+    ensures ends { let told : Telling L = record { received = L.received; sent = L.sent; failures = L.failures; strangers = L.strangers } in
+        RepeatsAt told now station.old recorder.old station.new recorder.new result }
     ensures fault { IfErr result (Hinders None) }
+    ensures index { station.new.index ≡ station.old.index }
     // What was kept of the station is kept, with a fault too.
     ensures keeps { Keeps station.old.index station.old.node recorder.old (L.sent station.old.line) station.new.node recorder.new (L.sent station.new.line) }
 {
-    let StationAtLine { index, node, line } = station;
+    let StationAtLine {
+        index,
+        node,
+        line,
+        ..
+    } = station;
     match nudge(alloc, line, node, recorder, *index, now) {
         Ok(_) => Ok(()),
         Err(IssueFault::Order(_) | IssueFault::Memory) => Err(AtLineFault::Memory),
@@ -113,8 +148,11 @@ pub fn tell_at<L: Line + Drop, W: Write>(
     recorder: &mut RecordingWriter<'_, W>,
     entity: u16,
 ) -> Result<(), AtLineFault>
+    ensures ends { TellsAt entity station.now recorder.old recorder.new result }
     ensures made { OnOk result (tell_fault entity ≡ None) }
     ensures fault { IfErr result (Hinders (tell_fault entity)) }
+    // What was kept of the station is kept, with a fault too.
+    ensures keeps { Keeps station.now.index station.now.node recorder.old (L.sent station.now.line) station.now.node recorder.new (L.sent station.now.line) }
 {
     if !is_entity(entity) {
         return Err(AtLineFault::Station(StationFault::NoSuchEntity));
@@ -122,6 +160,39 @@ pub fn tell_at<L: Line + Drop, W: Write>(
     match tell(&station.node, recorder, station.index, entity) {
         Ok(()) => Ok(()),
         Err(fault) => Err(AtLineFault::Record(fault)),
+    }
+}
+
+/// Serves a station once, for at most so many receives, as by [`serve`].
+fn serve_at<L: Line + Drop, W: Write>(
+    alloc: Global,
+    station: &mut StationAtLine<L>,
+    recorder: &mut RecordingWriter<'_, W>,
+    now: u64,
+    turns: u32,
+) -> Result<(), AtLineFault>
+    ensures ends { let told : Telling L = record { received = L.received; sent = L.sent; failures = L.failures; strangers = L.strangers } in
+        ServesAt told now turns station.old recorder.old station.new recorder.new result }
+    ensures fault { IfErr result (Hinders None) }
+    ensures keeps { Keeps station.old.index station.old.node recorder.old (L.sent station.old.line) station.new.node recorder.new (L.sent station.new.line) }
+{
+    let StationAtLine {
+        index,
+        node,
+        line,
+        dropped,
+        busy,
+    } = station;
+    let met = line.strangers();
+    match serve(alloc, line, node, recorder, *index, now, turns) {
+        Ok(served) => {
+            *dropped = dropped.saturating_add(u64::from(served.dropped));
+            *busy = served.is_busy(line.strangers() != met);
+            Ok(())
+        }
+        Err(ServeFault::Receive | ServeFault::Send) => Err(AtLineFault::Line),
+        Err(ServeFault::Record(fault)) => Err(AtLineFault::Record(fault)),
+        Err(ServeFault::Memory) => Err(AtLineFault::Memory),
     }
 }
 
@@ -133,16 +204,18 @@ fn serve_round<L: Line + Drop, W: Write>(
     now: u64,
     turns: u32,
 ) -> Result<(), AtLineFault>
-    ensures { IfErr result (Hinders None) }
+    ensures ends { let told : Telling L = record { received = L.received; sent = L.sent; failures = L.failures; strangers = L.strangers } in
+        let old : AtLines L = record { stations = stations.old.items; recorder = recorder.old } in
+        let new : AtLines L = record { stations = stations.new.items; recorder = recorder.new } in
+        RoundEnds told now turns old new result }
+    ensures fault { IfErr result (Hinders None) }
+    ensures follows { let told : Telling L = record { received = L.received; sent = L.sent; failures = L.failures; strangers = L.strangers } in
+        let old : AtLines L = record { stations = stations.old.items; recorder = recorder.old } in
+        let new : AtLines L = record { stations = stations.new.items; recorder = recorder.new } in
+        Follows told old new }
 {
-    for station in stations.iter_mut() {
-        let StationAtLine { index, node, line } = station;
-        match serve(alloc, line, node, recorder, *index, now, turns) {
-            Ok(_) => {}
-            Err(ServeFault::Receive | ServeFault::Send) => return Err(AtLineFault::Line),
-            Err(ServeFault::Record(fault)) => return Err(AtLineFault::Record(fault)),
-            Err(ServeFault::Memory) => return Err(AtLineFault::Memory),
-        }
+    for number in 0..stations.len() {
+        serve_at(alloc, &mut stations[number], recorder, now, turns)?;
     }
     Ok(())
 }
@@ -157,7 +230,16 @@ pub fn serve_rounds<L: Line + Drop, W: Write>(
     rounds: u32,
     turns: u32,
 ) -> Result<(), AtLineFault>
-    ensures { IfErr result (Hinders None) }
+    ensures ends { let told : Telling L = record { received = L.received; sent = L.sent; failures = L.failures; strangers = L.strangers } in
+        let old : AtLines L = record { stations = stations.old.items; recorder = recorder.old } in
+        let new : AtLines L = record { stations = stations.new.items; recorder = recorder.new } in
+        RoundsEnd told now rounds turns old new result }
+    ensures fault { IfErr result (Hinders None) }
+    // It is as calls at these stations leave it, with a fault too.
+    ensures follows { let told : Telling L = record { received = L.received; sent = L.sent; failures = L.failures; strangers = L.strangers } in
+        let old : AtLines L = record { stations = stations.old.items; recorder = recorder.old } in
+        let new : AtLines L = record { stations = stations.new.items; recorder = recorder.new } in
+        Follows told old new }
 {
     for _ in 0..rounds {
         serve_round(alloc, stations, recorder, now, turns)?;

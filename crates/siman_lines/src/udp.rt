@@ -5,31 +5,44 @@ use http_server::Log;
 use std::io::ErrorKind;
 use std::net::{SocketAddr, UdpSocket};
 
-/// A socket whose receives never wait, and the peers that each datagram goes to.
+/// How many datagrams from elsewhere one receive passes over at most.
+const MOST_STRANGERS: u32 = 64;
+
+/// A socket whose receives never wait, and its peers: each datagram goes to each of them, and what
+/// comes from elsewhere is passed over.
 #[derive(Drop)]
 pub struct UdpLine {
     socket: UdpSocket,
     peers: Vec<SocketAddr>,
+    strangers: u64,
     failures: Log<(), ()>,
 }
 
 impl UdpLine {
-    ghost use Rattle.std.specs.Prelude.{◌≡◌, ◌+◌, length};
+    ghost use Rattle.std.specs.Prelude.{◌≡◌, ◌+◌, length, IfOk};
 
-    /// A line over the socket, which is set so that a receive does not wait.
-    pub fn over(socket: UdpSocket, peers: Vec<SocketAddr>) -> Result<UdpLine, LineFault> {
+    /// A line over the socket, which is set so that a receive does not wait. It sends to each of
+    /// these peers, in their order, and hands on what comes from them alone. One receive passes over
+    /// at most 64 datagrams from elsewhere, and then finds nothing.
+    pub fn over(socket: UdpSocket, peers: Vec<SocketAddr>) -> Result<UdpLine, LineFault>
+        ensures peers { IfOk result (λ l. l.peers ≡ peers) }
+        ensures strangers { IfOk result (λ l. l.strangers ≡ 0) }
+    {
         if socket.set_nonblocking(true).is_err() {
             return Err(LineFault::Failed);
         }
         Ok(UdpLine {
             socket,
             peers,
+            strangers: 0,
             failures: Log::new(),
         })
     }
 
     fn fail(&mut self) -> LineFault
-        ensures { length self.new.failures.items ≡ length self.old.failures.items + 1 }
+        ensures counted { length self.new.failures.items ≡ length self.old.failures.items + 1 }
+        ensures peers { self.new.peers ≡ self.old.peers }
+        ensures strangers { self.new.strangers ≡ self.old.strangers }
     {
         self.failures = self.failures.and(&(), &());
         LineFault::Failed
@@ -38,10 +51,17 @@ impl UdpLine {
 
 impl Line for UdpLine {
     ghost use Rattle.std.specs.Prelude.{◌≡◌, length};
+    ghost use Rattle.siman_lines.specs.Udp.{SendKeeps, ReceivePasses};
 
     ghost failures = { λ l. length l.failures.items };
 
     ghost finds_nothing = { λ old new. new.failures ≡ old.failures };
+
+    ghost strangers = { λ l. l.strangers };
+
+    ghost sends = { λ _. SendKeeps };
+
+    ghost receives = { ReceivePasses };
 
     fn send(&mut self, datagram: &[u8]) -> Result<(), LineFault> {
         let mut all_sent = true;
@@ -55,15 +75,26 @@ impl Line for UdpLine {
     }
 
     fn receive(&mut self, buffer: &mut [u8]) -> Result<Option<usize>, LineFault> {
-        match self.socket.recv_from(buffer) {
-            Ok((taken, _)) => Ok(Some(taken)),
-            Err(e) => {
-                if e.kind() == ErrorKind::WouldBlock {
-                    Ok(None)
-                } else {
-                    Err(self.fail())
+        for _ in 0..MOST_STRANGERS {
+            match self.socket.recv_from(buffer) {
+                Ok((taken, from)) => {
+                    if self.peers.contains(&from) {
+                        return Ok(Some(taken));
+                    }
+                    self.strangers = self.strangers.saturating_add(1);
+                }
+                Err(e) => {
+                    if e.kind() == ErrorKind::WouldBlock {
+                        return Ok(None);
+                    }
+                    return Err(self.fail());
                 }
             }
         }
+        Ok(None)
+    }
+
+    fn strangers(&self) -> u64 {
+        self.strangers
     }
 }

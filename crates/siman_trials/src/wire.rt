@@ -142,6 +142,9 @@ impl Line for WireLine {
 
     ghost finds_nothing = { λ old new. new.failures ≡ old.failures };
 
+    // Nothing comes from elsewhere.
+    ghost strangers = { λ _. 0 };
+
     fn send(&mut self, datagram: &[u8]) -> Result<(), LineFault> {
         match self.put(datagram) {
             Ok(()) => Ok(()),
@@ -154,5 +157,9 @@ impl Line for WireLine {
             Ok(taken) => Ok(taken),
             Err(_) => Err(self.fail()),
         }
+    }
+
+    fn strangers(&self) -> u64 {
+        0
     }
 }

@@ -6,6 +6,7 @@ ghost use Rattle.exercise_model.specs.declared.recording.TheConstants.{MOST_ENTR
 ghost use Rattle.siman_scripts.specs.Script.{script_at};
 ghost use Rattle.std.specs.IoError.{error_kind};
 ghost use Rattle.std.specs.List.{All};
+ghost use Rattle.siman_lines.specs.AtLines.{Telling, AtLines, Follows};
 ghost use Rattle.siman_console.specs.Ending.{fault_line};
 ghost use Rattle.siman_console.specs.Opening.{WorksOn};
 ghost use Rattle.siman_console.specs.Program.Live.{Begins, BeginsFile, TellsMoves, HaltsIn, IsUnlined, IsUncreated, CreatesMoves, LivesAtLines, LivesBegun, is_created, mend_line, EndsLived, EndsLive};
@@ -129,7 +130,12 @@ fn make_moves<L: Line + Drop, W: Write>(
     recorder: &mut RecordingWriter<'_, W>,
     moves: Vec<Move>,
 ) -> Result<(), Fault<'static>>
-    ensures { IfErr result (HaltsIn (length moves.items)) }
+    ensures fault { IfErr result (HaltsIn (length moves.items)) }
+    // What comes of them is what comes of calls at these stations, with a fault too.
+    ensures follows { let told : Telling L = record { received = L.received; sent = L.sent; failures = L.failures; strangers = L.strangers } in
+        let old : AtLines L = record { stations = stations.old.items; recorder = recorder.old } in
+        let new : AtLines L = record { stations = stations.new.items; recorder = recorder.new } in
+        Follows told old new }
 {
     for (number, step) in moves.into_iter().enumerate() {
         match make_move(alloc, stations, recorder, step) {

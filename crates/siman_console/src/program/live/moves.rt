@@ -1,8 +1,10 @@
 //! The moves of a script, made by stations that each have a line of their own.
 
-ghost use Rattle.std.specs.Prelude.{◌≡◌, ◌⊎◌, ◌<◌, length, None, Option, OnOk, IfErr, option_map, slice_get};
+ghost use Rattle.std.specs.Prelude.{◌≡◌, ◌⊎◌, ◌<◌, length, None, Option, OnOk, IfOk, IfErr, option_map, slice_get};
 ghost use Rattle.siman_stations.specs.declared.station_fault.StationFault.{StationFault};
 ghost use Rattle.siman_lines.specs.AtLine.{Hinders};
+ghost use Rattle.siman_lines.specs.AtLines.{Telling, AtLines, posts_of, Misfits, Follows};
+ghost use Rattle.siman_lines.specs.KeptAtLine.{Keeps};
 ghost use Rattle.siman_worlds.specs.Acts.{as_move};
 ghost use Rattle.siman_console.specs.Program.Live.Moves.{live_fault, judged, move_fault, Gives, at_move};
 
@@ -57,7 +59,9 @@ pub(crate) fn stand_at_lines<L: Line + Drop>(
     nodes: Vec<Node>,
     lines: Vec<L>,
 ) -> Result<Vec<StationAtLine<L>>, Fault<'static>>
-    ensures { IfErr result (λ fault. (fault ≡ Fault.LineFailed) ⊎ (fault ≡ Fault.Memory)) }
+    ensures lines { OnOk result (length lines.items ≡ length nodes.items) }
+    ensures posts { IfOk result (λ stations. stations.items ≡ posts_of nodes.items lines.items) }
+    ensures fault { IfErr result (λ fault. ((fault ≡ Fault.LineFailed) × Misfits nodes.items lines.items) ⊎ (fault ≡ Fault.Memory)) }
 {
     match stations_at_lines(alloc, nodes, lines) {
         Ok(stations) => Ok(stations),
@@ -90,6 +94,8 @@ fn act_at<L: Line + Drop, W: Write>(
 ) -> Result<(), Halt>
     ensures made { OnOk result (live_fault station.old.node now act ≡ None) }
     ensures fault { IfErr result (Gives (live_fault station.old.node now act)) }
+    ensures index { station.new.index ≡ station.old.index }
+    ensures keeps { Keeps station.old.index station.old.node recorder.old (L.sent station.old.line) station.new.node recorder.new (L.sent station.new.line) }
 {
     match act {
         Act::Command(order) => of_station(order_at(alloc, station, recorder, now, order)),
@@ -109,6 +115,11 @@ pub(crate) fn make_move<L: Line + Drop, W: Write>(
 ) -> Result<(), Halt>
     ensures made { OnOk result (move_fault recorder.old.entries (option_map (λ (p : StationAtLine L). p.node) (slice_get stations.old.items step.station)) step.now step.act ≡ None) }
     ensures fault { IfErr result (Gives (move_fault recorder.old.entries (option_map (λ (p : StationAtLine L). p.node) (slice_get stations.old.items step.station)) step.now step.act)) }
+    // What comes of it is what comes of calls at these stations, with a fault too.
+    ensures follows { let told : Telling L = record { received = L.received; sent = L.sent; failures = L.failures; strangers = L.strangers } in
+        let old : AtLines L = record { stations = stations.old.items; recorder = recorder.old } in
+        let new : AtLines L = record { stations = stations.new.items; recorder = recorder.new } in
+        Follows told old new }
 {
     if let Act::Deliver(_) = &step.act {
         return Ok(());
@@ -125,6 +136,11 @@ fn judge_and_make<L: Line + Drop, W: Write>(
 ) -> Result<(), Halt>
     ensures made { OnOk result (judged recorder.old.entries (option_map (λ (p : StationAtLine L). p.node) (slice_get stations.old.items step.station)) step.now step.act ≡ None) }
     ensures fault { IfErr result (Gives (judged recorder.old.entries (option_map (λ (p : StationAtLine L). p.node) (slice_get stations.old.items step.station)) step.now step.act)) }
+    // What comes of it is what comes of calls at these stations, with a fault too.
+    ensures follows { let told : Telling L = record { received = L.received; sent = L.sent; failures = L.failures; strangers = L.strangers } in
+        let old : AtLines L = record { stations = stations.old.items; recorder = recorder.old } in
+        let new : AtLines L = record { stations = stations.new.items; recorder = recorder.new } in
+        Follows told old new }
 {
     let Move { now, station, act } = step;
     if recorder.entry_count() as usize + 2 > MOST_ENTRIES {

@@ -1,6 +1,7 @@
 -- What a station did not do is why its move is not made.
 use Rattle.std.specs.Prelude.{None}
 use Rattle.siman_stations.specs.Asked.{order_fault, tell_fault}
+use Rattle.siman_lines.proofs.Offered.{keeps_nothing}
 use Rattle.siman_console.proofs.program.live.moves.act_at.Goals as goal
 
 pub returns-in-Command-clause-fault : goal.returns-in-Command-clause-fault
@@ -13,3 +14,7 @@ returns-in-Tick-clause-fault g c = rw c.in-Tick.is (c.of_station-in-Tick.ensures
 
 pub returns-in-Tell-clause-fault : goal.returns-in-Tell-clause-fault
 returns-in-Tell-clause-fault g c = rw c.in-Tell.is (c.of_station-in-Tell.ensures.fault (tell_fault c.in-Tell.entity) c.tell_at.ensures.fault)
+
+pub returns-in-Deliver-clause-keeps : goal.returns-in-Deliver-clause-keeps
+returns-in-Deliver-clause-keeps g c =
+    keeps_nothing c.args.station.now.index c.args.station.now.node c.args.recorder.now (g.L.Line.sent c.args.station.now.line)

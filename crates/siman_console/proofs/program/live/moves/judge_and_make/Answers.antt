@@ -1,6 +1,7 @@
 -- The halves of the station decide.
-use Rattle.std.proofs.Common.{◌∙◌, None, arith}
+use Rattle.std.proofs.Common.{◌∙◌, None, arith, refl}
 use Rattle.siman_console.proofs.Judged.{stands_at, judged_there, passes_on, on_any, served_any}
+use Rattle.siman_lines.proofs.Offered.{follows_none, follows_one, follows_then}
 use Rattle.siman_console.proofs.program.live.moves.judge_and_make.Goals as goal
 
 pub returns-in_err-act_at-clause-fault : goal.returns-in_err-act_at-clause-fault
@@ -19,4 +20,17 @@ returns-clause-made g c =
     (judged_there (λ p. p.node) p c.args.recorder.now.entries _ c.args.step.now c.args.step.act (omega arith) there ∙ c.in_ok-act_at.ensures.made)
 
 pub returns-clause-fault : goal.returns-clause-fault
-returns-clause-fault g c = served_any c.of_station.result _ (c.of_station.ensures.fault None c.serve_rounds.ensures)
+returns-clause-fault g c = served_any c.of_station.result _ (c.of_station.ensures.fault None c.serve_rounds.ensures.fault)
+
+pub returns-in_err-act_at-clause-follows : goal.returns-in_err-act_at-clause-follows
+returns-in_err-act_at-clause-follows g c =
+    let p = c.index_mut.result.now in
+    let there = stands_at c.args.stations.now.items c.from-2.result c.from-2.result p (omega arith) refl c.index_mut.ensures.value in
+    follows_one _ c.from-2.result c.args.stations.now.items c.args.recorder.now _ p _ there c.in_err-act_at.ensures.index c.in_err-act_at.ensures.keeps
+
+pub returns-clause-follows : goal.returns-clause-follows
+returns-clause-follows g c =
+    let p = c.index_mut.result.now in
+    let there = stands_at c.args.stations.now.items c.from-2.result c.from-2.result p (omega arith) refl c.index_mut.ensures.value in
+    follows_then _ _ _ _ (follows_one _ c.from-2.result c.args.stations.now.items c.args.recorder.now _ p _ there c.in_ok-act_at.ensures.index c.in_ok-act_at.ensures.keeps)
+    c.serve_rounds.ensures.follows

@@ -1,0 +1,8 @@
+use Rattle.std.proofs.Common.{◌≡◌}
+use Rattle.siman_lines.specs.Udp.{counted_on}
+use Rattle.siman_lines.proofs.udp.UdpLineLine.receive.Given as goal
+
+-- so many strangers were passed over
+abbrev pub invariant-loop : goal.invariant-loop
+invariant-loop l =
+    (l.self.failures ≡ l.fn.self.failures) × (l.self.peers ≡ l.fn.self.peers) × (l.self.strangers ≡ counted_on l.fn.self.strangers l.counter)

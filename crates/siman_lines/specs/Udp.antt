@@ -1,0 +1,27 @@
+-- What a line over UDP keeps, and what it passes over (profile). Which datagrams go through its socket, no contract of a socket says.
+use Rattle.std.specs.Prelude.{◌≡◌, ℕ, zero, suc, ◌+◌, ◌-◌, ◌^◌, ◌≤◌, ◌<◌, min, Option, Some, None, Result, Ok, Err}
+use Rattle.siman_lines.specs.declared.line.LineFault.{LineFault}
+use Rattle.siman_lines.specs.declared.udp.TheConstants.{MOST_STRANGERS}
+use Rattle.siman_lines.specs.declared.udp.UdpLine.{UdpLine}
+
+-- A send passes nothing over.
+pub record SendKeeps (old new : UdpLine) (result : Result (Unit {0}) LineFault) : Type 0 where
+  pub peers : new.peers ≡ old.peers
+  pub strangers : new.strangers ≡ old.strangers
+
+-- A receive hands on a datagram, or fails, after it passed over fewer than 64 strangers; it finds nothing after it passed over at most 64.
+abbrev pub Within : ℕ → Result (Option ℕ) LineFault → Type 0
+Within passed (Ok (Some size)) = passed < MOST_STRANGERS
+Within passed (Ok None) = passed ≤ MOST_STRANGERS
+Within passed (Err fault) = passed < MOST_STRANGERS
+
+-- the count after so many more strangers; where it is at its most, it stays there
+abbrev pub counted_on : (before passed : ℕ) → ℕ
+counted_on before zero = before
+counted_on before (suc n) = min (counted_on before n + 1) (2 ^ 64 - 1)
+
+pub record ReceivePasses (old new : UdpLine) (result : Result (Option ℕ) LineFault) : Type 0 where
+  pub peers : new.peers ≡ old.peers
+  pub passed : ℕ
+  pub within : Within passed result
+  pub strangers : new.strangers ≡ counted_on old.strangers passed

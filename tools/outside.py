@@ -20,7 +20,7 @@ from pathlib import Path
 sys.dont_write_bytecode = True
 
 from cases import (
-    audits, converts, datagrams, files, histories, lives, memory, mends, saving, scripts, sizes, sockets, streams, words, worlds,
+    audits, converts, datagrams, files, histories, joins, lives, memory, mends, saving, scripts, sizes, sockets, streams, words, worlds,
 )  # fmt: skip
 from cases.examples import TOP, made_examples
 from cases.trials import Trials, described
@@ -44,7 +44,7 @@ def try_program(program, folder):
     trials = Trials(str(program), folder)
     examples = made_examples(folder)
     parts = (
-        words, datagrams, files, histories, audits, converts, mends, scripts, worlds, lives, sockets, sizes, saving, streams, memory,
+        words, datagrams, files, histories, audits, converts, mends, joins, scripts, worlds, lives, sockets, sizes, saving, streams, memory,
     )  # fmt: skip
     for part in parts:
         part.try_all(trials, examples)

@@ -7,4 +7,5 @@ written. Nothing here looks at the program.
 from .datagrams import *
 from .files import *
 from .histories import *
+from .joins import *
 from .scripts import *

@@ -11,3 +11,4 @@ pub mod Tellings
 pub mod LineReadings
 pub mod Judged
 mod Conversions
+mod JoinedPieces

@@ -17,6 +17,11 @@ BEHIND = {"View": ["[--json]"]}
 TABLE = TOP / "crates" / "siman_words" / "src" / "commands.rt"
 
 
+# How a word is shown that may come more often than once, and what may stand behind all words of a command.
+OFTEN = {"Once": "{}", "OnceOrMore": "{} ..", "AnyTimes": "[{} ..]"}
+BEHIND = {"Pieces": [r"[form=open\|form=closed]"]}
+
+
 def rows_of_program():
     """Each command of the program as usage has it: its name and its words."""
     rows = TABLE.read_text(encoding="utf-8").partition("const ROWS")[2].partition("\n];")[0]
@@ -24,7 +29,7 @@ def rows_of_program():
     for row in re.split(r"^    Row \{$", rows, flags=re.M)[1:]:
         name = re.search(r'name: "([^"]+)"', row)[1]
         takes = re.search(r"takes: Takes::(\w+)", row)[1]
-        words = re.findall(r'name: "([A-Z]+)",\s*often: Often::(\w+),', row.partition("words:")[2])
+        words = re.findall(r'name: "([A-Z]+)",\s*often: Often::(\w+)', row.partition("words:")[2])
         found.append(" ".join([name, *(OFTEN[often].format(word) for word, often in words), *BEHIND.get(takes, [])]))
     return found
 

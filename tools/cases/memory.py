@@ -15,7 +15,7 @@ LATER = 1 << 40  # later than the last allocation of any run
 
 
 # Commands that make a file; `live` makes none where one stands.
-MAKING = (["world"], ["live"], ["audit"], ["convert"], ["mend"])
+MAKING = (["world"], ["live"], ["audit"], ["convert"], ["mend"], ["join"])
 
 
 def refusing_library(trials):
@@ -58,7 +58,7 @@ def try_answers(trials, rows):
     for words, given, usual in rows:
         out = Prefix(usual.out) if words[:1] == ["show"] else b""
         for alone in (True, False):
-            own = [*words[:2], f"{words[2]}.{alone}"] if words[:1] in MAKING else words
+            own = [*words[:-1], f"{words[-1]}.{alone}"] if words[:1] in MAKING else words
             errors = Wanting(own[2]) if own[:1] == ["live"] else b"memory\n"
             case = Case(own, (Outcome(3, out, errors), usual), given)
             trials.tasks.append(lambda case=case, alone=alone: refusals(trials, library, case, alone))

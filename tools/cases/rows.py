@@ -1,5 +1,5 @@
 """Worked examples of each command, to which memory is refused: literal files and the answers that they have."""
-from cases import texts
+from cases import joins, texts
 from cases.examples import TOP, WORKED_ANSWER, WORKED_LINE, WORKED_SCRIPT
 from cases.failing import ABLE, CERTIFICATE, CREATE, RECORDING, REPORT
 from pages import Outcome, Recording, Station
@@ -48,6 +48,8 @@ def rows(trials):
     """Words and what is given on standard input, with the usual outcome."""
     script = (TOP / WORKED_SCRIPT).read_bytes()
     recording, certificate = trials.file(RECORDING), trials.file(CERTIFICATE)
+    three = [trials.file(joins.piece(number)) for number in range(3)]
+    joined = Outcome(0, b"joined pieces=3 stations=3 records=17 form=closed\n", b"")
     moved, crossed = (trials.file(texts.recording_text(each)) for each in (MOVED, CROSSED))
     return [
         (["pdu", COMMENT], b"", Outcome(0, COMMENT_TOLD, b"")),
@@ -61,5 +63,6 @@ def rows(trials):
         (["review", recording, "entity=2:3:7", "request=1:1/1", "--json"], b"", Outcome(0, REVIEW_IN_JSON, b"")),
         ([], script, Outcome(0, WORKED_ANSWER, b"")),
         (["world", WORKED_SCRIPT, "row.dsrc"], b"", Outcome(0, WORKED_LINE, b"")),
+        (["join", *three, "joined.row.dsrc"], b"", joined),
         (["live", WORKED_SCRIPT, "lived.row.dsrc"], b"", Outcome(0, b"live records=13\n", b"")),
     ]  # fmt: skip

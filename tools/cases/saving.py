@@ -36,7 +36,7 @@ def try_same(trials, examples):
     """No input is ever overwritten, by whatever name."""
     recording = (trials.folder / examples[0]).read_bytes()
     script = (TOP / WORKED_SCRIPT).read_bytes()
-    for command, text in [("world", script), ("live", script), ("audit", recording), ("convert", recording), ("mend", recording)]:
+    for command, text in [("world", script), ("live", script), ("audit", recording), ("convert", recording), ("mend", recording), ("join", recording)]:
         names = names_of(trials, f"same.{command}", text)
         for read in names:
             fault = (pages.fault(f"output: same as {read}"),)

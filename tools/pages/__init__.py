@@ -7,5 +7,6 @@ scripts, and TEXTS.md how each answer is written. Nothing here looks at the prog
 from .datagrams import *
 from .files import *
 from .histories import *
+from .joins import *
 from .reviews import *
 from .scripts import *

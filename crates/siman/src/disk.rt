@@ -17,6 +17,11 @@ pub(crate) fn identity(known: &Metadata) -> Identity {
     (known.dev(), known.ino())
 }
 
+/// Whether a file is one of these.
+pub(crate) fn is_among(opened: &[Identity], known: &Metadata) -> bool {
+    opened.contains(&identity(known))
+}
+
 /// A file that was made.
 #[derive(Drop)]
 pub(crate) struct MadeFile {
@@ -43,16 +48,19 @@ impl Write for MadeFile {
     }
 }
 
-/// The disk, and which file was opened last.
+/// The disk, and which files were opened.
 #[derive(Drop)]
 pub(crate) struct Disk<'a> {
     rt: &'a HostRuntime,
-    opened: Option<Identity>,
+    opened: Vec<Identity>,
 }
 
 /// The disk, of which no file was opened.
 pub(crate) fn disk_of(rt: &HostRuntime) -> Disk<'_> {
-    Disk { rt, opened: None }
+    Disk {
+        rt,
+        opened: Vec::new(rt.alloc()),
+    }
 }
 
 impl Disk<'_> {
@@ -64,12 +72,12 @@ impl Disk<'_> {
     /// Begins a file beside a name, which is to take that name from the file that stands there, if
     /// one does. An input is not to be replaced.
     fn beside(&self, name: &str, stands: Option<&Metadata>) -> io::Result<MadeFile> {
-        if let (Some(known), Some(opened)) = (stands, self.opened)
-            && identity(known) == opened
+        if let Some(known) = stands
+            && is_among(&self.opened, known)
         {
             return Err(io::Error::from(ErrorKind::AlreadyExists));
         }
-        let (file, part) = begin_part(self.rt, name, stands, self.opened)?;
+        let (file, part) = begin_part(self.rt, name, stands, &self.opened)?;
         Ok(MadeFile {
             file,
             part: Some(part),
@@ -88,7 +96,7 @@ impl Outside for Disk<'_> {
 
     fn open(&mut self, name: &str) -> io::Result<File> {
         let file = File::open(self.rt, name)?;
-        self.opened = Some(identity(&file.metadata()?));
+        self.opened.push(identity(&file.metadata()?))?;
         Ok(file)
     }
 

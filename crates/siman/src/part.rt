@@ -1,6 +1,6 @@
 //! Files that are written beside the name that they take, which they do in one step.
 
-use crate::disk::{Identity, identity};
+use crate::disk::{Identity, identity, is_among};
 use std::fs::{File, Metadata, OpenOptions, Permissions, TryLockError};
 use std::io::ErrorKind;
 use std::os::unix::fs::{MetadataExt, OpenOptionsExt, chown};
@@ -60,14 +60,14 @@ fn stands_at(rt: &HostRuntime, file: &File, path: &str) -> io::Result<bool> {
 }
 
 /// The file that another call left under the path of a part. It is none that a call writes, since
-/// that one holds its lock, and not the one that was opened.
-fn remove_left(rt: &HostRuntime, path: &str, opened: Option<Identity>) -> io::Result<()> {
+/// that one holds its lock, and none of those that were opened.
+fn remove_left(rt: &HostRuntime, path: &str, opened: &[Identity]) -> io::Result<()> {
     let known = match fs::symlink_metadata(rt, path) {
         Ok(known) => known,
         Err(error) if error.kind() == ErrorKind::NotFound => return Ok(()),
         Err(error) => return Err(error),
     };
-    if !known.is_file() || opened == Some(identity(&known)) {
+    if !known.is_file() || is_among(opened, &known) {
         return Err(io::Error::from(ErrorKind::AlreadyExists));
     }
     let file = OpenOptions::new().write(true).open(rt, path)?;
@@ -141,7 +141,7 @@ fn make_part(
     rt: &HostRuntime,
     path: &str,
     stands: Option<&Metadata>,
-    opened: Option<Identity>,
+    opened: &[Identity],
 ) -> io::Result<File> {
     remove_left(rt, path, opened)?;
     let file = create_locked(rt, path, mode_of(stands))?;
@@ -156,7 +156,7 @@ pub(crate) fn begin_part(
     rt: &HostRuntime,
     name: &str,
     stands: Option<&Metadata>,
-    opened: Option<Identity>,
+    opened: &[Identity],
 ) -> io::Result<(File, Part)> {
     let name = path_of(rt, name, stands)?;
     let path = format!(in rt.alloc(); "{name}.part")?;

@@ -12,4 +12,5 @@ pub mod LineReadings
 pub mod Judged
 pub mod Lived
 mod Conversions
+mod JoinedPieces
 mod Reviewed

@@ -20,10 +20,13 @@ use Rattle.siman_worlds.specs.declared.world_fault.MoveFault.TheVariants as move
 use Rattle.siman_worlds.specs.declared.world_fault.WorldFault.{WorldFault}
 use Rattle.siman_worlds.specs.declared.world_fault.WorldFault.TheVariants as worlds
 use Rattle.siman_console.specs.declared.place.Place.{Place}
-use Rattle.siman_console.specs.declared.place.Place.TheVariants.{Offset, Line, Move}
+use Rattle.siman_console.specs.declared.place.Place.TheVariants as places
+use Rattle.siman_console.specs.declared.place.Place.TheVariants.{Offset, Line, Move, PieceOffset, PieceStation}
+use Rattle.siman_console.specs.declared.join_limit.JoinLimit.{JoinLimit}
+use Rattle.siman_console.specs.declared.join_limit.JoinLimit.TheVariants as limits
 use Rattle.siman_console.specs.declared.fault.Fault.{Fault}
 use Rattle.siman_console.specs.declared.fault.Ended.{Ended}
-use Rattle.siman_console.specs.declared.fault.Fault.TheVariants.{NotBytePairs, HexLine, Input, File, Words, Recording, Already, Certificate, Script, ScriptRead, World, LineFailed, Filter, OverLimit, Output, SameAs, Exists, Memory}
+use Rattle.siman_console.specs.declared.fault.Fault.TheVariants.{NotBytePairs, HexLine, Input, File, Words, Recording, Already, Piece, OtherExercise, StationTwice, Joined, Certificate, Script, ScriptRead, World, LineFailed, Filter, OverLimit, Output, SameAs, Exists, Memory}
 use Rattle.siman_console.specs.declared.files_fault.FilesFault.{FilesFault}
 use Rattle.siman_console.specs.declared.files_fault.FilesFault.TheVariants as files
 use Rattle.siman_console.specs.declared.trial_fault.TrialFault.{TrialFault}
@@ -41,7 +44,13 @@ move_fault_name (moves.Order orders.IdsSpent) = codes "ids-spent"
 move_fault_name (moves.Order orders.TooLong) = codes "too-long"
 move_fault_name (moves.Order orders.Memory) = codes "memory"
 
--- THE TABLE OF FAULTS: what each is about, what there is to say of it, and where it is: the offset of a field in bytes from 0, a line of a script or of hex texts from 1, a move of a world from 0
+-- the name of a limit that pieces pass together
+abbrev pub limit_name : JoinLimit → List ℕ
+limit_name limits.Stations = codes "stations"
+limit_name limits.Records = codes "records"
+limit_name limits.Size = codes "size"
+
+-- THE TABLE OF FAULTS: what each is about, what there is to say of it, and where it is: the offset of a field in bytes from 0, a line of a script or of hex texts from 1, a move of a world from 0, a piece by its name
 abbrev pub told_as : Fault → List ℕ × List ℕ × Option Place
 told_as NotBytePairs = (codes "hex: ", codes "not byte pairs", None)
 told_as (HexLine number) = (codes "hex: ", codes "not byte pairs", Some (Line number))
@@ -52,6 +61,12 @@ told_as (Recording (recordings.Format f)) = (codes "recording: ", recording_text
 told_as (Recording recordings.Read) = (codes "recording: ", codes "read", None)
 told_as (Recording recordings.Memory) = (codes "recording: ", codes "memory", None)
 told_as Already = (codes "recording: ", codes "already", None)
+told_as (Piece (recordings.Format f) name) = (codes "recording: ", recording_texts.name_of f, Some (PieceOffset (recording_texts.place_of f) name))
+told_as (Piece recordings.Read name) = (codes "recording: ", codes "read", Some (places.Piece name))
+told_as (Piece recordings.Memory name) = (codes "recording: ", codes "memory", Some (places.Piece name))
+told_as (OtherExercise name) = (codes "join: ", codes "exercise", Some (places.Piece name))
+told_as (StationTwice site application name) = (codes "join: ", codes "station", Some (PieceStation site application name))
+told_as (Joined limit) = (codes "join: ", limit_name limit, None)
 told_as (Certificate (certificates.Format f)) = (codes "certificate: ", certificate_texts.name_of f, Some (Offset (certificate_texts.place_of f)))
 told_as (Certificate certificates.Read) = (codes "certificate: ", codes "read", None)
 told_as (Certificate certificates.Memory) = (codes "certificate: ", codes "memory", None)
@@ -70,21 +85,27 @@ told_as (SameAs name) = (codes "output: same as ", name.now, None)
 told_as Exists = (codes "output: ", codes "exists", None)
 told_as Memory = ([], codes "memory", None)
 
-abbrev pub place_words : Place → List ℕ
-place_words (Offset at) = codes " at "
-place_words (Line number) = codes " at line "
-place_words (Move number) = codes " at move "
+-- in a piece
+abbrev pub piece_words : (name : List ℕ) → List ℕ
+piece_words name = codes " in " ++ name
 
-abbrev pub place_number : Place → ℕ
-place_number (Offset at) = at
-place_number (Line number) = number
-place_number (Move number) = number
+-- of a station, by its address
+abbrev pub station_words : (site application : ℕ) → (name : List ℕ) → List ℕ
+station_words site application name = (codes " " ++ decimal site) ++ ((codes ":" ++ decimal application) ++ piece_words name)
+
+abbrev pub place_words : Place → List ℕ
+place_words (Offset at) = codes " at " ++ decimal at
+place_words (Line number) = codes " at line " ++ decimal number
+place_words (Move number) = codes " at move " ++ decimal number
+place_words (places.Piece name) = piece_words name.now
+place_words (PieceOffset at name) = (codes " at " ++ decimal at) ++ piece_words name.now
+place_words (PieceStation site application name) = station_words site application name.now
 
 abbrev pub place_text : Option Place → List ℕ
 place_text None = []
-place_text (Some place) = place_words place ++ decimal (place_number place)
+place_text (Some place) = place_words place
 
--- SUBJECT: NAME, or SUBJECT: NAME at N, at line N or at move N; with its line end
+-- SUBJECT: NAME, and behind it the place; with its line end
 abbrev pub fault_text : Fault → List ℕ
 fault_text fault = ((told_as fault).0 ++ (told_as fault).1) ++ place_text (told_as fault).2
 

@@ -2,6 +2,7 @@
 pub mod Audit
 pub mod Check
 pub mod Convert
+pub mod Join
 pub mod Live
 pub mod Mend
 pub mod Pdus
@@ -19,7 +20,8 @@ use Rattle.siman_words.specs.declared.commands.NoWord.{NoWord}
 use Rattle.siman_words.specs.declared.commands.OneWord.{OneWord}
 use Rattle.siman_words.specs.declared.commands.TwoWords.{TwoWords}
 use Rattle.siman_words.specs.declared.commands.ViewWord.{ViewWord}
-use Rattle.siman_words.specs.Words.{Asked, Trial, Bare, One, Two, Join, View, asked, asks_help}
+use Rattle.siman_words.specs.Words.{Asked, Trial, Bare, One, Two, View, asked, asks_help}
+use Rattle.siman_words.specs.Words as asks
 use Rattle.siman_console.specs.declared.fault.Fault.{Fault}
 use Rattle.siman_console.specs.declared.fault.Fault.TheVariants.{Words, Output, Memory}
 use Rattle.siman_console.specs.Answer.{said_of_hex, IsSaid}
@@ -28,6 +30,7 @@ use Rattle.siman_console.specs.Program.Check.{ChecksFiles}
 use Rattle.siman_console.specs.Program.Convert.{CarriesFile, MakesConverted}
 use Rattle.siman_console.specs.Ending.{Ends, IsToldAs}
 use Rattle.siman_console.specs.Outside.{Has, Stream, Outcome, Deed}
+use Rattle.siman_console.specs.Program.Join.{word_of, JoinsPieces}
 use Rattle.siman_console.specs.Program.Live.{EndsLive}
 use Rattle.siman_console.specs.Making.{Answered}
 use Rattle.siman_console.specs.Program.Mend.{MendsFile, MakesMended}
@@ -71,7 +74,7 @@ EndsTask Trial deeds input o = (deeds ≡ []) × EndsAs (TriesInput input) o
 EndsTask (Bare command) deeds input o = (deeds ≡ []) × EndsBare command input o
 EndsTask (One command word) deeds input o = EndsAs (DoesOne command word deeds) o
 EndsTask (Two command first second) deeds input o = EndsTwo command first second deeds o
-EndsTask (Join pieces made form) deeds input o = (deeds ≡ []) × Keeps o.out.old o.out.new × Ends (Err Words) o.ended o.errors.old o.errors.new
+EndsTask (asks.Join pieces made form) deeds input o = EndsAs (JoinsPieces pieces made (word_of form) deeds) o
 EndsTask (View view recording filters spelling) deeds input o = EndsAs (DoesView view recording filters spelling deeds) o
 
 -- HOW WORDS END that ask for no task: with want of memory, with the help that they ask for, or as a fault of usage, which is told on the writer of faults

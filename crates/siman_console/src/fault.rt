@@ -7,12 +7,12 @@ ghost use Rattle.siman_console.specs.declared.fault.Fault.TheVariants.{Memory};
 ghost use Rattle.siman_console.specs.Ending.{move_fault_name, told_as, place_text, fault_text, fault_line, fault_status, IsToldAs, of_recording, of_convert, of_files, of_script, of_world, of_trial, Ends};
 
 use crate::files_fault::FilesFault;
-use crate::place::Place;
+use crate::join_limit::JoinLimit;
+use crate::place::{Place, put_place};
 use crate::trial_fault::TrialFault;
 use byte_files::{WriteFailed, put, put_both};
 use exercise_check::CertificateFault;
 use exercise_recording::{ConvertFault, RecordingFault};
-use itoa::Buffer;
 use siman_manager::OrderFault;
 use siman_scripts::ScriptFault;
 use siman_worlds::{MoveFault, WorldFault};
@@ -37,6 +37,15 @@ pub enum Fault<'a> {
     Recording(RecordingFault),
     /// The recording that was to be carried over to the second format is one of it.
     Already,
+    /// The piece of this name could not be read; never for want of memory.
+    Piece(RecordingFault, &'a str),
+    /// The piece of this name is of another exercise than the first.
+    OtherExercise(&'a str),
+    /// The piece of this name has the station of this site and application, and so has an earlier
+    /// one.
+    StationTwice(u16, u16, &'a str),
+    /// What pieces give together passes a limit.
+    Joined(JoinLimit),
     /// The certificate could not be read; never for want of memory.
     Certificate(CertificateFault),
     /// The text is no script; never for want of memory.
@@ -63,7 +72,7 @@ pub enum Fault<'a> {
 
 impl<'a> Fault<'a> {
     /// How it is told: what it is about, what there is to say of it, and its place in what was read.
-    fn told(self) -> (&'static str, &'a str, Option<Place>)
+    fn told(self) -> (&'static str, &'a str, Option<Place<'a>>)
         ensures subject { result.0.now ≡ (told_as self.entry).0 }
         ensures name { result.1.now ≡ (told_as self.entry).1 }
         ensures place { result.2 ≡ (told_as self.entry).2 }
@@ -82,6 +91,24 @@ impl<'a> Fault<'a> {
             Fault::Recording(RecordingFault::Read) => ("recording: ", "read", None),
             Fault::Recording(RecordingFault::Memory) => ("recording: ", "memory", None),
             Fault::Already => ("recording: ", "already", None),
+            Fault::Piece(RecordingFault::Format(fault), piece) => (
+                "recording: ",
+                fault.name(),
+                Some(Place::PieceOffset(fault.place(), piece)),
+            ),
+            Fault::Piece(RecordingFault::Read, piece) => {
+                ("recording: ", "read", Some(Place::Piece(piece)))
+            }
+            Fault::Piece(RecordingFault::Memory, piece) => {
+                ("recording: ", "memory", Some(Place::Piece(piece)))
+            }
+            Fault::OtherExercise(piece) => ("join: ", "exercise", Some(Place::Piece(piece))),
+            Fault::StationTwice(site, application, piece) => (
+                "join: ",
+                "station",
+                Some(Place::PieceStation(site, application, piece)),
+            ),
+            Fault::Joined(limit) => ("join: ", limit.name(), None),
             Fault::Certificate(CertificateFault::Format(fault)) => (
                 "certificate: ",
                 fault.name(),
@@ -139,8 +166,8 @@ fn move_fault_name(fault: MoveFault) -> &'static str
     }
 }
 
-/// The line that tells of it, with no line end: `SUBJECT: NAME`, and where a place is told
-/// ` at OFFSET`, ` at line N` or ` at move N`.
+/// The line that tells of it, with no line end: `SUBJECT: NAME`, and behind it the place, where one is
+/// told.
 impl fmt::Display for Fault<'_> {
     ghost output = { λ f. Some (fault_text f) };
 
@@ -148,10 +175,7 @@ impl fmt::Display for Fault<'_> {
         let (subject, name, place) = self.told();
         match place {
             None => write!(f, "{subject}{name}"),
-            Some(place) => {
-                let (words, number) = (place.words(), place.number());
-                write!(f, "{subject}{name}{words}{number}")
-            }
+            Some(place) => write!(f, "{subject}{name}{place}"),
         }
     }
 }
@@ -266,16 +290,12 @@ pub struct Ended {
 }
 
 /// Writes a place, where there is one.
-fn tell_place<E: Write>(place: Option<Place>, errors: &mut E) -> Result<(), WriteFailed>
-    ensures { Writes result (E.contents errors.old) (E.contents errors.new) (place_text place) }
+fn tell_place<E: Write>(place: Option<Place<'_>>, errors: &mut E) -> Result<(), WriteFailed>
+    ensures { Writes result (E.contents errors.old) (E.contents errors.new) (place_text place.entry) }
 {
     match place {
         None => Ok(()),
-        Some(place) => put_both(
-            errors,
-            place.words().as_bytes(),
-            Buffer::new().format(place.number()).as_bytes(),
-        ),
+        Some(place) => put_place(errors, place),
     }
 }
 

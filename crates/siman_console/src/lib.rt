@@ -18,6 +18,7 @@ mod files_fault;
 mod filter_words;
 mod hex_text;
 mod input;
+mod join_limit;
 mod laws;
 mod making;
 mod opening;

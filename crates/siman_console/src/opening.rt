@@ -27,7 +27,7 @@ pub(crate) fn open_apart<'a, O: Outside>(
     names: (&'a str, &'a str),
     outside: &mut O,
 ) -> Result<O::Opened, Fault<'a>>
-    ensures { (deeds : List Deed) × Adds (O.deeds outside.old) (O.deeds outside.new) deeds × All (WasHeld (O.holds outside.old)) deeds × OpensApart names.entry.0.now names.entry.1.now deeds (bytes_by O.bytes result) }
+    ensures { (deeds : List Deed) × Adds (O.deeds outside.old) (O.deeds outside.new) deeds × All (WasHeld (O.holds outside.old)) deeds × OpensApart names.entry.0.now names.entry.1.now deeds (bytes_by O.bytes result) × (O.holds outside.new ≡ O.holds outside.old) }
 {
     let (name, made) = names;
     match outside.open(name) {

@@ -42,7 +42,8 @@ pub trait Outside {
     /// Whether a regular file stands under a name, and is the one that was opened: by the same name,
     /// by another, or by a link.
     fn is_opened(&mut self, file: &Self::Opened, name: &str) -> bool
-        ensures done { Adds (deeds self.old) (deeds self.new) (Compares name.now result ∷ []) };
+        ensures done { Adds (deeds self.old) (deeds self.new) (Compares name.now result ∷ []) }
+        ensures stays { holds self.new ≡ holds self.old };
 
     /// Begins to read a file that was opened.
     fn read(&mut self, file: Self::Opened) -> Self::File

@@ -10,6 +10,7 @@ ghost use Rattle.siman_words.specs.Words.{asked_by};
 pub(crate) mod audit;
 pub(crate) mod check;
 pub(crate) mod convert;
+mod join;
 mod live;
 mod mend;
 pub(crate) mod pdu;
@@ -25,6 +26,7 @@ use crate::product::make_of_file;
 use crate::program::audit::Finding;
 use crate::program::check::CheckCommand;
 use crate::program::convert::Carried;
+use crate::program::join::{join_pieces, word_of};
 use crate::program::live::end_live;
 use crate::program::mend::MendedFile;
 use crate::program::pdu::tell_word;
@@ -134,7 +136,11 @@ fn end_task<'a, O: Outside, R: Read + Drop, W: Write, E: Write>(
             let words = (first, second);
             end_two(alloc, command, words, outside, out, errors)
         }
-        Task::Join(_, _, _) => end(Err(Fault::Words), errors),
+        Task::Join(pieces, new, form) => {
+            let word = word_of(form);
+            let joined = join_pieces(alloc, pieces, new, word, outside, out);
+            end(joined, errors)
+        }
         Task::View(view, recording, words, spelling) => {
             let words = (recording, words);
             end(do_view(alloc, view, words, spelling, outside, out), errors)

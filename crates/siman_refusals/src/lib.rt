@@ -7,12 +7,14 @@ mod call;
 mod datagrams;
 mod load;
 mod machines;
+mod pieces;
 mod recordings;
 mod reviews;
 mod stations;
 
 use crate::datagrams::{COMMENT, Copying, Decoding, Encoding, Showing, pdu_of, to_encode};
 use crate::machines::{Beginning, CREATION, FIXED, Ordering, Taking, VARIABLE, manager, to_take};
+use crate::pieces::{Adding, Bringing, Ending, to_add};
 use crate::recordings::{
     APART, Carrying, Checking, FetchingSteps, Pushing, Reading, ReadingSteps, Searching, Seeing,
     recording_of, to_check,
@@ -41,6 +43,9 @@ pub fn put_library_calls<W: Write>(alloc: Global, out: &mut W) -> io::Result<()>
     put_call::<ReadingSteps, _, _>(alloc, "read_certificate", Ok(()), out)?;
     put_call::<FetchingSteps, _, _>(alloc, "fetch_certificate", Ok(()), out)?;
     put_call::<Carrying, _, _>(alloc, "convert", room(alloc), out)?;
+    put_call::<Bringing, _, _>(alloc, "join", room(alloc), out)?;
+    put_call::<Adding, _, _>(alloc, "add", to_add(alloc), out)?;
+    put_call::<Ending, _, _>(alloc, "end", Ok(()), out)?;
     put_call::<Beginning, _, _>(alloc, "begin", station(alloc, 2, 3), out)?;
     put_call::<Taking, _, _>(alloc, "take, of fixed datums", to_take(alloc, FIXED), out)?;
     put_call::<Taking, _, _>(

@@ -113,7 +113,7 @@ pub(crate) struct Row {
 }
 
 /// The table of the commands, in the order of the help.
-pub(crate) const ROWS: [Row; 10] = [
+pub(crate) const ROWS: [Row; 11] = [
     Row {
         name: "pdu",
         takes: Takes::One(OneWord::Pdu),
@@ -248,6 +248,24 @@ pub(crate) const ROWS: [Row; 10] = [
                 name: "NEW",
                 often: Often::Once,
                 about: "The file of what stands whole of it, which is made anew",
+            },
+        ],
+    },
+    Row {
+        name: "join",
+        takes: Takes::Pieces,
+        about: "Joins the recordings of one exercise that several recorders made",
+        example: "Example:\n  siman join manager.dsrc simulator.dsrc exercise.dsrc",
+        words: &[
+            Word {
+                name: "PIECE",
+                often: Often::OnceOrMore,
+                about: "The file of a recording, of stations that no other piece has",
+            },
+            Word {
+                name: "NEW",
+                often: Often::Once,
+                about: "The file of the joined recording, which is made anew. Behind it form=open or form=closed may stand: the form that it is to have",
             },
         ],
     },

@@ -38,12 +38,8 @@ returns-in-Bare-Pdus g c =
 
 pub returns-in-Join : goal.returns-in-Join
 returns-in-Join g c =
-    rw c.in-Join.is (
-      [],
-      adds_none _,
-      All-nil (WasHeld (g.O.Outside.holds c.args.outside.now)),
-      (refl, Keeps-refl (g.W.Write.contents c.args.out.now), c.end-in-Join.ensures),
-    )
+    let did = rw c.word_of-word.ensures at c.join_pieces-joined.ensures in
+    rw c.in-Join.is (did.0, did.1, did.2, (c.join_pieces-joined.result, did.3, c.end-in-Join.ensures))
 
 pub returns-in-View : goal.returns-in-View
 returns-in-View g c =

@@ -1,5 +1,5 @@
 -- What of a recording stands whole was readied, or was not, and its line made.
-use Rattle.std.proofs.Common.{◌≡◌, Result, inl, inr, refl, ap, ◌∙◌}
+use Rattle.std.proofs.Common.{Result, inl, inr, refl, ap, ◌∙◌}
 use Rattle.exercise_recording.specs.declared.format_fault.FormatFault.{FormatFault}
 use Rattle.exercise_recording.specs.declared.format_fault.RecordingFault.TheVariants as recordings
 use Rattle.exercise_recording.specs.declared.mending.MendFault.{MendFault}

@@ -45,7 +45,7 @@ returns-in_err-take_piece g c =
       adds_then _ _ _ so_far.0 refused.0 so_far.1 refused.1,
       λ holds. All-append (WasHeld holds) so_far.0 refused.0 (so_far.2 holds) (refused.2 holds),
       one_refused start c.loop-alloc.joining c.take_piece.new.joining (seen c.args.pieces.items) (seen xs.items) (seen rest) (seen_by g.O.Outside.bytes x) so_far.0 refused.0
-      c.in_err-take_piece.field-0.0 c.from_residual.result (ap seen is) refused.3 c.from_residual.ensures.1 so_far.3,
+          c.in_err-take_piece.field-0.0 c.from_residual.result (ap seen is) refused.3 c.from_residual.ensures.1 so_far.3,
     )
 
 pub returns : goal.returns

@@ -6,14 +6,15 @@ The programs are two of siman, built of two trees, or any that take the words `c
 machine does falls on both; both have to end with the same status and, where they say something, say the same.
 
 For each kind it prints of each command the seconds of processor time in the program itself (user time, the least of
-the runs) and the peak memory in MiB, before and after, and how many times the one is the other: below 1 is faster or
-smaller. With --instructions it counts the instructions instead, by valgrind, which are the same each time whatever else
+the runs) and the peak memory in MiB, before and after, and how many times the one is the other, turn by turn, the
+median: below 1 is faster or smaller. With --instructions it counts the instructions instead, by valgrind, which are the same each time whatever else
 the machine does, and with --misses also how often the last cache missed, as valgrind reckons it; a run takes some 50
 times as long so, and fewer entries do: --power 16. It is no part of the gate.
 """
 import argparse
 import os
 import re
+import statistics
 import subprocess
 import sys
 import tempfile
@@ -44,16 +45,15 @@ def counted(words, out, given):
         tool += ["--cache-sim=yes"] * given.misses
         with open(out, "wb") as file:
             ended = subprocess.run([*tool, *words], stdout=file, stderr=subprocess.PIPE, text=True, check=False)
-    found = [int(number.replace(",", "")) for number in re.findall(r"refs: +([\d,]+)|LL misses: +([\d,]+)", ended.stderr) for number in number if number]
-    wanted = 1 + given.misses
-    if len(found) < wanted:
+    found = re.findall(r"(?:I +refs|LL misses): +([\d,]+)", ended.stderr)
+    if len(found) < 1 + given.misses:
         sys.exit(f"beside: valgrind did not run:\n{ended.stderr}")
-    return ended.returncode, tuple(number / 1e6 for number in (found[0], *found[-1:] * given.misses))
+    return ended.returncode, tuple(int(number.replace(",", "")) / 1e6 for number in found[: 1 + given.misses])
 
 
-def least(programs, command, folder, given):
-    """The least of what each program takes over some runs, which change places each time."""
-    taken, said = {}, set()
+def taken_by(programs, command, folder, given):
+    """What each program takes in each turn."""
+    taken, said = {name: [] for name in programs}, set()
     for turn in range(given.runs):
         order = list(programs) if turn % 2 == 0 else list(programs)[::-1]
         for name in order:
@@ -61,7 +61,7 @@ def least(programs, command, folder, given):
             measure = counted if given.instructions else measured
             status, numbers = measure(words_of(programs[name], command, folder, name), out, given)
             said.add((status, out.read_bytes()))
-            taken[name] = tuple(map(min, numbers, taken.get(name, numbers)))
+            taken[name].append(numbers)
     if len(said) > 1:
         sys.exit(f"beside: the programs differ in {command}")
     return taken
@@ -70,9 +70,9 @@ def least(programs, command, folder, given):
 def line_of(kind, command, taken):
     """A line of the table."""
     cells = []
-    for before, after in zip(taken["before"], taken["after"]):
-        times = f"{after / before:.3f}" if before else "-"
-        cells.append(f"{before:10.3f} {after:10.3f} {times:>7}")
+    for before, after in zip(zip(*taken["before"]), zip(*taken["after"])):
+        times = statistics.median(late / early for early, late in zip(before, after)) if all(before) else 0
+        cells.append(f"{min(before):10.3f} {min(after):10.3f} {times:7.3f}")
     return f"{kind:<10} {command:<6}" + "  ".join(cells)
 
 
@@ -111,7 +111,7 @@ def main():
             files = [folder / "kind.dsrc", folder / "kind.dsct"]
             subprocess.run([sys.executable, kinds.__file__, kind, str(2**power), *files], check=True)
             for command in COMMANDS:
-                print(line_of(kind, command, least(programs, command, folder, given)), flush=True)
+                print(line_of(kind, command, taken_by(programs, command, folder, given)), flush=True)
 
 
 if __name__ == "__main__":

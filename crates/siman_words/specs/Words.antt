@@ -52,6 +52,7 @@ takes_of (row ∷ rows) name = if bytes_eq row.0 name then Some row.1 else takes
 unfoldable pub takes_named : List ℕ → Option Takes
 takes_named = takes_of (
     (codes "pdu", shapes.One Pdu) ∷ (codes "pdus", shapes.Nothing Pdus) ∷ (codes "show", shapes.One Show) ∷ (codes "check", shapes.Two Check)
+    ∷ (codes "audit", shapes.Two Audit) ∷ (codes "world", shapes.Two World) ∷ (codes "live", shapes.Two Live) ∷ (codes "convert", shapes.Two Convert) ∷ (codes "mend", shapes.Two Mend)
     ∷ (codes "join", shapes.Pieces) ∷ (codes "review", shapes.View Review) ∷ [])
 
 -- a command is asked for where it has the words that it takes, none of them an option

@@ -77,7 +77,7 @@ class Cases:
             self.lines.append(f"status {outcome.status}")
         for part, text in (("out", outcome.out), ("errors", outcome.errors)):
             if text:
-                self.lines += [part, *(f"text {line}" for line in text.decode().splitlines())]
+                self.lines += [part, *(f"text {line}" if line else "text" for line in text.decode().splitlines())]
         if left is not None:
             self.lines += ["left", *hexes(left)]
 
@@ -223,9 +223,30 @@ def failing(cases):
         cases.lines += [f"calls 1 {byte + 1} other", "errors", "text output: write", "discarded", *hexes(left)]
 
 
+HELP = """Joins the recordings of one exercise that several recorders made
+
+Usage: siman join <PIECE>... <NEW>
+
+Arguments:
+  <PIECE>...  The file of a recording, of stations that no other piece has
+  <NEW>       The file of the joined recording, which is made anew. Behind it form=open or form=closed may stand: the form that it is to have
+
+Options:
+  -h, --help  Print help
+
+Example:
+  siman join manager.dsrc simulator.dsrc exercise.dsrc
+"""
+
+
+def helped(cases):
+    cases.case("help-by-join-help")
+    cases.told(["join", "--help"], [], Outcome(0, HELP.encode(), b""))
+
+
 def cases():
     made = Cases()
-    for part in (orders, alone, forms, refusals, limits, files, failing):
+    for part in (helped, orders, alone, forms, refusals, limits, files, failing):
         part(made)
     yield "# Pieces of a recording that are brought together: an exercise of three stations, each recorded on its own machine."
     yield "# The lines were made by tools/cases/joins.py."

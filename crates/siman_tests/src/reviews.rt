@@ -63,7 +63,10 @@ pub(crate) const LOSSES: [u8; 1425] = [
 ];
 
 /// What is found in a log, by stations and request identifiers.
-fn registered<'a, L: ExerciseLog>(alloc: Global, log: &'a L) -> Result<Register<'a, L>, AllocError> {
+fn registered<'a, L: ExerciseLog>(
+    alloc: Global,
+    log: &'a L,
+) -> Result<Register<'a, L>, AllocError> {
     let findings = Findings::of(alloc, log)?;
     Register::of(alloc, findings)
 }

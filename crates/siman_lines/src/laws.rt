@@ -13,6 +13,8 @@ ghost use Rattle.siman_stations.specs.declared.turn.Node.{Node};
 ghost use Rattle.siman_stations.specs.Deeds.{DeedsStand, ReceivesSent, RequestsAreOrdered};
 ghost use Rattle.siman_lines.specs.LineDatagrams.{Datagrams};
 ghost use Rattle.siman_lines.specs.KeptAtLine.{IsWritten, IsKept};
+ghost use Rattle.siman_lines.specs.declared.station_at_line.StationAtLine.{StationAtLine};
+ghost use Rattle.siman_lines.specs.AtLines.{Telling, AtLines, Follows, AreFresh, HasRecorded};
 ghost use Rattle.siman_lines.specs.Calls.{IsFresh, Stations, HasStation, AreAll, AreBegun, AreCalls, AreKept, IsBeginningOf, ComesOfCalls};
 
 /// What is kept of stations over one recorder: it holds of them as they are begun, and after every
@@ -59,4 +61,14 @@ pub fn what_is_kept_stands()
 pub fn calls_make_a_run()
     ensures { (before : Option (List ℕ)) (w : SettingData) (stations calls : List ℕ) (old new : Stations) → AreBegun before w stations old
         → AllByRecursion (λ s. HasStation s stations) calls → AreCalls calls old new → ComesOfCalls before w stations new }
+{}
+
+/// What stations at their lines recorded, of any kind of line, from the start of the recording on: as
+/// they are begun, and after whatever comes of calls at them, as of [`serve_rounds`](crate::serve_rounds),
+/// with faults too. Some entries are written whole, and where each datagram that was received and is
+/// not other was sent before, they are a run in the order of the file.
+pub fn lines_make_a_run<L: Drop>()
+    ensures { (told : Telling L) (before : Option (List ℕ)) (w : SettingData) (recorder : WriterState) (ps : List (StationAtLine L)) (new : AtLines L)
+        → AreFresh told w ps → Starts before w recorder → (let old : AtLines L = record { stations = ps; recorder = recorder } in Follows told old new)
+        → (es : List Entry) × HasRecorded before w new.recorder es }
 {}

@@ -14,7 +14,7 @@ mod telling;
 mod udp;
 
 pub use fault::{AtLineFault, IssueFault, ServeFault};
-pub use laws::{calls_are_kept, calls_make_a_run, what_is_kept_stands};
+pub use laws::{calls_are_kept, calls_make_a_run, lines_make_a_run, what_is_kept_stands};
 pub use line::{Line, LineFault};
 pub use memory::MemoryLine;
 pub use ordering::{issue, nudge};

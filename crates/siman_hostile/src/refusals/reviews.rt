@@ -1,0 +1,43 @@
+//! Files that are reviewed.
+
+use siman_console::{Spelling, review_command};
+use siman_refusals::{Call, RECORDING, Said, refused, room, usual};
+use std::alloc::Global;
+use std::io;
+
+/// What is told of the order that is done.
+const DONE: &str =
+    "review exercise=1 stations=2 records=4 others=0 explained=yes orders=1 done=1 answered=0 refused=0 pending=0 unheard=0 unanswered=0 lost=0 unknown=0 nobody=0
+order 0 from=1:1 request=1 create-entity to=2:3:7 at=2:3 sends=1 receipts=1 got=1 said=able answer=2 heard=able news=3 took=0 change=2 fate=done
+";
+
+/// What an answer and a fault are written to.
+#[derive(Drop)]
+pub(crate) struct Streams {
+    out: Vec<u8>,
+    errors: Vec<u8>,
+}
+
+/// Room for an answer and for a fault.
+pub(crate) fn make_streams(alloc: Global) -> io::Result<Streams> {
+    Ok(Streams {
+        out: room(alloc)?,
+        errors: room(alloc)?,
+    })
+}
+
+/// A recording is reviewed under a filter, and its lines are written where there is room.
+pub(crate) struct Reviewing;
+
+impl Call<Streams> for Reviewing {
+    fn make(alloc: Global, lent: &mut Streams) -> Said {
+        let (recording, words) = (RECORDING.as_slice(), ["fate=done"]);
+        lent.errors.clear();
+        let (out, errors) = (&mut lent.out, &mut lent.errors);
+        match review_command(alloc, recording, &words, Spelling::Text, out, errors) {
+            0 => usual(lent.out.as_slice() == DONE.as_bytes() && lent.errors.is_empty()),
+            3 => refused(lent.out.is_empty() && lent.errors.as_slice() == b"memory\n".as_slice()),
+            _ => Said::Otherwise,
+        }
+    }
+}

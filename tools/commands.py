@@ -11,15 +11,10 @@ import sys
 from pathlib import Path
 
 TOP = Path(__file__).resolve().parent.parent
-# How usage has a word that may stand so often, and what may stand behind the words of some commands.
+# How usage has a word that may stand so often, and what may stand behind all words of a command.
 OFTEN = {"Once": "{}", "OnceOrMore": "{} ..", "AnyTimes": "[{} ..]"}
-BEHIND = {"View": ["[--json]"]}
+BEHIND = {"Pieces": [r"[form=open\|form=closed]"], "View": ["[--json]"]}
 TABLE = TOP / "crates" / "siman_words" / "src" / "commands.rt"
-
-
-# How a word is shown that may come more often than once, and what may stand behind all words of a command.
-OFTEN = {"Once": "{}", "OnceOrMore": "{} ..", "AnyTimes": "[{} ..]"}
-BEHIND = {"Pieces": [r"[form=open\|form=closed]"]}
 
 
 def rows_of_program():

@@ -129,7 +129,8 @@ def try_pipes(trials, examples):
         return [Verdict(told(case, ", its reader gone"), case.accepted, came)]
 
     for words, given, _ in answers(trials, examples) + [(["--help"], b"", None)]:
-        case = Case(words, (UNWRITTEN,), given)
+        wanted = torn("output: write", words[2]) if words[:1] == ["live"] else UNWRITTEN
+        case = Case(words, (wanted,), given)
         trials.tasks.append(lambda case=case: gone(case))
     long = trials.file(texts.recording_text(texts.told_often(50_000)))
     first = Outcome(0, b"e", b"output: write\n2\n")

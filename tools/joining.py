@@ -35,14 +35,30 @@ def recording(stations, logs):
     return head + lines + entries + b"\0" + (len(stations) * logs).to_bytes(4, "big")
 
 
-def made(folder, count):
-    """The names of so many pieces."""
-    size, names = STATIONS // count, []
-    for piece in range(count):
-        names.append(f"{count}.{piece}.dsrc")
+def make(folder, names):
+    """Makes the files of so many pieces."""
+    size = STATIONS // len(names)
+    for piece, name in enumerate(names):
         text = recording(range(piece * size, (piece + 1) * size), ENTRIES // STATIONS)
-        (folder / names[-1]).write_bytes(text)
+        (folder / name).write_bytes(text)
+
+
+def made(folder, count):
+    """The names of so many pieces. They are made by a process of its own, since the peak memory of a program counts
+    that of the one that started it."""
+    names = [f"{count}.{piece}.dsrc" for piece in range(count)]
+    child = os.fork()
+    if child == 0:
+        make(folder, names)
+        os._exit(0)
+    if os.waitpid(child, 0)[1]:
+        sys.exit("the pieces could not be made")
     return names
+
+
+def same(folder, name):
+    """Whether a joined file has the bytes of the converted one."""
+    return subprocess.run(["cmp", "-s", name, "converted"], cwd=folder, check=False).returncode == 0
 
 
 def run(program, folder, words):
@@ -72,8 +88,7 @@ def main():
             for way, words in ways.items():
                 took = run(given.program.resolve(), folder, words)
                 best[way] = tuple(map(min, best.get(way, took), took))
-        wanted = (folder / "converted").read_bytes()
-        wrong = [count for count in (2, 256) if (folder / f"joined.{count}").read_bytes() != wanted]
+        wrong = [count for count in (2, 256) if not same(folder, f"joined.{count}")]
     seconds, memory = best["convert"]
     print("| | seconds | of `convert` | MiB | of `convert` |\n|---|---|---|---|---|")
     for way, (took, peak) in best.items():

@@ -1,7 +1,7 @@
 -- No two stations of a setting have the same address.
-use Rattle.std.proofs.Common.{◌≡◌, ⊎_elim, inl, inr, ℕ, zero, suc, ◌<◌, List, [], ◌∷◌, length, Option, Some, None, Bool, true, false, arith}
+use Rattle.std.proofs.Common.{◌≡◌, ⊎_elim, inl, inr, ℕ, zero, suc, ◌<◌, List, [], ◌∷◌, length, Option, Some, None, Bool, true, false, subst, arith}
 use Rattle.std.specs.Prelude.{◌⊎◌, ◌&&◌, ◌||◌, ◌==◌, nat_lt, nat_le, slice_index_or}
-use Rattle.std.proofs.lemmas.Bool.{and_parts, eqb-true, ltb-true}
+use Rattle.std.proofs.lemmas.Bool.{and_parts, eqb-true, ltb-true, cases_order}
 use Rattle.exercise_model.specs.declared.station.TheConstants.{MOST_STATIONS}
 use Rattle.dis_records.specs.Address.{Pair}
 use Rattle.siman_pdus.specs.declared.pdu.Pdu.{Pdu}
@@ -63,10 +63,44 @@ no_two_origins a c p one other below =
     ⊎_elim (λ (less : a.site < c.site). absurd (omega (arith, x0, y0, less)))
     (λ (less : (a.site ≡ c.site) × (a.application < c.application)). absurd (omega (arith, x1, y1, less.1))) below
 
+-- no address is below itself
+never_itself : (a : Pair) → IsLess a a → ⊥
+never_itself a below =
+    ⊎_elim (λ (site : a.site < a.site). absurd (omega (arith, site))) (λ (both : (a.site ≡ a.site) × (a.application < a.application)). absurd (omega (arith, both.1))) below
+
+-- stations that rise are not one at two indices
+pub one_station : (ss : List StationData) → are_rising None ss ≡ true → (i j : ℕ) → i < length ss → j < length ss
+    → slice_index_or ss i nowhere ≡ slice_index_or ss j nowhere → i ≡ j
+one_station ss rising i j under within same =
+    let Below : StationData → StationData → Type 0 = λ s t. IsLess s.address t.address in
+    let here = slice_index_or ss i nowhere in
+    let there = slice_index_or ss j nowhere in
+    elim (cases_order i j) [
+      | inl equal ↦ equal
+      | inr (inl below) ↦ absurd (never_itself there.address (subst (λ s. Below s there) same (rising_at None ss rising i j below within)))
+      | inr (inr above) ↦ absurd (never_itself there.address (subst (λ s. Below there s) same (rising_at None ss rising j i above under)))
+    ]
+
+-- and a PDU comes from one of them
+pub one_sender : (ss : List StationData) → are_rising None ss ≡ true → (p : Pdu) (i j : ℕ) → i < length ss → j < length ss
+    → is_from (slice_index_or ss i nowhere).address p ≡ true → is_from (slice_index_or ss j nowhere).address p ≡ true → i ≡ j
+one_sender ss rising p i j under within here there =
+    let a = (slice_index_or ss i nowhere).address in
+    let c = (slice_index_or ss j nowhere).address in
+    elim (cases_order i j) [
+      | inl equal ↦ equal
+      | inr (inl below) ↦ absurd (no_two_origins a c p here there (rising_at None ss rising i j below within))
+      | inr (inr above) ↦ absurd (no_two_origins c a p there here (rising_at None ss rising j i above under))
+    ]
+
+-- the stations of a setting rise
+pub own_rising : (w : SettingData) → IsSetting w → are_rising None w.stations ≡ true
+own_rising w setting =
+    let some = and_parts (nat_le 1 (length w.stations)) (nat_le (length w.stations) MOST_STATIONS && are_rising None w.stations) setting.stations in
+    (and_parts (nat_le (length w.stations) MOST_STATIONS) (are_rising None w.stations) some.1).1
+
 -- a PDU comes from one station
 pub one_origin : (w : SettingData) → IsSetting w → (p : Pdu) (i j : ℕ) → i < j → j < length w.stations → is_from (station_in w j).address p ≡ true
     → is_from (station_in w i).address p ≡ true → ⊥
 one_origin w setting p i j below within here there =
-    let some = and_parts (nat_le 1 (length w.stations)) (nat_le (length w.stations) MOST_STATIONS && are_rising None w.stations) setting.stations in
-    let rising = and_parts (nat_le (length w.stations) MOST_STATIONS) (are_rising None w.stations) some.1 in
-    no_two_origins (station_in w i).address (station_in w j).address p there here (rising_at None w.stations rising.1 i j below within)
+    no_two_origins (station_in w i).address (station_in w j).address p there here (rising_at None w.stations (own_rising w setting) i j below within)

@@ -18,4 +18,6 @@ mod Carrying
 mod Knowledge
 mod Standing
 mod Conversions
+mod Moved
+mod Parted
 pub mod Offered

@@ -126,7 +126,7 @@ sender_found r limits p t within own =
     (λ k below. off _ (one_origin r.setting limits.setting p k t below within own))
 
 -- an event of a history that passes is one of its station's log
-any_at : (test : Event → Bool) (v : Event) (later earlier : History) → test v ≡ true
+pub any_at : (test : Event → Bool) (v : Event) (later earlier : History) → test v ≡ true
     → list_any test (log_at (station_of v) (later ++ v ∷ earlier)) ≡ true
 unfolding log_at
 any_at test v [] earlier passes = ap (list_any test) (log_at-own v earlier) ∙ ap (λ t. t || list_any test (log_at (station_of v) earlier)) passes

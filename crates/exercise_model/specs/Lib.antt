@@ -19,3 +19,4 @@ pub mod Answered
 pub mod Knowledge
 pub mod Conversion
 pub mod Alike
+pub mod Part

@@ -7,9 +7,10 @@
 //! takes up, changes and states, why an event may not happen, and runs. The laws of runs are
 //! [`what_explains_holds`], [`logs_suffice`], [`accounts_are_whole`], [`entries_stand`],
 //! [`changes_are_known`], [`allowed_stays_allowed`] and [`ends_are_one`]; that of a first answer is
-//! [`first_answers_change_states`], that of the forms of a recording [`forms_decide_who_is_heard`], and
-//! that of a recording that is carried over to the second format [`conversion_keeps_runs`]. Only
-//! [`Recording::push`] and [`meaning_of`] take memory.
+//! [`first_answers_change_states`], that of the forms of a recording [`forms_decide_who_is_heard`],
+//! that of some of its stations alone [`parts_are_explained`], and that of a recording that is carried
+//! over to the second format [`conversion_keeps_runs`]. Only [`Recording::push`] and [`meaning_of`]
+//! take memory.
 #![tactic(auto)]
 
 mod acknowledge;
@@ -35,7 +36,7 @@ pub use form::Form;
 pub use laws::{
     accounts_are_whole, allowed_stays_allowed, changes_are_known, conversion_keeps_runs,
     ends_are_one, entries_stand, first_answers_change_states, forms_decide_who_is_heard,
-    logs_suffice, what_explains_holds,
+    logs_suffice, parts_are_explained, what_explains_holds,
 };
 pub use log::ExerciseLog;
 pub use meaning::{meaning_of, meaning_view};

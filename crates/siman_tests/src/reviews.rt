@@ -1,6 +1,8 @@
 //! What became of the orders of one exercise: a recording of three stations, one of them the manager
 //! 1:1, in which a datagram was lost on its way there and back, and one request was never answered.
 
+ghost use Rattle.std.specs.Prelude.{◌≡◌, IfOk};
+
 use dis_records::EntityState;
 use exercise_findings::Findings;
 use exercise_model::ExerciseLog;
@@ -63,10 +65,9 @@ pub(crate) const LOSSES: [u8; 1425] = [
 ];
 
 /// What is found in a log, by stations and request identifiers.
-fn registered<'a, L: ExerciseLog>(
-    alloc: Global,
-    log: &'a L,
-) -> Result<Register<'a, L>, AllocError> {
+fn registered<'a, L: ExerciseLog>(alloc: Global, log: &'a L) -> Result<Register<'a, L>, AllocError>
+    ensures { IfOk result (λ register. register ≡ L.recording log.now) }
+{
     let findings = Findings::of(alloc, log)?;
     Register::of(alloc, findings)
 }

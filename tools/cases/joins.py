@@ -282,6 +282,18 @@ def try_numbers(trials):
         try_pieces(trials, made)
 
 
+def try_sizes(trials):
+    """As large a file as there can be, one byte less and one more, of two pieces."""
+    full = texts.received(0, b"\xee" * 8192)
+    size_of = len(texts.entry_text(full))
+    bare = len(texts.recording_text(Recording(1, [Station(1, 1, []), Station(2, 1, [])], [], CLOSED)))
+    for size in (pages.LARGEST_RECORDING - 1, pages.LARGEST_RECORDING, pages.LARGEST_RECORDING + 1):
+        count, rest = divmod(size - bare, size_of)
+        last = texts.received(0, b"\xee" * (rest - len(texts.entry_text(texts.received(0, b"")))))
+        logs = [(2, [full] * (count // 2)), (1, [full] * (count - count // 2) + [last])]
+        try_pieces(trials, [texts.recording_text(Recording(1, [Station(site, 1, [])], entries)) for site, entries in logs])
+
+
 def try_usage(trials):
     usage = Outcome(2, b"", Some())
     for words in [
@@ -341,6 +353,7 @@ def try_all(trials, examples):
         try_pieces(trials, [three[0], three[1][:place] + bytes([byte ^ 1]) + three[1][place + 1 :], three[2]])
     try_many(trials)
     try_numbers(trials)
+    try_sizes(trials)
     try_same(trials)
     try_usage(trials)
     try_tour(trials)

@@ -85,7 +85,7 @@ own_sends r b t i e at here =
     ] own
 
 -- two entries of a station with as many before them are one
-same_rank : (r : PlainRecording) (t i j : ℕ) → is_some (own_event r t i) ≡ true → is_some (own_event r t j) ≡ true → rank r t i ≡ rank r t j → i ≡ j
+pub same_rank : (r : PlainRecording) (t i j : ℕ) → is_some (own_event r t i) ≡ true → is_some (own_event r t j) ≡ true → rank r t i ≡ rank r t j → i ≡ j
 same_rank r t i j one other same =
     ⊎_elim
     (λ (below : i < j). absurd (omega (arith, same, passes r t i j one below)))
@@ -243,7 +243,8 @@ none_taken r (Some e) =
           ∙ ap (λ q. if q then Some e else None) (le-ltb (rank r (station_of (event_of x)) e) 0 (omega arith))
     ]
 
-first_taken : (r : PlainRecording) → IsRecording r → (b : List ℕ) (p : Pdu) → meaning r.setting.exercise b ≡ Some p → (steps : List Step)
+-- so it is after each number of good steps
+pub first_taken : (r : PlainRecording) → IsRecording r → (b : List ℕ) (p : Pdu) → meaning r.setting.exercise b ≡ Some p → (steps : List Step)
     → GoodBelow r steps (length steps) → (n : ℕ) → n ≤ length steps
     → first_sender r.entries b (take n steps) ≡ if_taken r (take n steps) (source_of_pdu r b p)
 first_taken r limits b p means steps good zero within = first_sender-none r.entries b ∙ sym (none_taken r (source_of_pdu r b p))

@@ -49,7 +49,7 @@ in_log r t (suc n) l v later e =
       | Some w ↦ λ own e. found_here r t n v w l (in_log r t n l v) own later e
     ] refl (e ∙ log_before-more r t n)
 
-own_first : (t : ℕ) (v : Event) (h : History) → station_of v ≡ t → log_at t (v ∷ h) ≡ v ∷ log_at t h
+pub own_first : (t : ℕ) (v : Event) (h : History) → station_of v ≡ t → log_at t (v ∷ h) ≡ v ∷ log_at t h
 unfolding log_at
 own_first t v h own = ap (λ b. cond b (v ∷ log_at t h) (log_at t h)) (eq-eqb (station_of v) t own)
 

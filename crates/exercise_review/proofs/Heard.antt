@@ -40,7 +40,7 @@ meant_sent r t i b =
     of_entry (Received s stamp c) = λ e. absurd (cc)
     of_entry (Told s n y) = λ e. absurd (cc)
 
-meant_got : (r : PlainRecording) (t i : ℕ) (b : List ℕ) → bytes_got r t i ≡ Some b → meant_at r i ≡ meaning r.setting.exercise b
+pub meant_got : (r : PlainRecording) (t i : ℕ) (b : List ℕ) → bytes_got r t i ≡ Some b → meant_at r i ≡ meaning r.setting.exercise b
 unfolding bytes_got meant_at
 meant_got r t i b =
     elim (slice_get r.entries i) as (λ o. option_and_then (bytes_got_by t) o ≡ Some b
@@ -102,7 +102,7 @@ pub record GotNews (r : PlainRecording) (o : OrderData) (s t i : ℕ) : Type 0 w
   pub replies : is_reply r o t reply ≡ true
   pub sent : bytes_sent r t reply ≡ Some bytes
 
-news_got : (r : PlainRecording) (o : OrderData) (s t i : ℕ) → o.maker ≡ Some s → is_news r o t i ≡ true → GotNews r o s t i
+pub news_got : (r : PlainRecording) (o : OrderData) (s t i : ℕ) → o.maker ≡ Some s → is_news r o t i ≡ true → GotNews r o s t i
 unfolding is_news has_reply_in replies_in
 news_got r o s t i maker news =
     let got = there (λ b. is_some (first_below (λ j. is_reply r o t j && option_map_or (bytes_eq b) (bytes_sent r t j) false) (length r.entries))) (bytes_got r s i)
@@ -120,14 +120,14 @@ news_got r o s t i maker news =
       sent = sent.1 ∙ ap Some (sym ((bytes_decides b sent.0).0 sent.2));
     }
 
-is_there : (f : ℕ → Bool) (n i : ℕ) → i < n → f i ≡ true → is_some (first_below f n) ≡ true
+pub is_there : (f : ℕ → Bool) (n i : ℕ) → i < n → f i ≡ true → is_some (first_below f n) ≡ true
 is_there f n i within passes =
     elim (is_some (first_below f n)) as (λ b. is_some (first_below f n) ≡ b → b ≡ true) [
       | true ↦ λ _. refl
       | false ↦ λ none. absurd (none_passes f n i none within passes)
     ] refl
 
-got_news : (r : PlainRecording) (o : OrderData) (s t i j : ℕ) (b : List ℕ) → o.maker ≡ Some s → bytes_got r s i ≡ Some b → j < length r.entries
+pub got_news : (r : PlainRecording) (o : OrderData) (s t i j : ℕ) (b : List ℕ) → o.maker ≡ Some s → bytes_got r s i ≡ Some b → j < length r.entries
     → is_reply r o t j ≡ true → bytes_sent r t j ≡ Some b → is_news r o t i ≡ true
 unfolding is_news has_reply_in replies_in
 got_news r o s t i j b maker at within replies sent =
@@ -174,7 +174,7 @@ run_before : (w : SettingData) (later h : History) → IsRun w (later ++ h) → 
 run_before w [] h run = run
 run_before w (v ∷ later) h run = run_before w later h run.0
 
-allowed_at : (w : SettingData) (h before : History) (v : Event) → IsRun w h → Contains h before v → IsAllowed w before v
+pub allowed_at : (w : SettingData) (h before : History) (v : Event) → IsRun w h → Contains h before v → IsAllowed w before v
 allowed_at w h before v run within = (run_before w within.0 (v ∷ before) (subst (IsRun w) (sym within.1) run)).1
 
 -- what comes from a station was sent by it before it was received

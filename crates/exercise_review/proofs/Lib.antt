@@ -19,3 +19,11 @@ mod Stationed
 mod Tallies
 mod Places
 mod Idle
+mod Made
+mod OneOrder
+mod TakenBy
+mod Telling
+mod Came
+mod GoodLinks
+mod Conversions
+pub mod Offered

@@ -15,7 +15,7 @@ use Rattle.siman_pdus.specs.Same.{is_same_order}
 use Rattle.siman_pdus.specs.Spelling.{body_kind}
 use Rattle.exercise_model.specs.Entry.{Entry, Sent, Received, Told}
 use Rattle.exercise_model.specs.Recording.{PlainRecording}
-use Rattle.exercise_model.specs.History.{Send, Get, Tell, History, event_of, station_at}
+use Rattle.exercise_model.specs.History.{Send, Get, Tell, History, event_of, log_at, station_at}
 use Rattle.exercise_model.specs.Meaning.{meaning}
 use Rattle.exercise_model.specs.Exchange.{is_answer_body, is_asked, request_brought, request_taken_up}
 use Rattle.exercise_model.specs.Place.{event_at, own_event, log_before, first_below, brings_request, entry_taken_up}
@@ -63,7 +63,7 @@ both true c e = (refl, e)
 both false c e = absurd (cc)
 
 -- what is meant where something is
-meant_in : (r : PlainRecording) (o : Option (List ℕ)) (p : Pdu) → option_and_then (meaning r.setting.exercise) o ≡ Some p
+pub meant_in : (r : PlainRecording) (o : Option (List ℕ)) (p : Pdu) → option_and_then (meaning r.setting.exercise) o ≡ Some p
     → (b : List ℕ) × (o ≡ Some b) × (meaning r.setting.exercise b ≡ Some p)
 meant_in r None p e = absurd (cc)
 meant_in r (Some b) p e = (b, refl, e)
@@ -129,7 +129,7 @@ body_answers (bodies.SetData request datums) kind e = absurd (cc)
 body_answers (bodies.EventReport event datums) kind e = absurd (cc)
 body_answers (bodies.Comment datums) kind e = absurd (cc)
 
-answers_is : (p q : Pdu) → is_answer_to p q ≡ true → is_answer_body p.body ≡ true
+pub answers_is : (p q : Pdu) → is_answer_to p q ≡ true → is_answer_body p.body ≡ true
 answers_is p q e = body_answers p.body (body_kind q.body) (both (matches_kind p.body (body_kind q.body)) _ e).0
 
 -- what an entry of station s brings for the answer p
@@ -242,6 +242,7 @@ pub record SentReply (r : PlainRecording) (h : History) (o : OrderData) (t i : �
   pub bytes : List ℕ
   pub at : bytes_sent r t i ≡ Some bytes
   pub place : History
+  pub log : log_at t place ≡ log_before r t i
   pub reply : Replies r h place o t bytes
 
 -- A REPLY is an event that replies to the order
@@ -259,6 +260,7 @@ reply_sent r h o t i explains replies =
       bytes = meant.0;
       at = meant.1;
       place = event.before;
+      log = event.log;
       reply = record {
         answer = p;
         taken = taken.0;

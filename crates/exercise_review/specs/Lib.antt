@@ -11,9 +11,14 @@ pub mod Outcome
 pub mod Life
 pub mod Missing
 pub mod InRuns
+pub mod Answering
+pub mod Carried
+pub mod Links
+pub mod Knowing
 pub mod Room
 pub mod Span
 pub mod Told
 pub mod Tally
 pub mod Review
+pub mod Alike
 pub mod Filter

@@ -16,6 +16,7 @@ ghost use Rattle.exercise_review.specs.Order.{OrderData, order_at};
 ghost use Rattle.exercise_review.specs.Party.{is_party_outside};
 ghost use Rattle.exercise_review.specs.Fate.{fate_heard, fate_of, asks_both};
 ghost use Rattle.exercise_review.specs.InRuns.{Receives, HasReplied, HasSettled, Hears, HearsWord};
+ghost use Rattle.exercise_review.specs.Answering.{SendsAnswer, SendsSettling, GetsSettling};
 ghost use Rattle.exercise_review.specs.Life.{state_before, lives_of, states_at, if_there};
 
 /// The law of one side: where the maker of an order was not recorded, or the party was not, its fate
@@ -41,6 +42,11 @@ pub fn lives_are_states()
 /// unheard, that t replied with an answer that settles, and that s received none such of t; done,
 /// refused and answered, that s received one of t that settles, which says the word of that fate and
 /// which t had sent before. It is never unknown. Who did not receive an order did not reply to it.
+///
+/// What answers the order is a reply to it (`replies`, `settles`), and what s receives of that from t
+/// is heard (`hears`), since an identifier of s stands for one order. So, lost and unanswered: t sent
+/// nothing that answers the order; pending: nothing that answers and settles it; unheard: s received
+/// nothing from t that does.
 pub fn fates_hold()
     ensures lost { (r : PlainRecording) (h : History) (o : OrderData) (s t : ℕ) → Explains r h → o.maker ≡ Some s → fate_of r o (Station t) ≡ Lost → Receives r h o t → ⊥ }
     ensures unanswered { (r : PlainRecording) (h : History) (o : OrderData) (s t : ℕ) → Explains r h → o.maker ≡ Some s → fate_of r o (Station t) ≡ Unanswered
@@ -57,4 +63,18 @@ pub fn fates_hold()
         → fate_of r o (Station t) ≡ Answered → (word : Word) × HearsWord r h o s t word × (fate_heard word ≡ Answered) }
     ensures known { (r : PlainRecording) (o : OrderData) (s t : ℕ) → o.maker ≡ Some s → fate_of r o (Station t) ≡ Unknown → ⊥ }
     ensures copied { (r : PlainRecording) (h : History) (o : OrderData) (t : ℕ) → Explains r h → HasReplied r h o t → Receives r h o t }
+    ensures replies { (r : PlainRecording) (h : History) (o : OrderData) (i s t : ℕ) → IsRecording r → Explains r h → order_at r i ≡ Some o → o.maker ≡ Some s
+        → SendsAnswer r h o t → HasReplied r h o t }
+    ensures settles { (r : PlainRecording) (h : History) (o : OrderData) (i s t : ℕ) → IsRecording r → Explains r h → order_at r i ≡ Some o → o.maker ≡ Some s
+        → SendsSettling r h o t → HasSettled r h o t }
+    ensures hears { (r : PlainRecording) (h : History) (o : OrderData) (i s t : ℕ) → IsRecording r → Explains r h → t < length r.setting.stations → order_at r i ≡ Some o → o.maker ≡ Some s
+        → GetsSettling r h o s t → Hears r h o s t }
+    ensures lost_silent { (r : PlainRecording) (h : History) (o : OrderData) (i s t : ℕ) → IsRecording r → Explains r h → order_at r i ≡ Some o → o.maker ≡ Some s
+        → fate_of r o (Station t) ≡ Lost → SendsAnswer r h o t → ⊥ }
+    ensures unanswered_silent { (r : PlainRecording) (h : History) (o : OrderData) (i s t : ℕ) → IsRecording r → Explains r h → order_at r i ≡ Some o → o.maker ≡ Some s
+        → fate_of r o (Station t) ≡ Unanswered → SendsAnswer r h o t → ⊥ }
+    ensures pending_unsettled { (r : PlainRecording) (h : History) (o : OrderData) (i s t : ℕ) → IsRecording r → Explains r h → order_at r i ≡ Some o → o.maker ≡ Some s
+        → fate_of r o (Station t) ≡ Pending → SendsSettling r h o t → ⊥ }
+    ensures unheard_unreceived { (r : PlainRecording) (h : History) (o : OrderData) (i s t : ℕ) → IsRecording r → Explains r h → t < length r.setting.stations → order_at r i ≡ Some o → o.maker ≡ Some s
+        → fate_of r o (Station t) ≡ Unheard → GetsSettling r h o s t → ⊥ }
 {}

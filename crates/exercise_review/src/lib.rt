@@ -8,14 +8,19 @@
 //! log received and no log sent. [`review_of`] tells all orders at their parties, the lives of all
 //! entities and the counts of both, within a limit of lines, and [`keeps`] which of it filters keep.
 //! The laws: [`fates_hold`] says what each fate means in every run that explains the recording,
-//! [`one_side_is_not_enough`] which fates no single log can tell, and [`lives_are_states`] that the
-//! stretches of a life are the states of the entity at each place.
+//! [`one_side_is_not_enough`] which fates no single log can tell, [`lives_are_states`] that the
+//! stretches of a life are the states of the entity at each place, [`changes_are_made`] that a change
+//! that is told was carried out, [`managers_know`] that the maker of an order can know of it what is
+//! told to be heard, [`links_are_of_the_logs`] that good certificates differ in order alone, and
+//! [`conversion_keeps_views`] that a converted recording has the review that it had.
 //!
 //! A [`Register`] keeps the entries by their stations and request identifiers. What has to do with an
 //! order at a station is looked for among those alone that have its identifier there; what else is
 //! asked goes over the whole log.
 #![tactic(auto)]
 
+mod change_laws;
+mod conversion_laws;
 mod counting;
 mod entries;
 mod fate;
@@ -23,6 +28,8 @@ mod fault;
 mod filter;
 mod laws;
 mod life;
+mod link_laws;
+mod manager_laws;
 mod marks;
 mod missing;
 mod order;
@@ -40,11 +47,15 @@ mod told;
 mod walk;
 mod word;
 
+pub use change_laws::changes_are_made;
+pub use conversion_laws::conversion_keeps_views;
 pub use fate::{Fate, Traces, fate_of, traces_of};
 pub use fault::ReviewFault;
 pub use filter::{Filter, Filtered, keeps};
 pub use laws::{fates_hold, lives_are_states, one_side_is_not_enough};
 pub use life::{Stretch, lives_of};
+pub use link_laws::links_are_of_the_logs;
+pub use manager_laws::managers_know;
 pub use missing::{Missing, missing_at};
 pub use order::{Order, head_of, order_at};
 pub use outcome::{Outcome, outcomes_of};

@@ -1,6 +1,7 @@
 use Rattle.exercise_review.specs.declared.fate.Fate.TheVariants as fates
 use Rattle.exercise_review.proofs.Runs.{reply_copied}
 use Rattle.exercise_review.proofs.Fates.{told, none_received, some_received, none_replied, some_replied, none_settled, some_settled, none_heard, word_was_heard}
+use Rattle.exercise_review.proofs.TakenBy.{answers_reply, settling_settles, settling_heard}
 use Rattle.exercise_review.proofs.laws.fates_hold.Goals as goal
 
 pub returns-clause-lost : goal.returns-clause-lost
@@ -35,3 +36,29 @@ returns-clause-known c = λ r o s t maker fate. told r o s t fates.Unknown maker
 
 pub returns-clause-copied : goal.returns-clause-copied
 returns-clause-copied c = λ r h o t explains it. reply_copied r h it.place o t it.bytes explains it.reply
+
+pub returns-clause-replies : goal.returns-clause-replies
+returns-clause-replies c = answers_reply
+
+pub returns-clause-settles : goal.returns-clause-settles
+returns-clause-settles c = settling_settles
+
+pub returns-clause-hears : goal.returns-clause-hears
+returns-clause-hears c = settling_heard
+
+pub returns-clause-lost_silent : goal.returns-clause-lost_silent
+returns-clause-lost_silent c = λ r h o i s t limits explains order maker fate it.
+    let replied = answers_reply r h o i s t limits explains order maker it in
+    none_received r h o t explains (told r o s t fates.Lost maker fate) (reply_copied r h replied.place o t replied.bytes explains replied.reply)
+
+pub returns-clause-unanswered_silent : goal.returns-clause-unanswered_silent
+returns-clause-unanswered_silent c = λ r h o i s t limits explains order maker fate it.
+    none_replied r h o t explains (told r o s t fates.Unanswered maker fate).silent (answers_reply r h o i s t limits explains order maker it)
+
+pub returns-clause-pending_unsettled : goal.returns-clause-pending_unsettled
+returns-clause-pending_unsettled c = λ r h o i s t limits explains order maker fate it.
+    none_settled r h o t explains (told r o s t fates.Pending maker fate).unsettled (settling_settles r h o i s t limits explains order maker it)
+
+pub returns-clause-unheard_unreceived : goal.returns-clause-unheard_unreceived
+returns-clause-unheard_unreceived c = λ r h o i s t limits explains within order maker fate it.
+    none_heard r h o s t explains maker (told r o s t fates.Unheard maker fate).none (settling_heard r h o i s t limits explains within order maker it)

@@ -1,0 +1,19 @@
+//! The law of links: what certificates may say of a recording beside an order. A function is a
+//! theorem: it has no body, and its contract is the law.
+
+ghost use Rattle.std.specs.Prelude.{◌≡◌, ◌<◌, ℕ, List, length};
+ghost use Rattle.exercise_model.specs.Recording.{PlainRecording, IsRecording};
+ghost use Rattle.exercise_check.specs.declared.certificate.Step.{Step};
+ghost use Rattle.exercise_check.specs.Order.{link_number};
+ghost use Rattle.exercise_check.specs.Goodness.{IsGood};
+ghost use Rattle.exercise_review.specs.Links.{log_link, step_at, NameOnce, DifferInOrder};
+
+/// The law of links: each link of a good certificate is what the logs say of its entry, of an answer
+/// that was sent its pair, of what was received its source, and of all else none; and a good
+/// certificate names each entry once. So two good certificates of a recording differ in order alone.
+pub fn links_are_of_the_logs()
+    ensures links { (r : PlainRecording) (steps : List Step) (k : ℕ) → IsRecording r → IsGood r steps → k < length steps
+        → (step_at steps k).link ≡ link_number (log_link r (step_at steps k).place) }
+    ensures once { (r : PlainRecording) (steps : List Step) (i : ℕ) → IsRecording r → IsGood r steps → i < length r.entries → NameOnce steps i }
+    ensures order { (r : PlainRecording) (steps other : List Step) → IsRecording r → IsGood r steps → IsGood r other → DifferInOrder steps other }
+{}

@@ -2,4 +2,5 @@ mod Keyed
 mod Kept
 mod LineParts
 mod ReviewKeys
+mod CarriedLines
 pub mod Texts

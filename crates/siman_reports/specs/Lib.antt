@@ -4,3 +4,4 @@ pub mod Head
 pub mod Records
 pub mod Report
 pub mod Review
+pub mod Noted

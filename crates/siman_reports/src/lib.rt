@@ -7,8 +7,9 @@
 //! and what it does not [`no_line`]; what became of each order [`review_text`]. Each contract gives
 //! the text to the byte, by the definitions of the pages `Head`, `Records`, `EntryLines`, `Report`
 //! and `Review`. The laws say that no line has a key twice ([`keys_come_once`],
-//! [`review_keys_come_once`]), and how the two spellings ([`json_says_the_same`]) and the filters
-//! ([`filters_take_away`]) of a review belong together.
+//! [`review_keys_come_once`]), how the two spellings ([`json_says_the_same`]) and the filters
+//! ([`filters_take_away`]) of a review belong together, and that a converted recording has the lines
+//! that it had ([`conversion_keeps_lines`]).
 #![tactic(auto)]
 
 mod count_line;
@@ -28,5 +29,7 @@ pub use head::{kind_of, put_head};
 pub use keys::keys_come_once;
 pub use records::pdu_lines;
 pub use report::{no_line, report_text};
-pub use review_laws::{filters_take_away, json_says_the_same, review_keys_come_once};
+pub use review_laws::{
+    conversion_keeps_lines, filters_take_away, json_says_the_same, review_keys_come_once,
+};
 pub use review_lines::review_text;

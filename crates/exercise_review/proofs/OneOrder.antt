@@ -1,5 +1,5 @@
 -- A request identifier of a station stands for one order in every run, and an order is what its head sends.
-use Rattle.std.proofs.Common.{◌≡◌, ⊎_elim, ℕ, ◌<◌, ◌≤◌, List, ◌∷◌, ◌++◌, length, cond, Bool, true, false, Option, Some, None, refl, sym, ap, ◌∙◌, subst}
+use Rattle.std.proofs.Common.{◌≡◌, ⊎_elim, ℕ, ◌<◌, ◌≤◌, List, length, cond, Bool, true, false, Option, Some, None, refl, sym, ap, ◌∙◌, subst}
 use Rattle.std.specs.Prelude.{◌⊎◌, nat_eq, slice_get, is_some, not, ◌&&◌, option_map, option_and_then, if◌then◌else◌}
 use Rattle.std.specs.Option.{option_map_or}
 use Rattle.std.specs.List.{list_any}
@@ -12,13 +12,13 @@ use Rattle.siman_pdus.specs.Same.{is_same_order}
 use Rattle.siman_pdus.proofs.Offered.{order_decides}
 use Rattle.exercise_model.specs.Entry.{Entry, Sent, Received, Told}
 use Rattle.exercise_model.specs.Recording.{PlainRecording}
-use Rattle.exercise_model.specs.History.{Event, Send, History, log_at}
+use Rattle.exercise_model.specs.History.{Send, History, log_at}
 use Rattle.exercise_model.specs.Meaning.{meaning}
 use Rattle.exercise_model.specs.Cause.{is_other_order, sends_other, is_reused}
 use Rattle.exercise_model.specs.Place.{first_below}
 use Rattle.exercise_model.specs.Run.{Explains, Contains}
 use Rattle.exercise_model.proofs.Offered.{any_at, first_found, in_order, sent_rows}
-use Rattle.exercise_review.specs.Order.{OrderData, gets_anywhere, sends_order, head_sent, head_got, head_of_entry, head_of, made_by, order_of_entry, order_at}
+use Rattle.exercise_review.specs.Order.{OrderData, sends_order, head_sent, head_got, head_of_entry, head_of, made_by, order_of_entry, order_at}
 use Rattle.exercise_review.proofs.Runs.{none_passes}
 use Rattle.exercise_review.proofs.Heard.{allowed_at}
 

@@ -1,10 +1,10 @@
 -- What answers an order takes up that order, and no other.
-use Rattle.std.proofs.Common.{◌≡◌, ℕ, ◌<◌, List, length, Bool, true, Some, refl, sym, ◌∙◌}
-use Rattle.std.specs.Prelude.{◌&&◌, ◌==◌}
+use Rattle.std.proofs.Common.{◌≡◌, ℕ, ◌<◌, List, length, true, Some, ◌∙◌}
+use Rattle.std.specs.Prelude.{◌==◌}
 use Rattle.std.proofs.lemmas.Bool.{and_from, eqb-true, eq-eqb}
 use Rattle.dis_records.specs.declared.entity.EntityId.{EntityId}
 use Rattle.dis_records.specs.Address.{Pair}
-use Rattle.dis_records.specs.Entity.{pair_of, is_addressed, are_fitting}
+use Rattle.dis_records.specs.Entity.{pair_of, is_addressed}
 use Rattle.siman_pdus.specs.declared.pdu.Pdu.{Pdu}
 use Rattle.siman_pdus.specs.Role.{is_request_body, request_id_of}
 use Rattle.siman_pdus.specs.Answers.{same_id, same_pair, matches_kind, is_answer_to}

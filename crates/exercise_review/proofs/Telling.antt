@@ -1,5 +1,5 @@
 -- What its maker received tells it of an order exactly what the parties of the order have heard.
-use Rattle.std.proofs.Common.{◌≡◌, ⊎_elim, ℕ, ◌+◌, ◌<◌, ◌≤◌, List, ◌∷◌, ◌++◌, length, Bool, true, false, Option, Some, None, refl, sym, ap, ◌∙◌, subst, arith, length-append}
+use Rattle.std.proofs.Common.{◌≡◌, ⊎_elim, ℕ, ◌+◌, ◌<◌, ◌≤◌, List, ◌∷◌, ◌++◌, length, Bool, true, false, Some, None, refl, sym, ap, ◌∙◌, subst, arith, length-append}
 use Rattle.std.specs.Prelude.{nat_lt, slice_get, is_some, not, ◌&&◌, ◌==◌, option_and_then}
 use Rattle.std.specs.Option.{option_map_or}
 use Rattle.std.proofs.lemmas.Bool.{and_from, or_right, eqb-true, eq-eqb, lt-ltb, ltb-true, cases_lt}
@@ -32,7 +32,7 @@ use Rattle.exercise_review.specs.Knowing.{is_party_of, is_heard_of, IsHeardSettl
 use Rattle.exercise_review.proofs.Events.{own_first, entry_of, event_of_entry, got_event, sent_is, sent_event}
 use Rattle.exercise_review.proofs.Recorded.{recorded_sender}
 use Rattle.exercise_review.proofs.Runs.{some_passes, there, both, meant_in, received_copy, sent_reply, reply_copied}
-use Rattle.exercise_review.proofs.Heard.{allowed_at, meant_got, settles_in, is_there, news_got, got_news, sent_before}
+use Rattle.exercise_review.proofs.Heard.{allowed_at, meant_got, is_there, news_got, got_news, sent_before}
 use Rattle.exercise_review.proofs.Made.{sent_own}
 use Rattle.exercise_review.proofs.OneOrder.{ids_same, one_order, no_later, IsOrderOf, order_made}
 use Rattle.exercise_review.proofs.TakenBy.{answer_parts, taken_by, replies_there}

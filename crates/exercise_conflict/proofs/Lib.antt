@@ -1,0 +1,11 @@
+mod Additions
+mod Rows
+mod Places
+mod Stands
+mod Lacking
+mod Blocks
+mod Waiting
+mod Rings
+mod Twice
+mod Backs
+mod Ways

@@ -9,3 +9,6 @@ mod Rings
 mod Twice
 mod Backs
 mod Ways
+mod Contradicting
+mod Steps
+mod Entities

@@ -4,3 +4,5 @@ pub mod Needed
 pub mod Waits
 pub mod Cycles
 pub mod Also
+pub mod Earlier
+pub mod Since

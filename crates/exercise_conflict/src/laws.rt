@@ -1,9 +1,9 @@
 //! Laws of what contradicts what. Each function is a theorem: it has no body, and its contract is the
 //! law.
 
-ghost use Rattle.std.specs.Prelude.{◌≡◌, ◌≢◌, ◌⊎◌, ◌<◌, length, ℕ, List, true, Some, slice_get};
+ghost use Rattle.std.specs.Prelude.{◌≡◌, ◌≢◌, ◌⊎◌, ◌<◌, length, ℕ, List, true, Some, None, slice_get};
 ghost use Rattle.exercise_model.specs.declared.cause.Cause.{Cause};
-ghost use Rattle.exercise_model.specs.declared.cause.Cause.TheVariants.{NeverSent};
+ghost use Rattle.exercise_model.specs.declared.cause.Cause.TheVariants.{ReusedIdentifier, WrongAnswer, ChangedAnswer, NeverSent};
 ghost use Rattle.exercise_model.specs.Recording.{PlainRecording, IsRecording};
 ghost use Rattle.exercise_model.specs.History.{History};
 ghost use Rattle.exercise_model.specs.Run.{Explains};
@@ -18,6 +18,8 @@ ghost use Rattle.exercise_conflict.specs.Wider.{IsWider, HasFurtherSends};
 ghost use Rattle.exercise_conflict.specs.Needed.{IsNeeded};
 ghost use Rattle.exercise_conflict.specs.declared.waits.Wait.{Wait};
 ghost use Rattle.exercise_conflict.specs.Waits.{waits_of, Leads};
+ghost use Rattle.exercise_conflict.specs.Earlier.{earlier_of, Contradicts, ContradictsAnswer};
+ghost use Rattle.exercise_conflict.specs.Since.{made_since, HasOneState, Made};
 ghost use Rattle.exercise_conflict.specs.Cycles.{cycle_at, AreWaits, EndsAt, GoesRound};
 
 /// The law of own causes: where the log of its station has a cause against an entry, and it is not
@@ -77,4 +79,20 @@ pub fn cycles_block()
 pub fn ways_end()
     ensures { (r : PlainRecording) (waits : List Wait) (s : ℕ) → IsRecording r → AreWaits r waits → s < length r.setting.stations
         → EndsAt waits s ⊎ GoesRound waits s }
+{}
+
+/// The law of earlier entries: what an entry contradicts by a reused identifier, a wrong answer or a
+/// changed one is there, an earlier entry of its station, and after that alone (of a changed answer
+/// with the request that it takes up before it) the entry has that cause.
+pub fn earlier_is_the_conflict()
+    ensures reused { (r : PlainRecording) (j : ℕ) → own_cause r j ≡ Some ReusedIdentifier → (k : ℕ) × (earlier_of r j ≡ Some k) × Contradicts r j k ReusedIdentifier }
+    ensures answer { (r : PlainRecording) (j : ℕ) → own_cause r j ≡ Some WrongAnswer → (k : ℕ) × (earlier_of r j ≡ Some k) × Contradicts r j k WrongAnswer }
+    ensures changed { (r : PlainRecording) (j : ℕ) → own_cause r j ≡ Some ChangedAnswer → (k : ℕ) × (earlier_of r j ≡ Some k) × ContradictsAnswer r j k ChangedAnswer }
+{}
+
+/// The law of states: what made the state of an entity is a change, and none after it changed that
+/// state; where nothing made it, the entity has the state of the start.
+pub fn states_are_made()
+    ensures made { (r : PlainRecording) (s e n k : ℕ) → made_since r s e n ≡ Some k → Made r s e n k }
+    ensures start { (r : PlainRecording) (s e n : ℕ) → made_since r s e n ≡ None → HasOneState r s e 0 n }
 {}

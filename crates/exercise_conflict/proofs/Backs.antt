@@ -1,7 +1,8 @@
 -- The way back to a station, one step more at a time.
-use Rattle.std.proofs.Common.{◌≡◌, ◌≢◌, ℕ, suc, ◌+◌, ◌-◌, ◌<◌, List, [], ◌∷◌, ◌++◌, length, cond, Option, Some, None, true, false, refl, sym, ap, ◌∙◌, arith, append_assoc, append-nil}
+use Rattle.std.proofs.Common.{◌≡◌, ◌≢◌, ℕ, suc, ◌+◌, ◌-◌, ◌<◌, List, [], ◌∷◌, ◌++◌, cond, Option, Some, None, true, false, refl, sym, ap, ◌∙◌, arith, append_assoc, append-nil}
 use Rattle.std.specs.Prelude.{nat_lt, option_map, option_and_then}
 use Rattle.std.proofs.lemmas.Bool.{eq-eqb, ne_eqb, lt-ltb, le-ltb}
+use Rattle.exercise_model.specs.declared.station.TheConstants.{MOST_STATIONS}
 use Rattle.exercise_conflict.specs.declared.waits.Wait.{Wait}
 use Rattle.exercise_conflict.specs.Cycles.{wait_at, way_back, IsWayBack}
 
@@ -9,7 +10,7 @@ use Rattle.exercise_conflict.specs.Cycles.{wait_at, way_back, IsWayBack}
 pub record IsSoFar (waits : List Wait) (s from : ℕ) (old new : List ℕ) (place step : ℕ) : Type 0 where
   pub done : List ℕ
   pub added : new ≡ old ++ done
-  pub goes : (left : ℕ) → left + step ≡ length waits → way_back waits s from (length waits) ≡ option_map (λ rest. done ++ rest) (way_back waits s place left)
+  pub goes : (left : ℕ) → left + step ≡ MOST_STATIONS → way_back waits s from MOST_STATIONS ≡ option_map (λ rest. done ++ rest) (way_back waits s place left)
 
 -- ---- one step
 
@@ -49,18 +50,18 @@ pub begins : (waits : List Wait) (s from : ℕ) (old : List ℕ) → IsSoFar wai
 begins waits s from old = record {
   done = [];
   added = sym (append-nil old);
-  goes = λ left all. let same : length waits ≡ left = omega (arith, all) in ap (way_back waits s from) same ∙ kept (way_back waits s from left);
+  goes = λ left all. let same : MOST_STATIONS ≡ left = omega (arith, all) in ap (way_back waits s from) same ∙ kept (way_back waits s from left);
 }
 
 -- what is left, where a step is taken
 abbrev rest_of : List Wait → ℕ → ℕ
-rest_of waits step = length waits - (step + 1)
+rest_of waits step = MOST_STATIONS - (step + 1)
 
-at_left : (waits : List Wait) (s from : ℕ) (old new : List ℕ) (place step : ℕ) → (far : IsSoFar waits s from old new place step) → step < length waits
-    → way_back waits s from (length waits) ≡ option_map (λ rest. far.done ++ rest) (way_back waits s place (suc (rest_of waits step)))
+at_left : (waits : List Wait) (s from : ℕ) (old new : List ℕ) (place step : ℕ) → (far : IsSoFar waits s from old new place step) → step < MOST_STATIONS
+    → way_back waits s from MOST_STATIONS ≡ option_map (λ rest. far.done ++ rest) (way_back waits s place (suc (rest_of waits step)))
 at_left waits s from old new place step far less = far.goes (suc (rest_of waits step)) (omega (arith, less))
 
-pub arrives : (waits : List Wait) (s from : ℕ) (old new : List ℕ) (place step : ℕ) → IsSoFar waits s from old new place step → step < length waits
+pub arrives : (waits : List Wait) (s from : ℕ) (old new : List ℕ) (place step : ℕ) → IsSoFar waits s from old new place step → step < MOST_STATIONS
     → place ≡ s → IsWayBack waits s from old new true
 arrives waits s from old new place step far less same = (
   far.done,
@@ -70,13 +71,13 @@ arrives waits s from old new place step far less same = (
   far.added,
 )
 
-pub falls : (waits : List Wait) (s from : ℕ) (old new : List ℕ) (place step : ℕ) → IsSoFar waits s from old new place step → step < length waits
+pub falls : (waits : List Wait) (s from : ℕ) (old new : List ℕ) (place step : ℕ) → IsSoFar waits s from old new place step → step < MOST_STATIONS
     → place < s → IsWayBack waits s from old new false
 falls waits s from old new place step far less below =
     at_left waits s from old new place step far less
     ∙ ap (option_map (λ rest. far.done ++ rest)) (back_below waits s place (rest_of waits step) below)
 
-pub stops : (waits : List Wait) (s from : ℕ) (old new : List ℕ) (place step : ℕ) → IsSoFar waits s from old new place step → step < length waits
+pub stops : (waits : List Wait) (s from : ℕ) (old new : List ℕ) (place step : ℕ) → IsSoFar waits s from old new place step → step < MOST_STATIONS
     → s < place → wait_at waits place ≡ None → IsWayBack waits s from old new false
 stops waits s from old new place step far less above none =
     at_left waits s from old new place step far less
@@ -89,7 +90,7 @@ joined done place None = refl
 joined done place (Some xs) = ap Some (sym (append_assoc done (place ∷ []) xs))
 
 pub goes_on : (waits : List Wait) (s from : ℕ) (old new more : List ℕ) (place step : ℕ) (w : Wait) → IsSoFar waits s from old new place step
-    → step < length waits → s < place → wait_at waits place ≡ Some w → more ≡ new ++ place ∷ [] → IsSoFar waits s from old more w.on (step + 1)
+    → step < MOST_STATIONS → s < place → wait_at waits place ≡ Some w → more ≡ new ++ place ∷ [] → IsSoFar waits s from old more w.on (step + 1)
 goes_on waits s from old new more place step w far less above is pushed = record {
   done = far.done ++ place ∷ [];
   added = pushed ∙ ap (λ xs. xs ++ place ∷ []) far.added ∙ append_assoc old far.done (place ∷ []);
@@ -99,7 +100,7 @@ goes_on waits s from old new more place step w far less above is pushed = record
       ∙ joined far.done place (way_back waits s w.on left);
 }
 
-pub ends : (waits : List Wait) (s from : ℕ) (old new : List ℕ) (place step : ℕ) → IsSoFar waits s from old new place step → step ≡ length waits
+pub ends : (waits : List Wait) (s from : ℕ) (old new : List ℕ) (place step : ℕ) → IsSoFar waits s from old new place step → step ≡ MOST_STATIONS
     → IsWayBack waits s from old new false
 ends waits s from old new place step far all =
     far.goes 0 (omega (arith, all)) ∙ ap (option_map (λ rest. far.done ++ rest)) (none_left waits s place)

@@ -8,6 +8,7 @@ mod Waiting
 mod Rings
 mod Twice
 mod Backs
+mod Rounds
 mod Ways
 mod Contradicting
 mod Steps

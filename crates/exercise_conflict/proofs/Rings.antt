@@ -15,6 +15,7 @@ use Rattle.exercise_model.specs.Alike.{HasPlace}
 use Rattle.exercise_model.proofs.Offered.{always_as_said, explained_holds, first_found, log_before-all, log_before-more, sender_found}
 use Rattle.exercise_findings.specs.Source.{sends_here, first_send}
 use Rattle.exercise_findings.proofs.Offered.{bytes_same}
+use Rattle.exercise_model.specs.declared.station.TheConstants.{MOST_STATIONS}
 use Rattle.exercise_conflict.specs.declared.waits.Wait.{Wait}
 use Rattle.exercise_conflict.specs.Waits.{IsWait}
 use Rattle.exercise_conflict.specs.Cycles.{wait_at, way_back, cycle_at, AreWaits}
@@ -189,15 +190,15 @@ pub rings_block : (r : PlainRecording) (waits : List Wait) (s : ℕ) (cycle : Li
     → cycle_at waits s ≡ Some cycle → Explains r h → ⊥
 unfolding cycle_at AtEntry
 rings_block r waits s cycle h limits hold is explains =
-    elim (wait_at waits s) as (λ o. wait_at waits s ≡ o → option_and_then (λ w. option_map (λ way. s ∷ way) (way_back waits s w.on (length waits))) o ≡ Some cycle → ⊥) [
+    elim (wait_at waits s) as (λ o. wait_at waits s ≡ o → option_and_then (λ w. option_map (λ way. s ∷ way) (way_back waits s w.on MOST_STATIONS)) o ≡ Some cycle → ⊥) [
       | None ↦ λ _ e. absurd (cc)
-      | Some w ↦ λ here. elim (way_back waits s w.on (length waits)) as (λ o. way_back waits s w.on (length waits) ≡ o → option_map (λ way. s ∷ way) o ≡ Some cycle → ⊥) [
+      | Some w ↦ λ here. elim (way_back waits s w.on MOST_STATIONS) as (λ o. way_back waits s w.on MOST_STATIONS ≡ o → option_map (λ way. s ∷ way) o ≡ Some cycle → ⊥) [
         | None ↦ λ _ e. absurd (cc)
         | Some way ↦ λ back _. around w here way back
       ] refl
     ] refl is
   where
-    around : (w : Wait) → wait_at waits s ≡ Some w → (way : List ℕ) → way_back waits s w.on (length waits) ≡ Some way → ⊥
+    around : (w : Wait) → wait_at waits s ≡ Some w → (way : List ℕ) → way_back waits s w.on MOST_STATIONS ≡ Some way → ⊥
     around w here way back =
         let is = hold.each s w here in
         let v : Event = Get w.station is.bytes in
@@ -207,7 +208,7 @@ rings_block r waits s cycle h limits hold is explains =
         let next = next_before r h w (suc (length place.before)) limits explains is first in
         let start : AtEntry r h waits (length place.before) w.on =
         λ u there. subst (λ i. IsPlacedBelow r h i (length place.before)) (hold.on s w u here there) next in
-        let again = way_leads r h waits s (length place.before) limits explains hold (length waits) w.on way back start w here in
+        let again = way_leads r h waits s (length place.before) limits explains hold MOST_STATIONS w.on way back start w here in
         let at = own_entry r (station_of again.event) w.entry again.event again.own in
         let there = own_entry r w.station w.entry v own in
         let event : again.event ≡ v = sym at.is ∙ ap event_of (same_Some at.entry there.entry (sym at.at ∙ there.at)) ∙ there.is in

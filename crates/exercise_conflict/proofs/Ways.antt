@@ -1,14 +1,17 @@
 -- Where the ways of those who wait end.
 use Rattle.std.proofs.Common.{◌≡◌, ◌⊎◌, ⊎_elim, inl, inr, ℕ, zero, suc, ◌<◌, ◌≤◌, List, length, Some, None, refl, sym, ap, ◌∙◌, subst, arith}
-use Rattle.std.specs.Prelude.{option_map, option_and_then, unwrap_or}
-use Rattle.std.proofs.lemmas.Bool.{cases_lt}
+use Rattle.std.specs.Prelude.{option_map, option_and_then, unwrap_or, nat_le, ◌&&◌}
+use Rattle.std.proofs.lemmas.Bool.{cases_lt, and_parts, leb-true}
+use Rattle.exercise_model.specs.declared.station.TheConstants.{MOST_STATIONS}
+use Rattle.exercise_model.specs.Station.{are_rising}
 use Rattle.exercise_model.specs.Recording.{PlainRecording, IsRecording}
 use Rattle.exercise_model.specs.History.{Event, Send, event_of, station_of}
 use Rattle.exercise_model.specs.Place.{own_event}
 use Rattle.exercise_model.proofs.Offered.{entry_station}
 use Rattle.exercise_conflict.specs.declared.waits.Wait.{Wait}
-use Rattle.exercise_conflict.specs.Cycles.{wait_at, come_to, AreWaits, EndsAt, GoesRound}
+use Rattle.exercise_conflict.specs.Cycles.{wait_at, come_to, AreWaits, EndsAt, IsTold}
 use Rattle.exercise_conflict.proofs.Blocks.{own_entry}
+use Rattle.exercise_conflict.proofs.Rounds.{round_told}
 use Rattle.exercise_conflict.proofs.Twice.{meet}
 
 -- so many steps come to a station that there is
@@ -47,9 +50,16 @@ come_far r waits s limits hold within (suc n) =
     ] refl)
     (come_far r waits s limits hold within n)
 
+-- there are at most as many stations as a recording may have
+few : (r : PlainRecording) → IsRecording r → length r.setting.stations ≤ MOST_STATIONS
+few r limits =
+    let ss = r.setting.stations in
+    let parts = and_parts (nat_le 1 (length ss)) (nat_le (length ss) MOST_STATIONS && are_rising None ss) limits.setting.stations in
+    leb-true (length ss) MOST_STATIONS (and_parts (nat_le (length ss) MOST_STATIONS) (are_rising None ss) parts.1).0
+
 -- THE WAYS END
 pub ways_end : (r : PlainRecording) (waits : List Wait) (s : ℕ) → IsRecording r → AreWaits r waits → s < length r.setting.stations
-    → EndsAt waits s ⊎ GoesRound waits s
+    → EndsAt waits s ⊎ IsTold waits s
 ways_end r waits s limits hold within =
     ⊎_elim
     (λ (ends : EndsAt waits s). inl ends)
@@ -60,12 +70,13 @@ ways_end r waits s limits hold within =
     let early : two.first ≤ length r.setting.stations = omega (arith, two.later, two.within) in
     let one = far two.first early in
     let other = far two.second two.within in
-    inr (record {
+    inr (round_told waits s (record {
       first = two.first;
       second = two.second;
+      soon = omega (arith, two.within, few r limits);
       station = one.station;
       later = two.later;
       come = one.come;
       again = other.come ∙ ap Some (sym (is two.second two.within) ∙ sym two.same ∙ is two.first early);
-    }))
+    })))
     (come_far r waits s limits hold within (length r.setting.stations))

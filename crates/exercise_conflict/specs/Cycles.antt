@@ -1,5 +1,6 @@
 -- Stations that wait on one another in a ring (profile).
-use Rattle.std.specs.Prelude.{◌≡◌, ◌<◌, Bool, true, false, ◌++◌, ℕ, zero, suc, List, [], ◌∷◌, length, ◌==◌, nat_lt, Option, Some, None, option_map, option_and_then, if◌then◌else◌}
+use Rattle.std.specs.Prelude.{◌≡◌, ◌<◌, ◌≤◌, Bool, true, false, ◌++◌, ℕ, zero, suc, List, [], ◌∷◌, ◌==◌, nat_lt, Option, Some, None, option_map, option_and_then, if◌then◌else◌}
+use Rattle.exercise_model.specs.declared.station.TheConstants.{MOST_STATIONS}
 use Rattle.exercise_model.specs.Recording.{PlainRecording}
 use Rattle.exercise_conflict.specs.declared.waits.Wait.{Wait}
 use Rattle.exercise_conflict.specs.Waits.{IsWait}
@@ -19,12 +20,12 @@ way_back waits s t (suc n) =
 
 -- THE CYCLE AT A STATION: the stations from s on, each of which waits on the next one and the last on s, where s is the least of them; none where there are no such
 unfoldable pub cycle_at : List Wait → ℕ → Option (List ℕ)
-cycle_at waits s = option_and_then (λ w. option_map (λ way. s ∷ way) (way_back waits s w.on (length waits))) (wait_at waits s)
+cycle_at waits s = option_and_then (λ w. option_map (λ way. s ∷ way) (way_back waits s w.on MOST_STATIONS)) (wait_at waits s)
 
 -- the way back stands behind what stood there, where there is one
 abbrev pub IsWayBack : List Wait → ℕ → ℕ → List ℕ → List ℕ → Bool → Type 0
-IsWayBack waits s t old new true = (way : List ℕ) × (way_back waits s t (length waits) ≡ Some way) × (new ≡ old ++ way)
-IsWayBack waits s t old new false = way_back waits s t (length waits) ≡ None
+IsWayBack waits s t old new true = (way : List ℕ) × (way_back waits s t MOST_STATIONS ≡ Some way) × (new ≡ old ++ way)
+IsWayBack waits s t old new false = way_back waits s t MOST_STATIONS ≡ None
 
 -- WAITS THAT HOLD: each says of the logs what it says, and where a station waits on one that waits too, its `next` is the entry of that one
 pub record AreWaits (r : PlainRecording) (waits : List Wait) : Type 0 where
@@ -45,11 +46,20 @@ pub record EndsAt (waits : List Wait) (s : ℕ) : Type 0 where
   pub come : come_to waits s steps ≡ Some station
   pub none : wait_at waits station ≡ None
 
--- it comes twice to one station, so from there on it goes round
+-- it comes twice to one station, within as many steps as there are stations at most, and so goes round
 pub record GoesRound (waits : List Wait) (s : ℕ) : Type 0 where
   pub first : ℕ
   pub second : ℕ
   pub station : ℕ
   pub later : first < second
+  pub soon : second ≤ MOST_STATIONS
   pub come : come_to waits s first ≡ Some station
   pub again : come_to waits s second ≡ Some station
+
+-- it comes to a station at which a cycle is told
+pub record IsTold (waits : List Wait) (s : ℕ) : Type 0 where
+  pub steps : ℕ
+  pub station : ℕ
+  pub come : come_to waits s steps ≡ Some station
+  pub cycle : List ℕ
+  pub told : cycle_at waits station ≡ Some cycle

@@ -4,6 +4,7 @@ ghost use Rattle.std.specs.Prelude.{◌≡◌, option_map, length, IfOk};
 ghost use Rattle.exercise_conflict.specs.Cycles.{wait_at, cycle_at, IsWayBack};
 
 use crate::waits::Wait;
+use exercise_model::MOST_STATIONS;
 use std::alloc::{AllocError, Global};
 
 /// What a station waits for, if it waits.
@@ -30,7 +31,7 @@ fn add_way_back(
     ensures { IfOk result (λ back. IsWayBack waits.now station from way.old.items way.new.items back) }
 {
     let mut at = from;
-    for _step in 0..waits.len() {
+    for _step in 0..MOST_STATIONS {
         if at == station {
             return Ok(true);
         }

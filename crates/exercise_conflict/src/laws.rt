@@ -20,7 +20,7 @@ ghost use Rattle.exercise_conflict.specs.declared.waits.Wait.{Wait};
 ghost use Rattle.exercise_conflict.specs.Waits.{waits_of, Leads};
 ghost use Rattle.exercise_conflict.specs.Earlier.{earlier_of, Contradicts, ContradictsAnswer};
 ghost use Rattle.exercise_conflict.specs.Since.{made_since, HasOneState, Made};
-ghost use Rattle.exercise_conflict.specs.Cycles.{cycle_at, AreWaits, EndsAt, GoesRound};
+ghost use Rattle.exercise_conflict.specs.Cycles.{cycle_at, AreWaits, EndsAt, IsTold};
 
 /// The law of own causes: where the log of its station has a cause against an entry, and it is not
 /// that a datagram was never sent, no run explains the recording. So such a cause is always the
@@ -75,10 +75,10 @@ pub fn cycles_block()
 {}
 
 /// The law of ends: from each station, the way over those on which the next one waits comes to a
-/// station that waits on nobody, or comes twice to one station, and so goes round.
+/// station that waits on nobody, or to one at which a cycle is told.
 pub fn ways_end()
     ensures { (r : PlainRecording) (waits : List Wait) (s : ℕ) → IsRecording r → AreWaits r waits → s < length r.setting.stations
-        → EndsAt waits s ⊎ GoesRound waits s }
+        → EndsAt waits s ⊎ IsTold waits s }
 {}
 
 /// The law of earlier entries: what an entry contradicts by a reused identifier, a wrong answer or a

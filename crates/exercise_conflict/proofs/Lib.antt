@@ -1,0 +1,15 @@
+mod Additions
+mod Rows
+mod Places
+mod Stands
+mod Lacking
+mod Blocks
+mod Waiting
+mod Rings
+mod Twice
+mod Backs
+mod Rounds
+mod Ways
+mod Contradicting
+mod Steps
+mod Entities

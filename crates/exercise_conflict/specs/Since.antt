@@ -1,0 +1,24 @@
+-- The change that made the state of an entity at a place (profile, over IEEE 1278.1-2012, 5.6.5).
+use Rattle.std.specs.Prelude.{◌≡◌, ◌≢◌, ◌<◌, ◌≤◌, ℕ, zero, suc, Option, Some, None, if◌then◌else◌}
+use Rattle.exercise_model.specs.declared.state.Change.{Change}
+use Rattle.exercise_model.specs.Recording.{PlainRecording}
+use Rattle.exercise_model.specs.Cause.{same_state}
+use Rattle.exercise_model.specs.Account.{change_at}
+use Rattle.exercise_review.specs.Life.{state_before}
+
+-- THE CHANGE THAT MADE A STATE: the last entry before entry n that left entity e of station s in another state than it had; none where it has that of the start
+unfoldable pub made_since : PlainRecording → ℕ → ℕ → ℕ → Option ℕ
+made_since r s e zero = None
+made_since r s e (suc n) = if same_state (state_before r s e n) (state_before r s e (suc n)) then made_since r s e n else Some n
+
+-- from the place before entry `from` to that before entry n the entity had one state
+abbrev pub HasOneState : PlainRecording → ℕ → ℕ → ℕ → ℕ → Type 0
+HasOneState r s e from n = (m : ℕ) → from ≤ m → m ≤ n → state_before r s e m ≡ state_before r s e n
+
+-- entry k made the state that the entity has before entry n: it is a change of another state, and none after it changed that
+pub record Made (r : PlainRecording) (s e n k : ℕ) : Type 0 where
+  pub earlier : k < n
+  pub change : Change
+  pub is : change_at r k ≡ Some change
+  pub other : state_before r s e k ≢ state_before r s e (suc k)
+  pub since : HasOneState r s e (suc k) n

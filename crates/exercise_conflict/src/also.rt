@@ -1,0 +1,45 @@
+//! What the logs have against their own entries, whatever other stations sent.
+
+ghost use Rattle.std.specs.Prelude.{◌≡◌};
+ghost use Rattle.exercise_conflict.specs.Also.{standing_cause, is_next_of, also_at};
+
+use exercise_audit::Block;
+use exercise_findings::Findings;
+use exercise_model::{Cause, ExerciseLog};
+
+/// The first cause that the log of its station has against an entry, where it is not that a datagram
+/// was never sent. No certificate and no further send mends it. `None` for all else and past the last
+/// entry. It takes no memory.
+#[tactic(auto, unfolding(crate::specs::Also::standing_cause))]
+pub fn standing_cause<L: ExerciseLog>(findings: &Findings<'_, L>, entry: usize) -> Option<Cause>
+    ensures { result ≡ standing_cause findings.now entry }
+{
+    match findings.cause(entry) {
+        Some(Cause::NeverSent) | None => None,
+        Some(cause) => Some(cause),
+    }
+}
+
+/// Whether an entry is the next one of a blocked station.
+fn is_next_of(blocks: &[Block], entry: usize) -> bool
+    ensures { result ≡ is_next_of blocks.now entry }
+{
+    blocks.iter().any(|block| block.entry == entry)
+}
+
+/// What else stands against an entry beside a blocked list: its standing cause, where it is the next
+/// entry of no blocked station. `None` for all else and past the last entry. It takes no memory.
+#[tactic(auto, unfolding(crate::specs::Also::also_at))]
+pub fn also_at<L: ExerciseLog>(
+    findings: &Findings<'_, L>,
+    blocks: &[Block],
+    entry: usize,
+) -> Option<Cause>
+    ensures { result ≡ also_at findings.now blocks.now entry }
+{
+    let cause = standing_cause(findings, entry)?;
+    if is_next_of(blocks, entry) {
+        return None;
+    }
+    Some(cause)
+}

@@ -1,0 +1,163 @@
+//! The earlier entry of the same station that an entry contradicts.
+
+ghost use Rattle.std.specs.Prelude.{◌≡◌, option_map};
+ghost use Rattle.siman_pdus.specs.Reading.{pdu_of};
+ghost use Rattle.exercise_model.specs.Account.{pair_of};
+ghost use Rattle.exercise_conflict.specs.Earlier.{sent_pdu, sends_other_at, is_opposite, is_opposite_to, sends_opposite_at, earlier_sent, IsSentAt, earlier_of};
+
+use crate::question::{Question, first_below};
+use exercise_findings::Findings;
+use exercise_model::{
+    AcknowledgeKey, Cause, EntryView, ExerciseLog, key_of, meaning_view, responds, responds_under,
+};
+use siman_pdus::{ABLE, PduView, UNABLE, is_request, is_under_identifier, same_order};
+
+/// What a station sends at an entry, if it sends something that is not "other".
+#[tactic(auto, unfolding(exercise_model::specs::Place::own_event, crate::specs::Earlier::sent_pdu))]
+fn sent_pdu<'a, L: ExerciseLog>(
+    findings: &Findings<'a, L>,
+    station: u16,
+    entry: usize,
+) -> Option<PduView<'a>>
+    ensures { option_map pdu_of result ≡ sent_pdu findings.now station entry }
+{
+    let log = findings.log();
+    if entry >= log.entry_count() {
+        return None;
+    }
+    match log.entry(entry) {
+        EntryView::Sent {
+            station: at,
+            bytes,
+            ..
+        } if at == station => meaning_view(log.exercise(), bytes),
+        _ => None,
+    }
+}
+
+/// Where a station sends another order under the request identifier of a PDU.
+#[derive(Drop)]
+struct OtherOrder<'a, L: ExerciseLog> {
+    findings: &'a Findings<'a, L>,
+    station: u16,
+    pdu: &'a PduView<'a>,
+}
+
+impl<L: ExerciseLog> Question for OtherOrder<'_, L> {
+    ghost test = { λ q. sends_other_at q.findings.now q.station (pdu_of q.pdu.now) };
+
+    #[tactic(auto, unfolding(crate::specs::Earlier::sends_other_at))]
+    fn passes(&self, entry: usize) -> bool {
+        match sent_pdu(self.findings, self.station, entry) {
+            Some(other) => {
+                is_request(&other)
+                    && is_under_identifier(self.pdu, &other)
+                    && !same_order(self.pdu, &other)
+            }
+            None => false,
+        }
+    }
+}
+
+/// Where a station sends the answer opposite to an Able or an Unable, under its key.
+#[derive(Drop)]
+struct Opposite<'a, L: ExerciseLog> {
+    findings: &'a Findings<'a, L>,
+    station: u16,
+    pdu: &'a PduView<'a>,
+}
+
+impl<L: ExerciseLog> Question for Opposite<'_, L> {
+    ghost test = { λ q. sends_opposite_at q.findings.now q.station (pdu_of q.pdu.now) };
+
+    #[tactic(auto, unfolding(crate::specs::Earlier::sends_opposite_at))]
+    fn passes(&self, entry: usize) -> bool {
+        match sent_pdu(self.findings, self.station, entry) {
+            Some(other) => is_opposite_to(self.pdu, &other),
+            None => false,
+        }
+    }
+}
+
+/// Whether a PDU is, under a key, an Unable where another one is an Able, or an Able where that one is
+/// an Unable.
+fn is_opposite(pdu: &PduView<'_>, other: &PduView<'_>, key: &AcknowledgeKey) -> bool
+    ensures { result ≡ is_opposite (pdu_of pdu.now) (pdu_of other.now) key.now }
+{
+    responds(ABLE, pdu) && responds_under(UNABLE, key, other)
+        || responds(UNABLE, pdu) && responds_under(ABLE, key, other)
+}
+
+/// Whether a PDU is the answer opposite to another one, under its key.
+fn is_opposite_to(pdu: &PduView<'_>, other: &PduView<'_>) -> bool
+    ensures { result ≡ is_opposite_to (pdu_of pdu.now) (pdu_of other.now) }
+{
+    match key_of(pdu) {
+        Some(key) => is_opposite(pdu, other, &key),
+        None => false,
+    }
+}
+
+/// The entry of the request that an answer takes up.
+fn pair_of<L: ExerciseLog>(findings: &Findings<'_, L>, entry: usize) -> Option<usize>
+    ensures { result ≡ pair_of findings.now entry }
+{
+    match findings.pair(entry) {
+        Some(request) => Some(request as usize),
+        None => None,
+    }
+}
+
+/// What a PDU that a station sends at an entry contradicts, for this cause against it.
+fn earlier_sent<L: ExerciseLog>(
+    findings: &Findings<'_, L>,
+    station: u16,
+    entry: usize,
+    cause: Cause,
+    pdu: &PduView<'_>,
+) -> Option<usize>
+    requires { IsSentAt findings.now entry station (pdu_of pdu.now) }
+    ensures { result ≡ earlier_sent findings.now entry station cause (pdu_of pdu.now) }
+{
+    match cause {
+        Cause::ReusedIdentifier => first_below(
+            &OtherOrder {
+                findings,
+                station,
+                pdu,
+            },
+            entry,
+        ),
+        Cause::WrongAnswer => pair_of(findings, entry),
+        Cause::ChangedAnswer => first_below(
+            &Opposite {
+                findings,
+                station,
+                pdu,
+            },
+            entry,
+        ),
+        _ => None,
+    }
+}
+
+/// The earlier entry of the same station that an entry contradicts: for a reused identifier the first
+/// other order under it, for a wrong answer the request that it takes up, for a changed answer the first
+/// opposite one under its key. `None` for all else and past the last entry. It takes no memory.
+#[tactic(auto, unfolding(crate::specs::Earlier::earlier_of))]
+pub fn earlier_of<L: ExerciseLog>(findings: &Findings<'_, L>, entry: usize) -> Option<usize>
+    ensures { result ≡ earlier_of findings.now entry }
+{
+    let cause = findings.cause(entry)?;
+    let log = findings.log();
+    if entry >= log.entry_count() {
+        return None;
+    }
+    match log.entry(entry) {
+        EntryView::Sent { station, bytes, .. } => {
+            let pdu = meaning_view(log.exercise(), bytes)?;
+            earlier_sent(findings, station, entry, cause, &pdu)
+        }
+        EntryView::Received { .. } | EntryView::Told { .. } => None,
+    }
+}

@@ -1,0 +1,54 @@
+//! Whose fault it is that a certificate is not good.
+
+ghost use Rattle.std.specs.Prelude.{◌≡◌, IfOk, IsTrue};
+ghost use Rattle.exercise_model.specs.Recording.{IsRecording};
+ghost use Rattle.exercise_model.specs.History.{History};
+ghost use Rattle.exercise_model.specs.Run.{Explains};
+ghost use Rattle.exercise_conflict.specs.declared.fault.Fault.TheVariants.{Certificate, Recording};
+
+use crate::also::standing_cause;
+use exercise_audit::{Audit, audit};
+use exercise_findings::Findings;
+use exercise_model::ExerciseLog;
+use std::alloc::{AllocError, Global};
+
+/// Whose fault it is that a certificate of a recording is not good.
+#[derive(Clone, Copy, Debug, PartialEq, Eq)]
+pub enum Fault {
+    /// The certificate's: some run explains the recording.
+    Certificate,
+    /// The recording's: no run does.
+    Recording,
+}
+
+/// Whether some entry has a standing cause against it; then no run explains the recording.
+fn has_standing_cause<L: ExerciseLog>(findings: &Findings<'_, L>) -> bool
+    ensures limits { IsRecording findings.now }
+    ensures unexplained { IsTrue result → (h : History) → Explains findings.now h → ⊥ }
+{
+    for entry in 0..findings.log().entry_count() {
+        if standing_cause(findings, entry).is_some() {
+            return true;
+        }
+    }
+    false
+}
+
+/// Whose fault it is that a certificate of a recording is not good: the certificate's exactly where
+/// some run explains the recording. Where an entry has a standing cause no run does, so the search is
+/// spared.
+pub fn fault_of<L: ExerciseLog>(
+    alloc: Global,
+    findings: &Findings<'_, L>,
+) -> Result<Fault, AllocError>
+    ensures certificate { IfOk result (λ fault. fault ≡ Certificate → (h : History) × Explains findings.now h) }
+    ensures recording { IfOk result (λ fault. fault ≡ Recording → (h : History) → Explains findings.now h → ⊥) }
+{
+    if has_standing_cause(findings) {
+        return Ok(Fault::Recording);
+    }
+    match audit(alloc, findings.log())? {
+        Audit::Explained(_) => Ok(Fault::Certificate),
+        Audit::Blocked(_) => Ok(Fault::Recording),
+    }
+}

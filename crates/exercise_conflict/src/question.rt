@@ -1,0 +1,29 @@
+//! Questions about the entries of a recording, that are answered with yes or no.
+
+ghost use Rattle.std.specs.Prelude.{◌≡◌, ◌<◌, ◌≤◌, IfSome};
+ghost use Rattle.exercise_model.specs.Place.{first_below};
+
+/// A question about an entry. What it means is one test; no call takes memory.
+pub(crate) trait Question {
+    ghost use Rattle.std.specs.Prelude.{◌≡◌, ℕ, Bool};
+
+    /// The test.
+    ghost test: { Self → ℕ → Bool };
+
+    /// Whether an entry passes.
+    fn passes(&self, entry: usize) -> bool
+        ensures { result ≡ test self.now entry };
+}
+
+/// The first entry below a bound that passes.
+#[tactic(auto, using(crate::proofs::Steps::question_steps))]
+pub(crate) fn first_below<Q: Question>(question: &Q, end: usize) -> Option<usize>
+    ensures { result ≡ first_below (Q.test question.now) end }
+{
+    for entry in 0..end {
+        if question.passes(entry) {
+            return Some(entry);
+        }
+    }
+    None
+}

@@ -1,0 +1,75 @@
+//! The change that made the state of an entity at a place.
+
+ghost use Rattle.std.specs.Prelude.{◌≡◌, ◌<◌, ◌≤◌, length, option_and_then, Some};
+ghost use Rattle.std.specs.Option.{option_map_or};
+ghost use Rattle.exercise_model.specs.History.{station_at};
+ghost use Rattle.exercise_model.specs.State.{change_made, changed};
+ghost use Rattle.exercise_model.specs.Cause.{same_state};
+ghost use Rattle.exercise_model.specs.Place.{log_before, own_event};
+ghost use Rattle.exercise_conflict.specs.Since.{made_since};
+
+use dis_records::EntityState;
+use exercise_findings::Findings;
+use exercise_model::{Change, ExerciseLog, is_entity, listed_state, scope_has, state_made};
+
+/// What a change, if there is one, makes of the state of an entity.
+fn changed(entity: u16, state: EntityState, change: Option<Change>) -> EntityState
+    ensures { result ≡ option_map_or (changed entity state) change state }
+{
+    match change {
+        Some(change) if scope_has(change.scope, entity) => state_made(change.kind, state),
+        _ => state,
+    }
+}
+
+/// What an entry changes, where it is one of this station.
+fn own_change<L: ExerciseLog>(
+    findings: &Findings<'_, L>,
+    station: u16,
+    entry: usize,
+) -> Option<Change>
+    requires { entry < length findings.now.entries }
+    ensures { let r = findings.now in result ≡ option_and_then (change_made r.setting.exercise (station_at r station) (log_before r station entry)) (own_event r station entry) }
+{
+    if findings.log().entry(entry).station() == station {
+        findings.change(entry)
+    } else {
+        None
+    }
+}
+
+/// Whether two states are the same.
+fn is_same(next: EntityState, state: EntityState) -> bool
+    ensures { result ≡ same_state next state }
+{
+    next == state
+}
+
+/// The entry of the change that made the state which an entity of a station has before an entry: the last
+/// one that left it in another state than it had. `None` where it has the state of the start, and for a
+/// number that no entity has. It looks at each entry before, and takes no memory.
+pub fn made_since<L: ExerciseLog>(
+    findings: &Findings<'_, L>,
+    station: u16,
+    entity: u16,
+    before: usize,
+) -> Option<usize>
+    requires at { station < length findings.now.setting.stations }
+    requires within { before ≤ length findings.now.entries }
+    ensures { result ≡ made_since findings.now station entity before }
+{
+    if !is_entity(entity) {
+        return None;
+    }
+    let opening = findings.log().station(usize::from(station)).opening();
+    let mut state = listed_state(opening, entity);
+    let mut since = None;
+    for entry in 0..before {
+        let next = changed(entity, state, own_change(findings, station, entry));
+        if !is_same(next, state) {
+            since = Some(entry);
+        }
+        state = next;
+    }
+    since
+}

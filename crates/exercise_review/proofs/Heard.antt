@@ -28,7 +28,7 @@ use Rattle.exercise_review.proofs.Runs.{none_passes, some_passes, there, both, r
 
 -- ---- what is meant at an entry
 
-meant_sent : (r : PlainRecording) (t i : ℕ) (b : List ℕ) → bytes_sent r t i ≡ Some b → meant_at r i ≡ meaning r.setting.exercise b
+pub meant_sent : (r : PlainRecording) (t i : ℕ) (b : List ℕ) → bytes_sent r t i ≡ Some b → meant_at r i ≡ meaning r.setting.exercise b
 unfolding bytes_sent meant_at
 meant_sent r t i b =
     elim (slice_get r.entries i) as (λ o. option_and_then (bytes_sent_by t) o ≡ Some b

@@ -13,12 +13,16 @@ mod Lists
 mod Spans
 mod Orders
 mod Walks
+mod Digests
 mod Registered
 mod Under
+mod FirstOnes
+mod Receiving
+mod Replied
 mod Stationed
 mod Tallies
 mod Places
-mod Idle
+mod Courses
 mod Made
 mod OneOrder
 mod TakenBy

@@ -6,10 +6,9 @@ use Rattle.std.proofs.Math.Numerals.{add-one}
 use Rattle.std.proofs.lemmas.List.{length_push, get_or_append_left, get_or_at}
 use Rattle.std.proofs.lemmas.Bool.{cases_lt, eqb-true}
 use Rattle.indexmap.specs.IndexMap.{get}
-use Rattle.exercise_model.specs.Recording.{PlainRecording}
 use Rattle.exercise_findings.specs.Column.{IsColumn}
 use Rattle.exercise_review.specs.Counted.{last_below}
-use Rattle.exercise_review.specs.Register.{key_at, has_key, LastEntries, IsBefore, AreRegistered}
+use Rattle.exercise_review.specs.Register.{holds, LastEntries, IsBefore, AreRegistered}
 
 column_more : {X : Type 0} (d : X) (P : ℕ → X → Type 0) (n : ℕ) (xs : List X) (x : X)
     → IsColumn d P n xs → P n x → IsColumn d P (n + 1) (xs ++ x ∷ [])
@@ -22,35 +21,35 @@ column_more d P n xs x column here = record {
       (cases_lt j n);
 }
 
-pub registered_none : (r : PlainRecording) (last : LastEntries) → ((k : ℕ) → get nat_eq last k ≡ None) → AreRegistered r 0 last []
+pub registered_none : (keys : ℕ → Option ℕ) (last : LastEntries) → ((k : ℕ) → get nat_eq last k ≡ None) → AreRegistered keys 0 last []
 unfolding last_below
-registered_none r last none = record {
+registered_none keys last none = record {
   last = none;
   before = record { count = refl; each = λ j l. absurd (let no : ⊥ = omega (arith, l) in no) };
 }
 
 -- an entry without a key
-pub registered_still : (r : PlainRecording) (n : ℕ) (last : LastEntries) (before : List (Option ℕ)) → key_at r n ≡ None
-    → AreRegistered r n last before → AreRegistered r (n + 1) last (before ++ None ∷ [])
-unfolding has_key last_below
-registered_still r n last before none so_far = record {
-  last = λ k. so_far.last k ∙ sym (ap (last_below (has_key r k)) (add-one n)
-      ∙ ap (λ o. if option_map_or (λ m. nat_eq m k) o false then Some n else last_below (has_key r k) n) none);
-  before = column_more None (IsBefore r) n before None so_far.before
+pub registered_still : (keys : ℕ → Option ℕ) (n : ℕ) (last : LastEntries) (before : List (Option ℕ)) → keys n ≡ None
+    → AreRegistered keys n last before → AreRegistered keys (n + 1) last (before ++ None ∷ [])
+unfolding holds last_below
+registered_still keys n last before none so_far = record {
+  last = λ k. so_far.last k ∙ sym (ap (last_below (holds keys k)) (add-one n)
+      ∙ ap (λ o. if option_map_or (λ m. nat_eq m k) o false then Some n else last_below (holds keys k) n) none);
+  before = column_more None (IsBefore keys) n before None so_far.before
       (λ k here. absurd (let no : false ≡ true = sym (ap (λ o. option_map_or (λ m. nat_eq m k) o false) none) ∙ here in cc));
 }
 
 -- an entry with one
-pub registered_more : (r : PlainRecording) (n l : ℕ) (old new : LastEntries) (before : List (Option ℕ)) (earlier : Option ℕ) → key_at r n ≡ Some l
+pub registered_more : (keys : ℕ → Option ℕ) (n l : ℕ) (old new : LastEntries) (before : List (Option ℕ)) (earlier : Option ℕ) → keys n ≡ Some l
     → earlier ≡ get nat_eq old l → ((k : ℕ) → get nat_eq new k ≡ (if nat_eq l k then Some n else get nat_eq old k))
-    → AreRegistered r n old before → AreRegistered r (n + 1) new (before ++ earlier ∷ [])
-unfolding has_key last_below
-registered_more r n l old new before earlier key was written so_far = record {
+    → AreRegistered keys n old before → AreRegistered keys (n + 1) new (before ++ earlier ∷ [])
+unfolding holds last_below
+registered_more keys n l old new before earlier key was written so_far = record {
   last = λ k. written k
       ∙ ap (λ o. if nat_eq l k then Some n else o) (so_far.last k)
-      ∙ sym (ap (last_below (has_key r k)) (add-one n)
-      ∙ ap (λ o. if option_map_or (λ m. nat_eq m k) o false then Some n else last_below (has_key r k) n) key);
-  before = column_more None (IsBefore r) n before earlier so_far.before (λ k here.
+      ∙ sym (ap (last_below (holds keys k)) (add-one n)
+      ∙ ap (λ o. if option_map_or (λ m. nat_eq m k) o false then Some n else last_below (holds keys k) n) key);
+  before = column_more None (IsBefore keys) n before earlier so_far.before (λ k here.
       let same : l ≡ k = eqb-true l k (sym (ap (λ o. option_map_or (λ m. nat_eq m k) o false) key) ∙ here) in
-      was ∙ so_far.last l ∙ ap (λ m. last_below (has_key r m) n) same);
+      was ∙ so_far.last l ∙ ap (λ m. last_below (holds keys m) n) same);
 }

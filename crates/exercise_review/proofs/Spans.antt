@@ -1,5 +1,5 @@
 -- A life by the changes of its station alone.
-use Rattle.std.proofs.Common.{◌≡◌, ℕ, zero, suc, ◌+◌, ◌<◌, List, [], ◌∷◌, ◌++◌, length, take, get_or, cond, true, Option, Some, None, refl, sym, ap, ◌∙◌}
+use Rattle.std.proofs.Common.{◌≡◌, ℕ, zero, suc, ◌+◌, ◌<◌, List, [], ◌∷◌, ◌++◌, length, take, get_or, cond, true, false, Option, Some, None, refl, sym, ap, ◌∙◌}
 use Rattle.std.specs.Prelude.{option_map, option_and_then}
 use Rattle.std.specs.Option.{option_map_or, option_to_list}
 use Rattle.std.proofs.lemmas.List.{take_more}
@@ -59,7 +59,7 @@ pub lived_by-more : (e : ℕ) (l : LifeSoFar) (xs : List Made) (m : Made)
 lived_by-more e l xs m = lived_by-append e l xs (m ∷ [])
 
 -- where the state stays, so does the life
-lives_on : (l : LifeSoFar) (n : ℕ) → lived_on l n l.state ≡ l
+pub lives_on : (l : LifeSoFar) (n : ℕ) → lived_on l n l.state ≡ l
 lives_on l n = ap (λ b. cond b l (record { ended = l.ended ++ stretch_of l (Some n); state = l.state; since = Some n })) (same_self l.state)
 
 -- what an entry makes of a life, by what its station changes there
@@ -122,3 +122,20 @@ lives_are r s e items out y l changes entity none at are lived here =
     ∙ ap (lived_by e (life_before r s e 0)) are
     ∙ lived_whole r s e entity in
     here ∙ ap (λ b. b.ended ++ stretch_of b None) whole
+
+-- ---- a number that no entity has is never there
+
+never_there : (r : PlainRecording) (s e n : ℕ) → is_entity e ≡ false → state_before r s e n ≡ states.Absent
+unfolding state_after
+never_there r s e n outside = ap (λ b. cond b (entity_state r.setting.exercise (station_at r s) (log_before r s n) e) states.Absent) outside
+
+never_lived : (r : PlainRecording) (s e n : ℕ) → is_entity e ≡ false → life_before r s e n ≡ record { ended = []; state = states.Absent; since = None }
+unfolding life_before
+never_lived r s e zero outside = ap (λ y. record { ended = []; state = y; since = None }) (never_there r s e 0 outside)
+never_lived r s e (suc n) outside =
+    ap (λ l. lived_on l n (state_before r s e (suc n))) (never_lived r s e n outside)
+    ∙ ap (lived_on (record { ended = []; state = states.Absent; since = None }) n) (never_there r s e (suc n) outside)
+
+pub lives_none : (r : PlainRecording) (s e : ℕ) (items : List Stretch) → is_entity e ≡ false → items ≡ [] → items ≡ lives_of r s e
+unfolding lives_of
+lives_none r s e items outside none = none ∙ sym (ap (λ l. l.ended ++ stretch_of l None) (never_lived r s e (length r.entries) outside))

@@ -1,90 +1,160 @@
 -- All entries that have to do with an order at a station have the key of the station and of the order.
-use Rattle.std.proofs.Common.{◌≡◌, ℕ, List, length, Bool, true, false, cond, Option, Some, None, refl, sym, ap, ◌∙◌}
-use Rattle.std.specs.Prelude.{IfSome, nat_eq, ◌&&◌, bytes_eq, slice_get, option_map, option_and_then}
+use Rattle.std.proofs.Common.{◌≡◌, ℕ, List, Bool, true, false, cond, Option, Some, None, refl, sym, ap, ◌∙◌}
+use Rattle.std.specs.Prelude.{IfSome, nat_eq, ◌&&◌, slice_get, option_map, option_and_then, if◌then◌else◌}
 use Rattle.std.specs.Option.{option_map_or}
-use Rattle.std.specs.Cmp.Lexicographic.{bytes_decides}
 use Rattle.std.proofs.lemmas.Bool.{eqb-true, eq-eqb, and_parts}
+use Rattle.dis_records.specs.Address.{Pair}
+use Rattle.dis_records.specs.declared.kind.Kind.{Kind}
+use Rattle.siman_pdus.specs.declared.pdu.Body.{Body}
+use Rattle.siman_pdus.specs.declared.pdu.Body.TheVariants as bodies
 use Rattle.siman_pdus.specs.declared.pdu.Pdu.{Pdu}
-use Rattle.siman_pdus.specs.Answers.{same_id, is_answer_to}
-use Rattle.siman_pdus.specs.Role.{request_id_of, is_request_body}
+use Rattle.siman_pdus.specs.declared.roles.Role.TheVariants as roles
+use Rattle.siman_pdus.specs.Answers.{same_id, is_answer_to, matches_kind}
+use Rattle.siman_pdus.specs.Role.{request_id_of, is_request_body, is_request_role, is_acknowledge_flag}
 use Rattle.siman_pdus.specs.Same.{is_same_order}
+use Rattle.siman_pdus.specs.Spelling.{body_kind}
 use Rattle.siman_pdus.proofs.Offered.{order_decides}
 use Rattle.exercise_model.specs.Entry.{Entry, Sent, Received, Told}
 use Rattle.exercise_model.specs.Recording.{PlainRecording}
+use Rattle.exercise_model.specs.Account.{pair_of}
 use Rattle.exercise_model.specs.Meaning.{meaning}
-use Rattle.dis_records.specs.Address.{Pair}
+use Rattle.exercise_model.specs.Setting.{is_open}
+use Rattle.exercise_review.specs.Digest.{digest_of}
 use Rattle.exercise_review.specs.Entries.{bytes_sent_by, bytes_got_by, bytes_sent, bytes_got, sent_by, got_by}
-use Rattle.exercise_review.specs.Order.{OrderData, sends_order, gets_order, sends_under_id, is_first_under_id}
-use Rattle.exercise_review.specs.Party.{is_told_from, tells_from}
-use Rattle.exercise_review.specs.Reply.{answers_order, is_reply, is_changing_reply, replies_in, has_reply_in, is_news}
+use Rattle.exercise_review.specs.Order.{OrderData, sends_order, gets_order, entry_gets, gets_anywhere, sends_under_id, is_first_under_id}
+use Rattle.exercise_review.specs.Party.{is_copy, is_told_from, tells_from}
+use Rattle.exercise_review.specs.Reply.{answers_order, is_reply, is_changing_reply, replies_in}
 use Rattle.exercise_review.specs.Word.{is_settling}
-use Rattle.exercise_review.specs.Register.{number_under, pdu_key, maker_key, entry_key, key_at, has_key, IsUnder}
-use Rattle.exercise_review.proofs.Runs.{some_passes, there}
+use Rattle.exercise_review.specs.Register.{number_under, order_key, id_key, sent_key, got_key, entry_key, key_at, nowhere, second_key, second_at, holds, has_key, told_key, IsUnder}
+use Rattle.exercise_review.proofs.Runs.{there}
 
 -- ---- the keys of entries
 
-sent_key : (r : PlainRecording) (s i : ℕ) (q : Pdu) → sent_by r s i ≡ Some q → key_at r i ≡ pdu_key s q
+sent_keyed : (r : PlainRecording) (s i : ℕ) (q : Pdu) → sent_by r s i ≡ Some q → key_at r i ≡ sent_key r s i q
 unfolding sent_by bytes_sent key_at
-sent_key r s i q =
+sent_keyed r s i q =
     elim (slice_get r.entries i) as (λ o. option_and_then (meaning r.setting.exercise) (option_and_then (bytes_sent_by s) o) ≡ Some q
-    → option_and_then (entry_key r.setting.exercise) o ≡ pdu_key s q) [
+    → option_and_then (entry_key r i) o ≡ sent_key r s i q) [
       | None ↦ λ h. absurd (cc)
       | Some e ↦ of_entry e
     ]
   where
-    of_entry : (e : Entry) → option_and_then (meaning r.setting.exercise) (bytes_sent_by s e) ≡ Some q → entry_key r.setting.exercise e ≡ pdu_key s q
+    of_entry : (e : Entry) → option_and_then (meaning r.setting.exercise) (bytes_sent_by s e) ≡ Some q → entry_key r i e ≡ sent_key r s i q
     of_entry (Sent t stamp b) = elim (nat_eq t s) as (λ k. nat_eq t s ≡ k → option_and_then (meaning r.setting.exercise) (cond k (Some b) None) ≡ Some q
-        → option_and_then (pdu_key t) (meaning r.setting.exercise b) ≡ pdu_key s q) [
-          | true ↦ λ same h. ap (option_and_then (pdu_key t)) h ∙ ap (λ u. pdu_key u q) (eqb-true t s same)
+        → option_and_then (sent_key r t i) (meaning r.setting.exercise b) ≡ sent_key r s i q) [
+          | true ↦ λ same h. ap (option_and_then (sent_key r t i)) h ∙ ap (λ u. sent_key r u i q) (eqb-true t s same)
           | false ↦ λ _ h. absurd (cc)
         ] refl
     of_entry (Received t stamp b) = λ h. absurd (cc)
     of_entry (Told t n y) = λ h. absurd (cc)
 
-got_key : (r : PlainRecording) (s i : ℕ) (q : Pdu) → got_by r s i ≡ Some q → key_at r i ≡ pdu_key s q
+got_keyed : (r : PlainRecording) (s i : ℕ) (q : Pdu) → got_by r s i ≡ Some q → key_at r i ≡ got_key s q
 unfolding got_by bytes_got key_at
-got_key r s i q =
+got_keyed r s i q =
     elim (slice_get r.entries i) as (λ o. option_and_then (meaning r.setting.exercise) (option_and_then (bytes_got_by s) o) ≡ Some q
-    → option_and_then (entry_key r.setting.exercise) o ≡ pdu_key s q) [
+    → option_and_then (entry_key r i) o ≡ got_key s q) [
       | None ↦ λ h. absurd (cc)
       | Some e ↦ of_entry e
     ]
   where
-    of_entry : (e : Entry) → option_and_then (meaning r.setting.exercise) (bytes_got_by s e) ≡ Some q → entry_key r.setting.exercise e ≡ pdu_key s q
+    of_entry : (e : Entry) → option_and_then (meaning r.setting.exercise) (bytes_got_by s e) ≡ Some q → entry_key r i e ≡ got_key s q
     of_entry (Sent t stamp b) = λ h. absurd (cc)
     of_entry (Received t stamp b) = elim (nat_eq t s) as (λ k. nat_eq t s ≡ k → option_and_then (meaning r.setting.exercise) (cond k (Some b) None) ≡ Some q
-        → option_and_then (pdu_key t) (meaning r.setting.exercise b) ≡ pdu_key s q) [
-          | true ↦ λ same h. ap (option_and_then (pdu_key t)) h ∙ ap (λ u. pdu_key u q) (eqb-true t s same)
+        → option_and_then (got_key t) (meaning r.setting.exercise b) ≡ got_key s q) [
+          | true ↦ λ same h. ap (option_and_then (got_key t)) h ∙ ap (λ u. got_key u q) (eqb-true t s same)
           | false ↦ λ _ h. absurd (cc)
         ] refl
     of_entry (Told t n y) = λ h. absurd (cc)
 
+-- the second key of what is sent, where the recording is open
+sent_second : (r : PlainRecording) (s i : ℕ) (q : Pdu) → sent_by r s i ≡ Some q
+    → second_at r i ≡ (if is_open r.setting.form then (if is_request_body q.body then id_key s q else None) else None)
+unfolding sent_by bytes_sent second_at
+sent_second r s i q at = ap (λ o. if is_open r.setting.form then o else None) (here (slice_get r.entries i) at)
+  where
+    of_entry : (e : Entry) → option_and_then (meaning r.setting.exercise) (bytes_sent_by s e) ≡ Some q
+        → second_key r.setting.exercise e ≡ (if is_request_body q.body then id_key s q else None)
+    of_entry (Sent t stamp b) = elim (nat_eq t s) as (λ k. nat_eq t s ≡ k → option_and_then (meaning r.setting.exercise) (cond k (Some b) None) ≡ Some q
+        → second_key r.setting.exercise (Sent t stamp b) ≡ (if is_request_body q.body then id_key s q else None)) [
+          | true ↦ λ same h.
+              ap (option_and_then (λ (p : Pdu). if is_request_body p.body then id_key t p else None)) h
+              ∙ ap (λ u. if is_request_body q.body then id_key u q else None) (eqb-true t s same)
+          | false ↦ λ _ h. absurd (cc)
+        ] refl
+    of_entry (Received t stamp b) = λ h. absurd (cc)
+    of_entry (Told t n y) = λ h. absurd (cc)
+
+    here : (o : Option Entry) → option_and_then (meaning r.setting.exercise) (option_and_then (bytes_sent_by s) o) ≡ Some q
+        → option_and_then (second_key r.setting.exercise) o ≡ (if is_request_body q.body then id_key s q else None)
+    here None h = absurd (cc)
+    here (Some e) h = of_entry e h
+
 -- an entry with this key has it
 has_it : (r : PlainRecording) (i k : ℕ) → key_at r i ≡ Some k → has_key r k i ≡ true
-unfolding has_key
+unfolding holds
 has_it r i k e = ap (λ o. option_map_or (λ l. nat_eq l k) o false) e ∙ eq-eqb k k refl
 
--- a PDU with the identifier of another has the key of that one
-same_key : (s k : ℕ) (p q : Pdu) → pdu_key s p ≡ Some k → request_id_of p.body ≡ request_id_of q.body → pdu_key s q ≡ Some k
-same_key s k p q e same = ap (option_map (number_under s)) (sym same) ∙ e
+-- ---- requests and answers
 
-sent_has : (r : PlainRecording) (s i k : ℕ) (p q : Pdu) → pdu_key s p ≡ Some k → sent_by r s i ≡ Some q → request_id_of p.body ≡ request_id_of q.body
-    → has_key r k i ≡ true
-sent_has r s i k p q e at same = has_it r i k (sent_key r s i q at ∙ same_key s k p q e same)
+-- what has the key of an order is a request
+is_asking : (s k : ℕ) (p : Pdu) → order_key s p ≡ Some k → is_request_body p.body ≡ true
+unfolding order_key
+is_asking s k p e =
+    elim (is_request_body p.body) as (λ b. (if b then Some (digest_of s p) else None) ≡ Some k → b ≡ true) [
+      | true ↦ λ _. refl
+      | false ↦ λ h. absurd (cc)
+    ] e
 
-got_has : (r : PlainRecording) (s i k : ℕ) (p q : Pdu) → pdu_key s p ≡ Some k → got_by r s i ≡ Some q → request_id_of p.body ≡ request_id_of q.body
-    → has_key r k i ≡ true
-got_has r s i k p q e at same = has_it r i k (got_key r s i q at ∙ same_key s k p q e same)
+asked_key : (r : PlainRecording) (s i : ℕ) (q : Pdu) → is_request_body q.body ≡ true → sent_key r s i q ≡ order_key s q
+unfolding sent_key
+asked_key r s i q asks =
+    ap (λ b. if b then order_key s q else option_and_then (order_key s) (option_and_then (got_by r s) (pair_of r i))) asks
 
--- ---- identifiers that are the same
+answer_key : (r : PlainRecording) (s i : ℕ) (q : Pdu) → is_request_body q.body ≡ false
+    → sent_key r s i q ≡ option_and_then (order_key s) (option_and_then (got_by r s) (pair_of r i))
+unfolding sent_key
+answer_key r s i q answers =
+    ap (λ b. if b then order_key s q else option_and_then (order_key s) (option_and_then (got_by r s) (pair_of r i))) answers
+
+got_asked : (s : ℕ) (q : Pdu) → is_request_body q.body ≡ true → got_key s q ≡ order_key s q
+unfolding got_key
+got_asked s q asks = ap (λ b. if b then order_key s q else id_key s q) asks
+
+got_answer : (s : ℕ) (q : Pdu) → is_request_body q.body ≡ false → got_key s q ≡ id_key s q
+unfolding got_key
+got_answer s q answers = ap (λ b. if b then order_key s q else id_key s q) answers
+
+-- the same order has the same key, and is a request alike
+same_key : (s : ℕ) (p q : Pdu) → is_same_order p q ≡ true → order_key s p ≡ order_key s q
+unfolding order_key digest_of
+same_key s p q same = ap (order_key s) ((order_decides p q).0 same)
+
+same_asking : (p q : Pdu) → is_same_order p q ≡ true → is_request_body p.body ≡ is_request_body q.body
+same_asking p q same = ap (λ (x : Pdu). is_request_body x.body) ((order_decides p q).0 same)
+
+-- an answer is no request
+no_request : (b : Body) (k : Kind) → matches_kind b k ≡ true → is_request_body b ≡ false
+no_request (bodies.CreateEntity request) k h = absurd (cc)
+no_request (bodies.RemoveEntity request) k h = absurd (cc)
+no_request (bodies.StartResume real sim request) k h = absurd (cc)
+no_request (bodies.StopFreeze real reason behaviour request) k h = absurd (cc)
+no_request (bodies.Acknowledge flag response request) k h =
+    elim (is_acknowledge_flag flag) as (λ b. is_request_role (if b then roles.Answer else roles.Outside) ≡ false) [ true ↦ refl | false ↦ refl ]
+no_request (bodies.ActionRequest request action datums) k h = absurd (cc)
+no_request (bodies.ActionResponse request status datums) k h = refl
+no_request (bodies.DataQuery request interval ids) k h = absurd (cc)
+no_request (bodies.SetData request datums) k h = absurd (cc)
+no_request (bodies.DataPdu request datums) k h = refl
+no_request (bodies.EventReport event datums) k h = refl
+no_request (bodies.Comment datums) k h = refl
+
+is_answering : (p q : Pdu) → is_answer_to p q ≡ true → is_request_body p.body ≡ false
+is_answering p q h = no_request p.body (body_kind q.body) (and_parts _ _ h).0
 
 ids_are : (a b : Option ℕ) → same_id a b ≡ true → a ≡ b
 ids_are None b h = absurd (cc)
 ids_are (Some a) None h = absurd (cc)
 ids_are (Some a) (Some b) h = ap Some (eqb-true a b h)
-
-order_id : (p q : Pdu) → is_same_order p q ≡ true → request_id_of p.body ≡ request_id_of q.body
-order_id p q h = ap (λ (x : Pdu). request_id_of x.body) ((order_decides p q).0 h)
 
 answer_id : (p q : Pdu) → is_answer_to p q ≡ true → request_id_of q.body ≡ request_id_of p.body
 answer_id p q h = sym (ids_are (request_id_of p.body) (request_id_of q.body) (and_parts _ _ (and_parts _ _ h).1).0)
@@ -95,94 +165,111 @@ if_key : (o : Option ℕ) (P : ℕ → Type 0) → ((k : ℕ) → o ≡ Some k �
 if_key None P f = tt
 if_key (Some k) P f = f k refl
 
-pub sends_under : (r : PlainRecording) (s : ℕ) (p : Pdu) → IfSome (pdu_key s p) (IsUnder r (sends_order r s p))
+sends_keyed : (r : PlainRecording) (s : ℕ) (p : Pdu) → is_request_body p.body ≡ true → (i : ℕ) → sends_order r s p i ≡ true → key_at r i ≡ order_key s p
 unfolding sends_order
-sends_under r s p = if_key (pdu_key s p) (IsUnder r (sends_order r s p)) (λ k e i h.
+sends_keyed r s p asks i h =
     let q = there (is_same_order p) (sent_by r s i) h in
-    sent_has r s i k p q.0 e q.1 (order_id p q.0 q.2))
+    sent_keyed r s i q.0 q.1 ∙ asked_key r s i q.0 (sym (same_asking p q.0 q.2) ∙ asks) ∙ sym (same_key s p q.0 q.2)
 
-pub gets_under : (r : PlainRecording) (s : ℕ) (p : Pdu) → IfSome (pdu_key s p) (IsUnder r (gets_order r s p))
+pub sends_under : (r : PlainRecording) (s : ℕ) (p : Pdu) → IfSome (order_key s p) (IsUnder r (sends_order r s p))
+sends_under r s p = if_key (order_key s p) (IsUnder r (sends_order r s p)) (λ k e i h.
+    has_it r i k (sends_keyed r s p (is_asking s k p e) i h ∙ e))
+
+pub gets_under : (r : PlainRecording) (s : ℕ) (p : Pdu) → IfSome (order_key s p) (IsUnder r (gets_order r s p))
 unfolding gets_order
-gets_under r s p = if_key (pdu_key s p) (IsUnder r (gets_order r s p)) (λ k e i h.
+gets_under r s p = if_key (order_key s p) (IsUnder r (gets_order r s p)) (λ k e i h.
     let q = there (is_same_order p) (got_by r s i) h in
-    got_has r s i k p q.0 e q.1 (order_id p q.0 q.2))
+    has_it r i k (got_keyed r s i q.0 q.1 ∙ got_asked s q.0 (sym (same_asking p q.0 q.2) ∙ is_asking s k p e) ∙ sym (same_key s p q.0 q.2) ∙ e))
 
-pub id_under : (r : PlainRecording) (s : ℕ) (p : Pdu) → IfSome (pdu_key s p) (IsUnder r (sends_under_id r s p))
-unfolding sends_under_id
-id_under r s p = if_key (pdu_key s p) (IsUnder r (sends_under_id r s p)) (λ k e i h.
-    let q = there (λ (x : Pdu). is_request_body x.body && same_id (request_id_of p.body) (request_id_of x.body)) (sent_by r s i) h in
-    sent_has r s i k p q.0 e q.1 (ids_are _ _ (and_parts (is_request_body q.0.body) _ q.2).1))
-
-reply_has : (r : PlainRecording) (o : OrderData) (t k : ℕ) → pdu_key t o.request ≡ Some k → IsUnder r (is_reply r o t) k
-unfolding is_reply
+pub reply_has : (r : PlainRecording) (o : OrderData) (t k : ℕ) → order_key t o.request ≡ Some k → IsUnder r (is_reply r o t) k
+unfolding is_reply gets_order
 reply_has r o t k e i h =
-    let q = there (λ (x : Pdu). is_answer_to x o.request) (sent_by r t i) (and_parts (answers_order r o t i) _ h).0 in
-    sent_has r t i k o.request q.0 e q.1 (answer_id q.0 o.request q.2)
+    let parts = and_parts (answers_order r o t i) _ h in
+    let q = there (λ (x : Pdu). is_answer_to x o.request) (sent_by r t i) parts.0 in
+    let taken = there (is_copy r o t) (pair_of r i) parts.1 in
+    let copy = there (is_same_order o.request) (got_by r t taken.0) taken.2 in
+    has_it r i k (sent_keyed r t i q.0 q.1
+    ∙ answer_key r t i q.0 (is_answering q.0 o.request q.2)
+    ∙ ap (λ (m : Option ℕ). option_and_then (order_key t) (option_and_then (got_by r t) m)) taken.1
+    ∙ ap (option_and_then (order_key t)) copy.1
+    ∙ sym (same_key t o.request copy.0 copy.2) ∙ e)
 
-pub replies_under : (r : PlainRecording) (o : OrderData) (t : ℕ) → IfSome (pdu_key t o.request) (IsUnder r (is_reply r o t))
-replies_under r o t = if_key (pdu_key t o.request) (IsUnder r (is_reply r o t)) (reply_has r o t)
+pub replies_under : (r : PlainRecording) (o : OrderData) (t : ℕ) → IfSome (order_key t o.request) (IsUnder r (is_reply r o t))
+replies_under r o t = if_key (order_key t o.request) (IsUnder r (is_reply r o t)) (reply_has r o t)
 
-pub changing_under : (r : PlainRecording) (o : OrderData) (t : ℕ) → IfSome (pdu_key t o.request) (IsUnder r (is_changing_reply r o t))
+pub changing_under : (r : PlainRecording) (o : OrderData) (t : ℕ) → IfSome (order_key t o.request) (IsUnder r (is_changing_reply r o t))
 unfolding is_changing_reply
-changing_under r o t = if_key (pdu_key t o.request) (IsUnder r (is_changing_reply r o t)) (λ k e i h.
+changing_under r o t = if_key (order_key t o.request) (IsUnder r (is_changing_reply r o t)) (λ k e i h.
     reply_has r o t k e i (and_parts (is_reply r o t i) _ h).0)
 
-pub in_bytes_under : (r : PlainRecording) (o : OrderData) (t : ℕ) (b : List ℕ) → IfSome (pdu_key t o.request) (IsUnder r (replies_in r o t b))
+pub in_bytes_under : (r : PlainRecording) (o : OrderData) (t : ℕ) (b : List ℕ) → IfSome (order_key t o.request) (IsUnder r (replies_in r o t b))
 unfolding replies_in
-in_bytes_under r o t b = if_key (pdu_key t o.request) (IsUnder r (replies_in r o t b)) (λ k e i h.
+in_bytes_under r o t b = if_key (order_key t o.request) (IsUnder r (replies_in r o t b)) (λ k e i h.
     reply_has r o t k e i (and_parts (is_reply r o t i) _ h).0)
 
--- the PDU of what is sent in these bytes
-meant_sent : (r : PlainRecording) (t j : ℕ) (b : List ℕ) (q : Pdu) → sent_by r t j ≡ Some q → option_map_or (bytes_eq b) (bytes_sent r t j) false ≡ true
-    → meaning r.setting.exercise b ≡ Some q
-unfolding sent_by
-meant_sent r t j b q at same =
-    let c = there (bytes_eq b) (bytes_sent r t j) same in
-    ap (meaning r.setting.exercise) ((bytes_decides b c.0).0 c.2) ∙ sym (ap (option_and_then (meaning r.setting.exercise)) c.1) ∙ at
-
--- what was received in the bytes of a reply answers the order
-news_means : (r : PlainRecording) (o : OrderData) (t : ℕ) (b : List ℕ) → has_reply_in r o t b ≡ true
-    → (q : Pdu) × (meaning r.setting.exercise b ≡ Some q) × (request_id_of o.request.body ≡ request_id_of q.body)
-unfolding has_reply_in replies_in is_reply
-news_means r o t b h =
-    let j = some_passes (replies_in r o t b) (length r.entries) h in
-    let parts = and_parts (is_reply r o t j.0) _ j.2 in
-    let q = there (λ (x : Pdu). is_answer_to x o.request) (sent_by r t j.0) (and_parts (answers_order r o t j.0) _ parts.0).0 in
-    (q.0, meant_sent r t j.0 b q.0 q.1 parts.1, answer_id q.0 o.request q.2)
-
-news_has : (r : PlainRecording) (o : OrderData) (t k : ℕ) (m : Option ℕ) → option_map_or (λ s. pdu_key s o.request) m (pdu_key 0 o.request) ≡ Some k
-    → (i : ℕ) → option_map_or (has_reply_in r o t) (option_and_then (λ s. bytes_got r s i) m) false ≡ true → has_key r k i ≡ true
-unfolding got_by
-news_has r o t k None e i h = absurd (cc)
-news_has r o t k (Some s) e i h =
-    let b = there (has_reply_in r o t) (bytes_got r s i) h in
-    let q = news_means r o t b.0 b.2 in
-    let got : got_by r s i ≡ Some q.0 = ap (option_and_then (meaning r.setting.exercise)) b.1 ∙ q.1 in
-    got_has r s i k o.request q.0 e got q.2
-
-maker_is : (o : OrderData) (m : Option ℕ) → pdu_key (option_map_or (λ s. s) m 0) o.request ≡ option_map_or (λ s. pdu_key s o.request) m (pdu_key 0 o.request)
-maker_is o None = refl
-maker_is o (Some s) = refl
-
-pub news_under : (r : PlainRecording) (o : OrderData) (t : ℕ) → IfSome (maker_key o) (IsUnder r (is_news r o t))
-unfolding is_news maker_key
-news_under r o t = if_key (maker_key o) (IsUnder r (is_news r o t)) (λ k e i h.
-    news_has r o t k o.maker (sym (maker_is o o.maker) ∙ e) i h)
-
-told_has : (r : PlainRecording) (o : OrderData) (a : Pair) (k : ℕ) (m : Option ℕ) → option_map_or (λ s. pdu_key s o.request) m (pdu_key 0 o.request) ≡ Some k
+told_has : (r : PlainRecording) (o : OrderData) (a : Pair) (k : ℕ) (m : Option ℕ) → option_map_or (λ s. id_key s o.request) m (id_key 0 o.request) ≡ Some k
     → (i : ℕ) → option_map_or (tells_from r o a) (option_and_then (λ s. got_by r s i) m) false ≡ true → has_key r k i ≡ true
 told_has r o a k None e i h = absurd (cc)
 told_has r o a k (Some s) e i h =
     let q = there (tells_from r o a) (got_by r s i) h in
-    got_has r s i k o.request q.0 e q.1 (answer_id q.0 o.request (and_parts (is_answer_to q.0 o.request) _ q.2).0)
+    let answers = (and_parts (is_answer_to q.0 o.request) _ q.2).0 in
+    has_it r i k (got_keyed r s i q.0 q.1
+    ∙ got_answer s q.0 (is_answering q.0 o.request answers)
+    ∙ ap (option_map (number_under s)) (sym (answer_id q.0 o.request answers)) ∙ e)
 
-pub told_under : (r : PlainRecording) (o : OrderData) (a : Pair) → IfSome (maker_key o) (IsUnder r (is_told_from r o a))
-unfolding is_told_from maker_key
-told_under r o a = if_key (maker_key o) (IsUnder r (is_told_from r o a)) (λ k e i h.
+maker_is : (o : OrderData) (m : Option ℕ) → id_key (option_map_or (λ s. s) m 0) o.request ≡ option_map_or (λ s. id_key s o.request) m (id_key 0 o.request)
+maker_is o None = refl
+maker_is o (Some s) = refl
+
+pub told_under : (r : PlainRecording) (o : OrderData) (a : Pair) → IfSome (told_key o) (IsUnder r (is_told_from r o a))
+unfolding is_told_from told_key
+told_under r o a = if_key (told_key o) (IsUnder r (is_told_from r o a)) (λ k e i h.
     told_has r o a k o.maker (sym (maker_is o o.maker) ∙ e) i (and_parts _ _ (and_parts (is_first_under_id r o) _ h).1).1)
 
 pub settling_under : (r : PlainRecording) (f : ℕ → Bool) (o : Option ℕ) → IfSome o (IsUnder r f) → IfSome o (IsUnder r (is_settling r f))
 settling_under r f None under = tt
 settling_under r f (Some k) under = λ i h. under i (and_parts (f i) _ h).0
 
-pub ruleset under_steps = (sends_under, gets_under, id_under, replies_under, changing_under, in_bytes_under, news_under, told_under)
+pub ruleset under_steps = (sends_under, gets_under, replies_under, changing_under, in_bytes_under, told_under)
+
+-- ---- what has the key of an entry that passes
+
+under_one : (keys : ℕ → Option ℕ) (f : ℕ → Bool) (c : Option ℕ) → ((j : ℕ) → f j ≡ true → keys j ≡ c) → (i : ℕ) → f i ≡ true
+    → IfSome (keys i) (λ k. (j : ℕ) → f j ≡ true → holds keys k j ≡ true)
+unfolding holds
+under_one keys f c all i passes =
+    if_key (keys i) (λ k. (j : ℕ) → f j ≡ true → holds keys k j ≡ true)
+    (λ k e j h. ap (λ o. option_map_or (λ l. nat_eq l k) o false) (all j h ∙ sym (all i passes) ∙ e) ∙ eq-eqb k k refl)
+
+pub sends_first : (r : PlainRecording) (s i : ℕ) (p : Pdu) → is_request_body p.body ≡ true → sends_order r s p i ≡ true
+    → IfSome (key_at r i) (λ k. (j : ℕ) → sends_order r s p j ≡ true → has_key r k j ≡ true)
+sends_first r s i p asks = under_one (key_at r) (sends_order r s p) (order_key s p) (sends_keyed r s p asks) i
+
+pub id_first : (r : PlainRecording) (s i : ℕ) (p : Pdu) → sends_under_id r s p i ≡ true
+    → IfSome (second_at r i) (λ k. (j : ℕ) → sends_under_id r s p j ≡ true → holds (second_at r) k j ≡ true)
+unfolding sends_under_id
+id_first r s i p = under_one (second_at r) (sends_under_id r s p) (if is_open r.setting.form then id_key s p else None) (λ j h.
+    let q = there (λ (x : Pdu). is_request_body x.body && same_id (request_id_of p.body) (request_id_of x.body)) (sent_by r s j) h in
+    let parts = and_parts (is_request_body q.0.body) _ q.2 in
+    sent_second r s j q.0 q.1
+    ∙ ap (λ b. if is_open r.setting.form then (if b then id_key s q.0 else None) else None) parts.0
+    ∙ ap (λ o. if is_open r.setting.form then option_map (number_under s) o else None) (sym (ids_are (request_id_of p.body) (request_id_of q.0.body) parts.1))) i
+
+got_second : (r : PlainRecording) (p : Pdu) (i : ℕ) → gets_anywhere r p i ≡ true
+    → second_at r i ≡ (if is_open r.setting.form then order_key nowhere p else None)
+unfolding gets_anywhere second_at
+got_second r p i h =
+    let e = there (entry_gets r.setting.exercise p) (slice_get r.entries i) h in
+    ap (λ o. if is_open r.setting.form then option_and_then (second_key r.setting.exercise) o else None) e.1
+    ∙ ap (λ o. if is_open r.setting.form then o else None) (of_entry e.0 e.2)
+  where
+    of_entry : (e : Entry) → entry_gets r.setting.exercise p e ≡ true → second_key r.setting.exercise e ≡ order_key nowhere p
+    of_entry (Sent t stamp b) h = absurd (cc)
+    of_entry (Received t stamp b) h =
+        let q = there (is_same_order p) (meaning r.setting.exercise b) h in
+        ap (option_and_then (order_key nowhere)) q.1 ∙ sym (same_key nowhere p q.0 q.2)
+    of_entry (Told t n y) h = absurd (cc)
+
+pub anywhere_first : (r : PlainRecording) (i : ℕ) (p : Pdu) → gets_anywhere r p i ≡ true
+    → IfSome (second_at r i) (λ k. (j : ℕ) → gets_anywhere r p j ≡ true → holds (second_at r) k j ≡ true)
+anywhere_first r i p = under_one (second_at r) (gets_anywhere r p) (if is_open r.setting.form then order_key nowhere p else None) (got_second r p) i

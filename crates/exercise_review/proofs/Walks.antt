@@ -38,7 +38,7 @@ jump F f h under still (suc n) =
 
 -- ---- the three searches
 
-first_still : (f : ℕ → Bool) (i : ℕ) → f i ≡ false → first_below f (suc i) ≡ first_below f i
+pub first_still : (f : ℕ → Bool) (i : ℕ) → f i ≡ false → first_below f (suc i) ≡ first_below f i
 unfolding first_below
 first_still f i e = ap (λ b. option_or (first_below f i) (if b then Some i else None)) e ∙ nothing (first_below f i)
   where

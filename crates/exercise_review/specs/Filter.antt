@@ -1,4 +1,4 @@
--- Which lines of a review filters keep: words of one key are alternatives, different keys must all hold (profile).
+-- Which lines of a view filters keep: words of one key are alternatives, different keys must all hold (profile).
 use Rattle.std.specs.Prelude.{◌≡◌, ◌⊎◌, ℕ, List, [], ◌∷◌, filter, Bool, false, ◌&&◌, ◌||◌, ◌==◌, not, Option, Some, None}
 use Rattle.std.specs.List.{list_any}
 use Rattle.dis_records.specs.declared.entity.EntityId.{EntityId}
@@ -45,19 +45,21 @@ abbrev pub passes_station : StationCounts → Filter → Bool
 passes_station x (filters.Station a) = same_address a x.at
 passes_station x filter = false
 
--- order lines: from or at that station; at the entity or nowhere, where the target covers it; of that request of that maker; of that fate
+-- order lines: from or at that station; at the entity or nowhere, where the target covers it; of that request of that maker; of that fate; none by a name
 abbrev pub passes_order : OrderAt → Filter → Bool
 passes_order x (filters.Station a) = same_address a x.from || is_there a x.at
 passes_order x (filters.Entity id) = is_there_or_nowhere (place_of id) x.at && covers_entity id x
 passes_order x (filters.Request a n) = same_address a x.from && same_id x.request (Some n)
 passes_order x (filters.Fate f) = same_fate f x.outcome.fate
+passes_order x (filters.Kind name) = false
 
--- state lines: of the entities of that station; of that entity; begun by that request; none under a fate
+-- state lines: of the entities of that station; of that entity; begun by that request; none under a fate, and none by a name
 abbrev pub passes_span : Span → Filter → Bool
 passes_span x (filters.Station a) = same_address a (place_of x.entity)
 passes_span x (filters.Entity id) = same_entity id x.entity
 passes_span x (filters.Request a n) = is_there a x.by && same_id x.request (Some n)
 passes_span x (filters.Fate f) = false
+passes_span x (filters.Kind name) = false
 
 -- ---- filters together
 
@@ -67,6 +69,7 @@ key_of (filters.Station a) = 0
 key_of (filters.Entity id) = 1
 key_of (filters.Request a n) = 2
 key_of (filters.Fate f) = 3
+key_of (filters.Kind name) = 4
 
 abbrev pub is_under : ℕ → Filter → Bool
 is_under key filter = key_of filter == key
@@ -80,7 +83,7 @@ holds_under test fs key = not (list_any (is_under key) fs) || list_any (passes_u
 
 -- FILTERS KEEP a line, of which this tells what passes
 unfoldable pub keeps : List Filter → (Filter → Bool) → Bool
-keeps fs test = holds_under test fs 0 && (holds_under test fs 1 && (holds_under test fs 2 && holds_under test fs 3))
+keeps fs test = holds_under test fs 0 && (holds_under test fs 1 && (holds_under test fs 2 && (holds_under test fs 3 && holds_under test fs 4)))
 
 -- THE STATIONS, ORDERS AND STRETCHES that filters keep, in their order
 abbrev pub kept_stations : List Filter → List StationCounts → List StationCounts

@@ -3,7 +3,11 @@ pub mod Entries
 pub mod Order
 pub mod Party
 pub mod Parties
+pub mod Receipts
+pub mod Digest
 pub mod Register
+pub mod Heard
+pub mod News
 pub mod Reply
 pub mod Word
 pub mod Fate
@@ -17,6 +21,7 @@ pub mod Links
 pub mod Knowing
 pub mod Room
 pub mod Span
+pub mod Course
 pub mod Told
 pub mod Tally
 pub mod Review

@@ -1,39 +1,80 @@
--- What entries are looked up by: their station, and the request identifier of what they send or receive (profile).
-use Rattle.std.specs.Prelude.{◌≡◌, ℕ, ◌+◌, ◌*◌, List, Bool, true, false, nat_eq, Option, None, option_map, option_and_then, slice_get}
+-- What entries are looked up by: their station, and the order that they make, bring or take up (profile).
+use Rattle.std.specs.Prelude.{◌≡◌, ℕ, ◌+◌, ◌*◌, List, length, Bool, true, false, nat_eq, Option, Some, None, option_map, option_and_then, slice_get, if◌then◌else◌}
 use Rattle.std.specs.Option.{option_map_or}
 use Rattle.std.specs.declared.hash.BuildHasherDefault.{BuildHasherDefault}
 use Rattle.std.specs.declared.hash.DefaultHasher.{DefaultHasher}
 use Rattle.indexmap.specs.IndexMap.{IndexMap, get}
 use Rattle.siman_pdus.specs.declared.pdu.Pdu.{Pdu}
-use Rattle.siman_pdus.specs.Role.{request_id_of}
+use Rattle.siman_pdus.specs.Role.{is_request_body, request_id_of}
 use Rattle.exercise_model.specs.Entry.{Entry, Sent, Received, Told}
 use Rattle.exercise_model.specs.Recording.{PlainRecording}
+use Rattle.exercise_model.specs.Account.{pair_of}
 use Rattle.exercise_model.specs.Meaning.{meaning}
+use Rattle.exercise_model.specs.Setting.{is_open}
 use Rattle.exercise_findings.specs.Column.{IsColumn}
+use Rattle.exercise_review.specs.declared.ways.Ways.{Ways}
 use Rattle.exercise_review.specs.Counted.{last_below}
+use Rattle.exercise_review.specs.Digest.{digest_of}
+use Rattle.exercise_review.specs.Entries.{got_by}
+use Rattle.exercise_review.specs.Heard.{Heard, AreHeard}
 use Rattle.exercise_review.specs.Order.{OrderData}
+
+-- ---- keys
 
 -- a station and a request identifier as one number
 abbrev pub number_under : (s id : ℕ) → ℕ
 number_under s id = s * 0x100000000 + id
 
--- the key of p at station s, if p has a request identifier
-abbrev pub pdu_key : ℕ → Pdu → Option ℕ
-pdu_key s p = option_map (number_under s) (request_id_of p.body)
+-- the key of p at station s, if p is a request
+unfoldable pub order_key : ℕ → Pdu → Option ℕ
+order_key s p = if is_request_body p.body then Some (digest_of s p) else None
 
--- the key of an entry in exercise x
-abbrev pub entry_key : ℕ → Entry → Option ℕ
-entry_key x (Sent s stamp b) = option_and_then (pdu_key s) (meaning x b)
-entry_key x (Received s stamp b) = option_and_then (pdu_key s) (meaning x b)
-entry_key x (Told s e y) = None
+-- the key of the identifier of p at station s, if p has one
+abbrev pub id_key : ℕ → Pdu → Option ℕ
+id_key s p = option_map (number_under s) (request_id_of p.body)
 
--- THE KEY OF ENTRY i: of its station and the request identifier of what it sends or receives, if that has one
+-- what station s sends at entry i is looked up with the order that it makes or, for an answer, takes up
+unfoldable pub sent_key : PlainRecording → (s i : ℕ) → Pdu → Option ℕ
+sent_key r s i p = if is_request_body p.body then order_key s p else option_and_then (order_key s) (option_and_then (got_by r s) (pair_of r i))
+
+-- what it receives with the order that it brings or, for an answer, under its identifier
+unfoldable pub got_key : ℕ → Pdu → Option ℕ
+got_key s p = if is_request_body p.body then order_key s p else id_key s p
+
+abbrev pub entry_key : PlainRecording → ℕ → Entry → Option ℕ
+entry_key r i (Sent s stamp b) = option_and_then (sent_key r s i) (meaning r.setting.exercise b)
+entry_key r i (Received s stamp b) = option_and_then (got_key s) (meaning r.setting.exercise b)
+entry_key r i (Told s e y) = None
+
+-- THE KEY OF ENTRY i, if it has to do with an order
 unfoldable pub key_at : PlainRecording → ℕ → Option ℕ
-key_at r i = option_and_then (entry_key r.setting.exercise) (slice_get r.entries i)
+key_at r i = option_and_then (entry_key r i) (slice_get r.entries i)
+
+-- a number that no station has
+abbrev pub nowhere : ℕ
+nowhere = 65535
+
+-- the second key is that of a request's identifier where it is sent, and of the order alone where it is received
+abbrev pub second_key : ℕ → Entry → Option ℕ
+second_key x (Sent s stamp b) = option_and_then (λ p. if is_request_body p.body then id_key s p else None) (meaning x b)
+second_key x (Received s stamp b) = option_and_then (order_key nowhere) (meaning x b)
+second_key x (Told s e y) = None
+
+-- THE SECOND KEY OF ENTRY i, in an open recording
+unfoldable pub second_at : PlainRecording → ℕ → Option ℕ
+second_at r i = if is_open r.setting.form then option_and_then (second_key r.setting.exercise) (slice_get r.entries i) else None
+
+-- ---- entries under a key
 
 -- entry i has key k
-unfoldable pub has_key : PlainRecording → ℕ → ℕ → Bool
-has_key r k i = option_map_or (λ l. nat_eq l k) (key_at r i) false
+unfoldable pub holds : (ℕ → Option ℕ) → ℕ → ℕ → Bool
+holds keys k i = option_map_or (λ l. nat_eq l k) (keys i) false
+
+abbrev pub has_key : PlainRecording → ℕ → ℕ → Bool
+has_key r = holds (key_at r)
+
+abbrev pub has_second : PlainRecording → ℕ → ℕ → Bool
+has_second r = holds (second_at r)
 
 -- all entries that pass a test have key k
 abbrev pub IsUnder : PlainRecording → (ℕ → Bool) → ℕ → Type 0
@@ -44,14 +85,20 @@ abbrev pub LastEntries : Type 0
 LastEntries = IndexMap ℕ ℕ (BuildHasherDefault DefaultHasher)
 
 -- entry j goes back to the last one before it that has its key
-abbrev pub IsBefore : PlainRecording → ℕ → Option ℕ → Type 0
-IsBefore r j before = (k : ℕ) → has_key r k j ≡ true → before ≡ last_below (has_key r k) j
+abbrev pub IsBefore : (ℕ → Option ℕ) → ℕ → Option ℕ → Type 0
+IsBefore keys j before = (k : ℕ) → holds keys k j ≡ true → before ≡ last_below (holds keys k) j
 
 -- THE TIE, after the entries below n: under each key the last of them that has it, and from each of them the way back
-pub record AreRegistered (r : PlainRecording) (n : ℕ) (entries : LastEntries) (ways : List (Option ℕ)) : Type 0 where
-  pub last : (k : ℕ) → get nat_eq entries k ≡ last_below (has_key r k) n
-  pub before : IsColumn None (IsBefore r) n ways
+pub record AreRegistered (keys : ℕ → Option ℕ) (n : ℕ) (entries : LastEntries) (ways : List (Option ℕ)) : Type 0 where
+  pub last : (k : ℕ) → get nat_eq entries k ≡ last_below (holds keys k) n
+  pub before : IsColumn None (IsBefore keys) n ways
 
--- the key under which the maker of an order has what has to do with it
-unfoldable pub maker_key : OrderData → Option ℕ
-maker_key o = pdu_key (option_map_or (λ s. s) o.maker 0) o.request
+-- WHAT A REGISTER KEEPS of a recording: its entries by their keys and by their second keys, and where each datagram was received
+pub record IsRegister (r : PlainRecording) (first second : Ways) (noted : Heard) : Type 0 where
+  pub orders : AreRegistered (key_at r) (length r.entries) first.last first.before.items
+  pub seconds : AreRegistered (second_at r) (length r.entries) second.last second.before.items
+  pub heard : AreHeard r (length r.entries) noted
+
+-- the key under which the maker of an order is told of it
+unfoldable pub told_key : OrderData → Option ℕ
+told_key o = id_key (option_map_or (λ s. s) o.maker 0) o.request

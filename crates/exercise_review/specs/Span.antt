@@ -1,8 +1,7 @@
 -- The stretches of the lives of a recording's entities, as they are told: by station, entity and time (profile).
-use Rattle.std.specs.Prelude.{ℕ, ◌+◌, List, [], ◌∷◌, length, map, Option, None, option_map, option_and_then}
+use Rattle.std.specs.Prelude.{ℕ, ◌+◌, List, [], ◌∷◌, length, map, Option, option_map, option_and_then}
 use Rattle.std.specs.Option.{option_to_list}
 use Rattle.dis_records.specs.declared.entity.EntityId.{EntityId}
-use Rattle.dis_records.specs.declared.entity_state.EntityState.TheVariants.{Absent}
 use Rattle.dis_records.specs.Address.{Pair}
 use Rattle.dis_records.specs.Entity.{pair_of}
 use Rattle.siman_pdus.specs.declared.pdu.Pdu.{Pdu}
@@ -83,7 +82,3 @@ changes_made r s = lists_below (made_at r s) (length r.entries)
 abbrev pub lived_by : ℕ → LifeSoFar → List Made → LifeSoFar
 lived_by e l [] = l
 lived_by e l (m ∷ ms) = lived_by e (lived_on l m.entry (changed e l.state m.change)) ms
-
--- the life of an entity that is never there
-abbrev pub idle : LifeSoFar
-idle = record { ended = []; state = Absent; since = None }

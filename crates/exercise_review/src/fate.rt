@@ -4,10 +4,11 @@ ghost use Rattle.std.specs.Prelude.{◌≡◌};
 ghost use Rattle.exercise_review.specs.Order.{order_of};
 ghost use Rattle.exercise_review.specs.Fate.{fate_heard, fate_by, word_heard, has_replied, traces_of, fate_of, fate_text};
 
+use crate::news::news_of;
 use crate::order::Order;
 use crate::party::{Party, first_copy};
 use crate::register::Register;
-use crate::reply::{News, Replies};
+use crate::reply::Replies;
 use crate::walk::first_entry;
 use crate::word::{Word, first_settling, word_at};
 use exercise_model::ExerciseLog;
@@ -124,12 +125,10 @@ fn has_replied<L: ExerciseLog>(replies: &Replies<'_, L>) -> bool
 }
 
 /// The word of the first answer of a station that the maker heard and that settles.
-#[tactic(auto, using(crate::proofs::Under::under_steps))]
 fn heard<L: ExerciseLog>(replies: &Replies<'_, L>) -> Option<Word>
     ensures { result ≡ word_heard replies.now.findings.now (order_of replies.now.order.now) replies.now.station }
 {
-    let news = News { replies };
-    match first_settling(replies.findings, replies.order.maker_key(), &news) {
+    match news_of(replies).settled {
         Some(entry) => word_at(replies.findings, entry),
         None => None,
     }

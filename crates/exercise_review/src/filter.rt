@@ -22,6 +22,19 @@ pub enum Filter {
     Request(Outsider, u32),
     /// Orders with a fate.
     Fate(Fate),
+    /// Entries of this name.
+    Kind(EntryName),
+}
+
+/// The name of an entry of a log.
+#[derive(Clone, Copy, PartialEq, Eq)]
+pub enum EntryName {
+    /// It sends or receives a PDU of this kind.
+    Kind(Kind),
+    /// It tells the state of an entity.
+    Told,
+    /// It sends or receives a datagram that means nothing in the exercise.
+    Other,
 }
 
 /// What a line tells of, which filters may keep. No call takes memory.
@@ -108,6 +121,7 @@ impl Filtered for OrderAt {
                 same_address(address, self.from) && is_request(self.request, number)
             }
             Filter::Fate(fate) => fate.number() == self.outcome.fate.number(),
+            Filter::Kind(_) => false,
         }
     }
 }
@@ -125,7 +139,7 @@ impl Filtered for Span {
             Filter::Request(address, number) => {
                 is_there(address, self.by) && is_request(self.request, number)
             }
-            Filter::Fate(_) => false,
+            Filter::Fate(_) | Filter::Kind(_) => false,
         }
     }
 }
@@ -140,6 +154,7 @@ impl Filter {
             Filter::Entity(_) => 1,
             Filter::Request(_, _) => 2,
             Filter::Fate(_) => 3,
+            Filter::Kind(_) => 4,
         }
     }
 }
@@ -169,4 +184,5 @@ pub fn keeps<T: Filtered>(filters: &[Filter], item: &T) -> bool
         && holds_under(filters, item, 1)
         && holds_under(filters, item, 2)
         && holds_under(filters, item, 3)
+        && holds_under(filters, item, 4)
 }

@@ -6,7 +6,8 @@
 //! logged ([`traces_of`]): done, refused, answered, pending, unheard, unanswered, lost or unknown.
 //! [`lives_of`] is when an entity was there and in which state, and [`missing_at`] the datagram that a
 //! log received and no log sent. [`review_of`] tells all orders at their parties, the lives of all
-//! entities and the counts of both, within a limit of lines, and [`keeps`] which of it filters keep.
+//! entities and the counts of both, within a limit of lines, and [`keeps`] which of it filters keep;
+//! [`receipts_counted`] tells how often each datagram that was sent was received.
 //! The laws: [`fates_hold`] says what each fate means in every run that explains the recording,
 //! [`one_side_is_not_enough`] which fates no single log can tell, [`lives_are_states`] that the
 //! stretches of a life are the states of the entity at each place, [`changes_are_made`] that a change
@@ -14,29 +15,36 @@
 //! told to be heard, [`links_are_of_the_logs`] that good certificates differ in order alone, and
 //! [`conversion_keeps_views`] that a converted recording has the review that it had.
 //!
-//! A [`Register`] keeps the entries by their stations and request identifiers. What has to do with an
-//! order at a station is looked for among those alone that have its identifier there; what else is
-//! asked goes over the whole log.
+//! A [`Register`] keeps the entries by the orders that they make, bring or take up, and where each
+//! datagram was received. What has to do with an order at a station is looked for among those entries
+//! alone that have its digest there; what else is asked goes over the whole log.
 #![tactic(auto)]
 
 mod change_laws;
+mod changes;
 mod conversion_laws;
 mod counting;
+mod course;
+mod digest;
 mod entries;
 mod fate;
 mod fault;
 mod filter;
+mod keys;
 mod laws;
 mod life;
 mod link_laws;
+mod living;
 mod manager_laws;
-mod marks;
 mod missing;
+mod news;
 mod order;
 mod outcome;
 mod parties;
 mod party;
 mod question;
+mod receipt;
+mod receipts;
 mod register;
 mod reply;
 mod review;
@@ -45,13 +53,14 @@ mod stations;
 mod tally;
 mod told;
 mod walk;
+mod ways;
 mod word;
 
 pub use change_laws::changes_are_made;
 pub use conversion_laws::conversion_keeps_views;
 pub use fate::{Fate, Traces, fate_of, traces_of};
 pub use fault::ReviewFault;
-pub use filter::{Filter, Filtered, keeps};
+pub use filter::{EntryName, Filter, Filtered, keeps};
 pub use laws::{fates_hold, lives_are_states, one_side_is_not_enough};
 pub use life::{Stretch, lives_of};
 pub use link_laws::links_are_of_the_logs;
@@ -61,6 +70,7 @@ pub use order::{Order, head_of, order_at};
 pub use outcome::{Outcome, outcomes_of};
 pub use parties::parties_of;
 pub use party::{Outsider, Party, is_party, is_party_outside};
+pub use receipts::receipts_counted;
 pub use register::Register;
 pub use reply::change_of_order;
 pub use review::{MOST_LINES, Review, review_of};

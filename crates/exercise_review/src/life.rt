@@ -1,12 +1,15 @@
 //! How an entity lived: the stretches in which it had one state.
 
-ghost use Rattle.std.specs.Prelude.{◌≡◌, ◌<◌, ◌++◌, length, IfOk, OnOk};
-ghost use Rattle.exercise_review.specs.Life.{life_in, stretch_of, lived_on, life_before, lives_of};
+ghost use Rattle.std.specs.Prelude.{◌≡◌, ◌<◌, ◌++◌, length, true, IfOk, OnOk};
+ghost use Rattle.exercise_model.specs.Station.{is_entity};
+ghost use Rattle.exercise_review.specs.Life.{life_in, stretch_of, lived_on, lives_of};
+ghost use Rattle.exercise_review.specs.Span.{changes_made, lived_by};
 
-use crate::entries::entry_count;
+use crate::changes::changes_made;
 use crate::register::Register;
+use crate::span::Made;
 use dis_records::EntityState;
-use exercise_model::ExerciseLog;
+use exercise_model::{ExerciseLog, is_entity};
 use std::alloc::{AllocError, Global};
 
 /// A stretch of a station's log in which an entity had one state other than Absent, and that no
@@ -61,33 +64,44 @@ pub(crate) fn live_on(life: &mut Life, entry: usize, state: EntityState) -> Resu
     Ok(())
 }
 
-/// The life of an entity of a station over its whole log.
-#[tactic(auto, using(crate::proofs::Lives::life_steps))]
-fn live<L: ExerciseLog>(
+/// A life of an entity after changes of its station.
+fn live_by(life: &mut Life, entity: u16, changes: &[Made]) -> Result<(), AllocError>
+    ensures { OnOk result (life_in life.new ≡ lived_by entity (life_in life.old) changes.now) }
+{
+    for made in changes {
+        let state = made.change.changed(entity, life.state);
+        live_on(life, made.entry, state)?;
+    }
+    Ok(())
+}
+
+/// How an entity of a station lived, by the changes of that station.
+fn lives_by<L: ExerciseLog>(
     alloc: Global,
     findings: &Register<'_, L>,
     station: u16,
     entity: u16,
-) -> Result<Life, AllocError>
-    requires { station < length findings.now.setting.stations }
-    ensures { let r = findings.now in IfOk result (λ life. life_in life ≡ life_before r station entity (length r.entries)) }
+    changes: &[Made],
+) -> Result<Vec<Stretch>, AllocError>
+    requires at { station < length findings.now.setting.stations }
+    requires entity { is_entity entity ≡ true }
+    requires changes { changes.now ≡ changes_made findings.now station }
+    ensures { IfOk result (λ stretches. stretches.items ≡ lives_of findings.now station entity) }
 {
     let mut life = Life {
         ended: Vec::new(alloc),
         state: findings.state_before(station, entity, 0),
         since: None,
     };
-    for entry in 0..entry_count(findings) {
-        let state = findings.state_before(station, entity, entry + 1);
-        live_on(&mut life, entry, state)?;
-    }
-    Ok(life)
+    live_by(&mut life, entity, changes)?;
+    end_stretch(&mut life, None)?;
+    let Life { ended, .. } = life;
+    Ok(ended)
 }
 
 /// How an entity of a station lived: the longest stretches of the station's log in which it has one
 /// state other than Absent, in their order. A number that no entity has is Absent throughout. It
-/// looks at the entries before each entry.
-#[tactic(auto, unfolding(crate::specs::Life::lives_of))]
+/// looks once at each entry.
 pub fn lives_of<L: ExerciseLog>(
     alloc: Global,
     findings: &Register<'_, L>,
@@ -97,8 +111,10 @@ pub fn lives_of<L: ExerciseLog>(
     requires { station < length findings.now.setting.stations }
     ensures { IfOk result (λ stretches. stretches.items ≡ lives_of findings.now station entity) }
 {
-    let mut life = live(alloc, findings, station, entity)?;
-    end_stretch(&mut life, None)?;
-    let Life { ended, .. } = life;
-    Ok(ended)
+    if is_entity(entity) {
+        let changes = changes_made(alloc, findings, station)?;
+        lives_by(alloc, findings, station, entity, &changes)
+    } else {
+        Ok(Vec::new(alloc))
+    }
 }

@@ -1,14 +1,16 @@
 //! Orders, each told by the entry at which it first stands.
 
-ghost use Rattle.std.specs.Prelude.{◌≡◌, option_map, Some, length};
+ghost use Rattle.std.specs.Prelude.{◌≡◌, ◌<◌, ◌&&◌, option_map, Some, length};
 ghost use Rattle.siman_pdus.specs.Answers.{same_id};
 ghost use Rattle.siman_pdus.specs.Reading.{pdu_of};
-ghost use Rattle.exercise_review.specs.Register.{maker_key};
-ghost use Rattle.exercise_review.specs.Order.{order_of, sends_order, gets_order, gets_anywhere, head_sent, head_got, head_of, order_at, sends_of, sends_under_id, is_first_under_id};
+ghost use Rattle.siman_pdus.specs.Role.{is_request_body};
+ghost use Rattle.exercise_review.specs.Register.{told_key};
+ghost use Rattle.exercise_review.specs.Order.{order_of, sends_order, gets_order, gets_anywhere, is_outside, is_for_station, head_sent, head_got, head_of, order_at, sends_of, sends_under_id, is_first_under_id};
 
 use crate::entries::{entry_at, entry_count, got_by, meant, sent_by};
+use crate::keys::{id_key, order_key};
 use crate::question::{Question, first_below};
-use crate::register::{Register, pdu_key};
+use crate::register::Register;
 use crate::stations::{is_for_station, is_outside};
 use crate::walk::{count_entries, first_entry};
 use exercise_model::{EntryView, ExerciseLog};
@@ -125,14 +127,21 @@ fn head_sent<L: ExerciseLog>(
         station,
         request: pdu,
     };
-    first_entry(findings, pdu_key(station, pdu), &sends)
+    first_entry(findings, order_key(station, pdu), &sends)
+}
+
+/// Whether what somebody receives is a request from outside to a recorded station.
+fn is_asked_from_outside<L: ExerciseLog>(findings: &Register<'_, L>, pdu: &PduView<'_>) -> bool
+    ensures { result ≡ (is_request_body (pdu_of pdu.now).body && (is_outside findings.now (pdu_of pdu.now) && is_for_station findings.now (pdu_of pdu.now))) }
+{
+    is_request(pdu) && is_outside(findings, pdu) && is_for_station(findings, pdu)
 }
 
 /// The head of what somebody receives, where it is a request from outside to a recorded station.
 fn head_got<L: ExerciseLog>(findings: &Register<'_, L>, pdu: &PduView<'_>) -> Option<usize>
     ensures { result ≡ head_got findings.now (pdu_of pdu.now) }
 {
-    if !is_request(pdu) || !is_outside(findings, pdu) || !is_for_station(findings, pdu) {
+    if !is_asked_from_outside(findings, pdu) {
         return None;
     }
     let gets = GetsAnywhere {
@@ -162,13 +171,59 @@ pub fn head_of<L: ExerciseLog>(findings: &Register<'_, L>, entry: usize) -> Opti
     }
 }
 
-/// Whether an entry is its own head.
+/// Whether an entry at which a station sends something is the head of that.
+#[tactic(auto, using(crate::proofs::Under::sends_first))]
+fn is_head_sent<L: ExerciseLog>(
+    findings: &Register<'_, L>,
+    station: u16,
+    pdu: &PduView<'_>,
+    entry: usize,
+) -> bool
+    requires { entry < length findings.now.entries }
+    ensures { result ≡ same_id (head_sent findings.now station (pdu_of pdu.now)) (Some entry) }
+{
+    if !is_request(pdu) {
+        return false;
+    }
+    let sends = Sends {
+        findings,
+        station,
+        request: pdu,
+    };
+    findings.is_first(&sends, entry)
+}
+
+/// Whether an entry at which somebody receives something is the head of that.
+#[tactic(auto, using(crate::proofs::Under::anywhere_first))]
+fn is_head_got<L: ExerciseLog>(findings: &Register<'_, L>, pdu: &PduView<'_>, entry: usize) -> bool
+    requires { entry < length findings.now.entries }
+    ensures { result ≡ same_id (head_got findings.now (pdu_of pdu.now)) (Some entry) }
+{
+    if !is_asked_from_outside(findings, pdu) {
+        return false;
+    }
+    let gets = GetsAnywhere {
+        findings,
+        request: pdu,
+    };
+    findings.is_first_by_second(&gets, entry)
+}
+
+/// Whether an entry is its own head: only the entries of its order before it are asked.
+#[tactic(auto, unfolding(crate::specs::Order::head_of))]
 fn is_head<L: ExerciseLog>(findings: &Register<'_, L>, entry: usize) -> bool
     ensures { result ≡ same_id (head_of findings.now entry) (Some entry) }
 {
-    match head_of(findings, entry) {
-        Some(head) => head == entry,
-        None => false,
+    match entry_at(findings, entry) {
+        Some(EntryView::Sent { station, bytes, .. }) => match meant(findings, bytes) {
+            Some(pdu) => is_head_sent(findings, station, &pdu, entry),
+            None => false,
+        },
+        Some(EntryView::Received { bytes, .. }) => match meant(findings, bytes) {
+            Some(pdu) => is_head_got(findings, &pdu, entry),
+            None => false,
+        },
+        Some(EntryView::Told { .. }) | None => false,
     }
 }
 
@@ -194,17 +249,17 @@ pub fn order_at<'a, L: ExerciseLog>(findings: &Register<'a, L>, entry: usize) ->
 }
 
 impl Order<'_> {
-    /// What the entries of its maker are looked up by that may have to do with it; those of the first
+    /// What the entries of its maker are looked up by at which it may be told of it; those of the first
     /// station where it came from outside.
-    #[tactic(auto, unfolding(crate::specs::Register::maker_key))]
-    pub(crate) fn maker_key(&self) -> Option<u64>
-        ensures { result ≡ maker_key (order_of self.now) }
+    #[tactic(auto, unfolding(crate::specs::Register::told_key))]
+    pub(crate) fn told_key(&self) -> Option<u64>
+        ensures { result ≡ told_key (order_of self.now) }
     {
         let station = match self.maker {
             Some(station) => station,
             None => 0,
         };
-        pdu_key(station, &self.request)
+        id_key(station, &self.request)
     }
 
     /// How often its maker sent it; 0 where it came from outside.
@@ -219,7 +274,7 @@ impl Order<'_> {
                     station,
                     request: &self.request,
                 };
-                let key = pdu_key(station, &self.request);
+                let key = order_key(station, &self.request);
                 count_entries(findings, key, &sends)
             }
             None => 0,
@@ -227,21 +282,21 @@ impl Order<'_> {
     }
 
     /// Whether it is the first order of its maker under its identifier.
-    #[tactic(auto, unfolding(crate::specs::Order::is_first_under_id), using(crate::proofs::Under::under_steps))]
+    #[tactic(auto, unfolding(crate::specs::Order::is_first_under_id), using(crate::proofs::Under::id_first, crate::proofs::FirstOnes::not_beyond))]
     pub(crate) fn is_first_under_id<L: ExerciseLog>(&self, findings: &Register<'_, L>) -> bool
         ensures { result ≡ is_first_under_id findings.now (order_of self.now) }
     {
         let Some(station) = self.maker else {
             return false;
         };
+        if self.head >= entry_count(findings) {
+            return false;
+        }
         let sends = SendsUnderId {
             findings,
             station,
             request: &self.request,
         };
-        match first_entry(findings, pdu_key(station, &self.request), &sends) {
-            Some(first) => first == self.head,
-            None => false,
-        }
+        findings.is_first_by_second(&sends, self.head)
     }
 }

@@ -7,11 +7,13 @@ ghost use Rattle.exercise_review.specs.Outcome.{stamp_at, took_between, took, se
 
 use crate::entries::entry_at;
 use crate::fate::{Fate, fate_of};
+use crate::keys::order_key;
+use crate::news::news_told;
 use crate::order::{Gets, Order};
 use crate::parties::parties_of;
 use crate::party::{Outsider, Party, ToldFrom, first_copy};
-use crate::register::{Register, pdu_key};
-use crate::reply::{News, Replies, change_of_order};
+use crate::register::Register;
+use crate::reply::{Replies, change_of_order};
 use crate::walk::count_entries;
 use crate::word::{Word, telling, word_at};
 use exercise_model::{EntryView, ExerciseLog};
@@ -115,7 +117,7 @@ fn receipts_of<L: ExerciseLog>(findings: &Register<'_, L>, order: &Order<'_>, st
         station,
         request: &order.request,
     };
-    count_entries(findings, pdu_key(station, &order.request), &gets)
+    count_entries(findings, order_key(station, &order.request), &gets)
 }
 
 /// What is told of an order at a recorded station.
@@ -133,7 +135,7 @@ fn outcome_here<L: ExerciseLog>(
         station,
     };
     let answer = telling(findings, replies.key(), &replies);
-    let news = telling(findings, order.maker_key(), &News { replies: &replies });
+    let news = news_told(&replies);
     Outcome {
         party: Some(Party::Station(station)),
         sends: sends_told(findings, order),
@@ -163,7 +165,7 @@ fn outcome_outside<L: ExerciseLog>(
         order,
         from: address,
     };
-    let news = telling(findings, order.maker_key(), &told);
+    let news = telling(findings, order.told_key(), &told);
     Outcome {
         party: Some(Party::Outside(address)),
         sends: sends_told(findings, order),

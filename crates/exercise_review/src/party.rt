@@ -7,9 +7,10 @@ ghost use Rattle.exercise_review.specs.Order.{order_of};
 ghost use Rattle.exercise_review.specs.Party.{pair_at, first_copy, is_party, tells_from, is_told_from, names, is_at, is_recorded_at, is_party_outside};
 
 use crate::entries::got_by;
+use crate::keys::order_key;
 use crate::order::{Gets, Order};
 use crate::question::{Question, first_below};
-use crate::register::{Register, pdu_key};
+use crate::register::Register;
 use crate::stations::{Meant, is_outside};
 use crate::walk::first_entry;
 use dis_records::{EntityId, is_address_part};
@@ -46,7 +47,7 @@ pub(crate) fn first_copy<L: ExerciseLog>(
         station,
         request: &order.request,
     };
-    first_entry(findings, pdu_key(station, &order.request), &gets)
+    first_entry(findings, order_key(station, &order.request), &gets)
 }
 
 /// Whether a recorded station is a party of an order: the order addresses it; its own maker is one
@@ -176,6 +177,5 @@ pub fn is_party_outside<L: ExerciseLog>(
         order,
         from: address,
     };
-    names(order.request.target, address)
-        || first_entry(findings, order.maker_key(), &told).is_some()
+    names(order.request.target, address) || first_entry(findings, order.told_key(), &told).is_some()
 }

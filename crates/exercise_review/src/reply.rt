@@ -2,13 +2,14 @@
 
 ghost use Rattle.std.specs.Prelude.{◌≡◌};
 ghost use Rattle.exercise_review.specs.Order.{order_of};
-ghost use Rattle.exercise_review.specs.Register.{pdu_key};
+ghost use Rattle.exercise_review.specs.Register.{order_key};
 ghost use Rattle.exercise_review.specs.Reply.{answers_order, takes_copy, is_reply, is_changing_reply, change_of_order, replies_in, has_reply_in, is_news};
 
 use crate::entries::{bytes_got, bytes_sent, sent_by};
+use crate::keys::order_key;
 use crate::order::{Gets, Order};
 use crate::question::Question;
-use crate::register::{Register, pdu_key};
+use crate::register::Register;
 use crate::walk::first_entry;
 use exercise_model::ExerciseLog;
 use siman_pdus::answers;
@@ -24,9 +25,9 @@ pub(crate) struct Replies<'a, L: ExerciseLog> {
 impl<L: ExerciseLog> Replies<'_, L> {
     /// What they are looked up by.
     pub(crate) fn key(&self) -> Option<u64>
-        ensures { result ≡ pdu_key self.now.station (order_of self.now.order.now).request }
+        ensures { result ≡ order_key self.now.station (order_of self.now.order.now).request }
     {
-        pdu_key(self.station, &self.order.request)
+        order_key(self.station, &self.order.request)
     }
 
     /// Whether an entry of the station sends an answer to the order.
@@ -94,7 +95,7 @@ pub fn change_of_order<L: ExerciseLog>(
         order,
         station,
     };
-    let key = pdu_key(station, &order.request);
+    let key = order_key(station, &order.request);
     first_entry(findings, key, &ChangingReplies { replies: &replies })
 }
 

@@ -1,23 +1,26 @@
 //! The stretches of the lives of a recording's entities, as they are told.
 
-ghost use Rattle.std.specs.Prelude.{◌≡◌, ◌<◌, ◌≤◌, ◌&&◌, ◌==◌, [], length, map, slice_get, slice_index_or, false, option_map, option_and_then, true, IfOk, OnOk, if◌then◌else◌, None};
+ghost use Rattle.std.specs.Prelude.{◌≡◌, ◌<◌, ◌≤◌, length, map, option_map, option_and_then, true, IfOk};
 ghost use Rattle.siman_pdus.specs.Reading.{pdu_of};
 ghost use Rattle.exercise_model.specs.Station.{is_entity};
-ghost use Rattle.exercise_review.specs.Life.{life_in, life_before, lives_of};
+ghost use Rattle.exercise_review.specs.Life.{lives_of};
 ghost use Rattle.exercise_review.specs.Outcome.{stamp_at};
 ghost use Rattle.exercise_review.specs.Room.{lists_below, AddsWithin, MakesWithin};
-ghost use Rattle.exercise_review.specs.Span.{request_behind, span_of, entity_spans, spans_of, all_spans, own_change, made_at, changes_made, lived_by};
+ghost use Rattle.exercise_review.specs.Span.{request_behind, span_of, entity_spans, spans_of, all_spans, changes_made};
+ghost use Rattle.exercise_review.specs.Course.{IsCourse};
 
-use crate::entries::{entry_at, entry_count, meant_at};
+use crate::changes::{changes_by_station, changes_made};
+use crate::course::Course;
+use crate::entries::meant_at;
 use crate::fault::ReviewFault;
-use crate::life::{Life, Stretch, end_stretch, live_on};
-use crate::marks::{is_marked, marks_of};
+use crate::life::Stretch;
+use crate::living::{lives_in, may_live};
 use crate::outcome::stamp_at;
 use crate::parties::{parts_in, station_parts};
 use crate::party::Outsider;
 use crate::register::Register;
 use dis_records::{EntityId, EntityState};
-use exercise_model::{Change, EntryView, ExerciseLog, LARGEST_ENTITY};
+use exercise_model::{Change, ExerciseLog, LARGEST_ENTITY};
 use siman_pdus::{PduView, request_id};
 use std::alloc::{AllocError, Global};
 
@@ -48,76 +51,6 @@ pub struct Span {
 pub(crate) struct Made {
     pub entry: usize,
     pub change: Change,
-}
-
-/// What an entry changes at a station, if it is one of that station.
-#[tactic(auto, unfolding(exercise_model::specs::Place::own_event, exercise_model::specs::Account::change_at))]
-fn own_change<L: ExerciseLog>(
-    findings: &Register<'_, L>,
-    station: u16,
-    entry: usize,
-) -> Option<Change>
-    requires { station < length findings.now.setting.stations }
-    ensures { result ≡ own_change findings.now station entry }
-{
-    match entry_at(findings, entry) {
-        Some(EntryView::Sent { station: at, .. }) if at == station => findings.change(entry),
-        _ => None,
-    }
-}
-
-/// The changes of a station, in their order.
-#[tactic(auto, using(crate::proofs::Lists::list_steps), unfolding(crate::specs::Span::changes_made))]
-fn changes_made<L: ExerciseLog>(
-    alloc: Global,
-    findings: &Register<'_, L>,
-    station: u16,
-) -> Result<Vec<Made>, AllocError>
-    requires { station < length findings.now.setting.stations }
-    ensures { IfOk result (λ changes. changes.items ≡ changes_made findings.now station) }
-{
-    let mut changes = Vec::new(alloc);
-    for entry in 0..entry_count(findings) {
-        if let Some(change) = own_change(findings, station, entry) {
-            changes.push(Made { entry, change })?;
-        }
-    }
-    Ok(changes)
-}
-
-/// A life of an entity after changes of its station.
-fn live_by(life: &mut Life, entity: u16, changes: &[Made]) -> Result<(), AllocError>
-    ensures { OnOk result (life_in life.new ≡ lived_by entity (life_in life.old) changes.now) }
-{
-    for made in changes {
-        let state = made.change.changed(entity, life.state);
-        live_on(life, made.entry, state)?;
-    }
-    Ok(())
-}
-
-/// How an entity of a station lived, by the changes of that station.
-fn lives_by<L: ExerciseLog>(
-    alloc: Global,
-    findings: &Register<'_, L>,
-    station: u16,
-    entity: u16,
-    changes: &[Made],
-) -> Result<Vec<Stretch>, AllocError>
-    requires at { station < length findings.now.setting.stations }
-    requires entity { is_entity entity ≡ true }
-    requires changes { changes.now ≡ changes_made findings.now station }
-    ensures { IfOk result (λ stretches. stretches.items ≡ lives_of findings.now station entity) }
-{
-    let mut life = Life {
-        ended: Vec::new(alloc),
-        state: findings.state_before(station, entity, 0),
-        since: None,
-    };
-    live_by(&mut life, entity, changes)?;
-    end_stretch(&mut life, None)?;
-    let Life { ended, .. } = life;
-    Ok(ended)
 }
 
 /// The request that the answer at an entry takes up, if there is such an entry.
@@ -184,23 +117,40 @@ fn push_stretches<L: ExerciseLog>(
     Ok(())
 }
 
-/// Adds those of an entity of a station.
-fn push_entity<L: ExerciseLog>(
+/// The stretches of the life of an entity of a station, by the course of that station.
+fn lives_by<L: ExerciseLog>(
+    alloc: Global,
+    findings: &Register<'_, L>,
+    station: u16,
+    entity: u16,
+    course: &Course<'_>,
+) -> Result<Vec<Stretch>, AllocError>
+    requires entity { is_entity entity ≡ true }
+    requires course { IsCourse findings.now station course.now }
+    ensures { IfOk result (λ stretches. stretches.items ≡ lives_of findings.now station entity) }
+{
+    let (_findings, _station) = (findings, station);
+    let stretches = lives_in(alloc, course, entity)?;
+    Ok(stretches)
+}
+
+/// Adds those of an entity of a station, by the course of that station.
+fn push_lives<L: ExerciseLog>(
     alloc: Global,
     spans: &mut Vec<Span>,
     most: usize,
     findings: &Register<'_, L>,
     station: u16,
     entity: u16,
-    changes: &[Made],
+    course: &Course<'_>,
 ) -> Result<(), ReviewFault>
     requires at { station < length findings.now.setting.stations }
     requires entity { is_entity entity ≡ true }
-    requires changes { changes.now ≡ changes_made findings.now station }
+    requires course { IsCourse findings.now station course.now }
     requires room { length spans.old.items ≤ most }
     ensures { AddsWithin most spans.old.items (entity_spans findings.now station entity) result spans.new.items }
 {
-    let stretches = lives_by(alloc, findings, station, entity, changes)?;
+    let stretches = lives_by(alloc, findings, station, entity, course)?;
     let at = station_parts(findings, station);
     let id = EntityId {
         site: at.site,
@@ -210,32 +160,31 @@ fn push_entity<L: ExerciseLog>(
     push_stretches(spans, most, findings, id, &stretches)
 }
 
-/// Adds those of an entity of a station, of which nothing is told where it is not marked.
-fn push_marked<L: ExerciseLog>(
+/// Adds those of an entity of a station, if there may be any.
+fn push_entity<L: ExerciseLog>(
     alloc: Global,
     spans: &mut Vec<Span>,
     most: usize,
     findings: &Register<'_, L>,
     station: u16,
     entity: u16,
-    changes: &[Made],
-    marks: &[bool],
+    course: &Course<'_>,
 ) -> Result<(), ReviewFault>
     requires at { station < length findings.now.setting.stations }
     requires entity { is_entity entity ≡ true }
-    requires changes { changes.now ≡ changes_made findings.now station }
-    requires marks { slice_index_or marks.now entity true ≡ false → entity_spans findings.now station entity ≡ [] }
+    requires course { IsCourse findings.now station course.now }
     requires room { length spans.old.items ≤ most }
     ensures { AddsWithin most spans.old.items (entity_spans findings.now station entity) result spans.new.items }
 {
-    if is_marked(marks, entity) {
-        push_entity(alloc, spans, most, findings, station, entity, changes)
+    if may_live(course, entity) {
+        push_lives(alloc, spans, most, findings, station, entity, course)
     } else {
         Ok(())
     }
 }
 
-/// Adds the stretches of the lives of a station's entities, where there is room for so many.
+/// Adds the stretches of the lives of a station's entities, by the changes of that station, where
+/// there is room for so many.
 #[tactic(auto, unfolding(crate::specs::Span::spans_of))]
 fn push_station<L: ExerciseLog>(
     alloc: Global,
@@ -243,31 +192,22 @@ fn push_station<L: ExerciseLog>(
     most: usize,
     findings: &Register<'_, L>,
     station: u16,
+    changes: &[Made],
 ) -> Result<(), ReviewFault>
     requires at { station < length findings.now.setting.stations }
+    requires changes { changes.now ≡ changes_made findings.now station }
     requires room { length spans.old.items ≤ most }
     ensures { AddsWithin most spans.old.items (spans_of findings.now station) result spans.new.items }
 {
-    let changes = changes_made(alloc, findings, station)?;
-    let marks = marks_of(alloc, findings, station, &changes)?;
+    let course = Course::of(alloc, findings, station, changes)?;
     for below in 0..LARGEST_ENTITY {
-        push_marked(
-            alloc,
-            spans,
-            most,
-            findings,
-            station,
-            below + 1,
-            &changes,
-            &marks,
-        )?;
+        push_entity(alloc, spans, most, findings, station, below + 1, &course)?;
     }
     Ok(())
 }
 
 /// Adds the stretches of the lives of all stations' entities, where there is room for so many: by
-/// station, by entity, and in their order. It goes over the changes of a station for each number
-/// that an entity can have.
+/// station, by entity, and in their order.
 #[tactic(auto, unfolding(crate::specs::Span::all_spans))]
 fn push_spans<L: ExerciseLog>(
     alloc: Global,
@@ -278,8 +218,16 @@ fn push_spans<L: ExerciseLog>(
     requires { length spans.old.items ≤ most }
     ensures { AddsWithin most spans.old.items (all_spans findings.now) result spans.new.items }
 {
+    let changes = changes_by_station(alloc, findings)?;
     for station in 0..findings.log().station_count() {
-        push_station(alloc, spans, most, findings, station as u16)?;
+        push_station(
+            alloc,
+            spans,
+            most,
+            findings,
+            station as u16,
+            &changes[station],
+        )?;
     }
     Ok(())
 }
@@ -295,8 +243,9 @@ pub fn spans_of<L: ExerciseLog>(
     requires { station < length findings.now.setting.stations }
     ensures { MakesWithin most (spans_of findings.now station) result }
 {
+    let changes = changes_made(alloc, findings, station)?;
     let mut spans = Vec::new(alloc);
-    push_station(alloc, &mut spans, most, findings, station)?;
+    push_station(alloc, &mut spans, most, findings, station, &changes)?;
     Ok(spans)
 }
 

@@ -129,6 +129,17 @@ pub fn word_at<L: ExerciseLog>(findings: &Register<'_, L>, entry: usize) -> Opti
     }
 }
 
+/// Whether what an entry sends or receives settles the order that it answers.
+#[tactic(auto, unfolding(crate::specs::Word::settles_at))]
+pub(crate) fn settles_at<L: ExerciseLog>(findings: &Register<'_, L>, entry: usize) -> bool
+    ensures { result ≡ settles_at findings.now entry }
+{
+    match meant_at(findings, entry) {
+        Some(pdu) => settles(&pdu.body),
+        None => false,
+    }
+}
+
 /// Where entries pass and settle.
 #[derive(Drop)]
 struct Settling<'a, L: ExerciseLog, Q: Question> {
@@ -139,15 +150,8 @@ struct Settling<'a, L: ExerciseLog, Q: Question> {
 impl<L: ExerciseLog, Q: Question> Question for Settling<'_, L, Q> {
     ghost test = { λ q. is_settling q.findings.now (Q.test q.question.now) };
 
-    #[tactic(auto, unfolding(crate::specs::Word::settles_at))]
     fn passes(&self, entry: usize) -> bool {
-        if !self.question.passes(entry) {
-            return false;
-        }
-        match meant_at(self.findings, entry) {
-            Some(pdu) => settles(&pdu.body),
-            None => false,
-        }
+        self.question.passes(entry) && settles_at(self.findings, entry)
     }
 }
 

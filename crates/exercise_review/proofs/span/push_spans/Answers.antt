@@ -1,6 +1,7 @@
 use Rattle.std.proofs.Common.{◌<◌, ℕ, length, ap, ◌∙◌, arith}
 use Rattle.exercise_model.specs.Recording.{PlainRecording}
 use Rattle.exercise_review.specs.Span.{spans_of, all_spans}
+use Rattle.exercise_review.proofs.Courses.{changes_here}
 use Rattle.exercise_review.proofs.Lists.{room_begins, room_goes_on, room_ends}
 use Rattle.exercise_review.proofs.span.push_spans.Goals as goal
 
@@ -15,8 +16,16 @@ returns-in_err-push_station g c =
     let count = c.station_count-station-end.ensures.count ∙ ap (λ (x : PlainRecording). length x.setting.stations) c.log.ensures in
     let below : k < length r.setting.stations = omega (arith, c.loop-station-test.true, c.loop-station.auto.station-end, count) in
     room_ends c.args.spans.now.items c.loop-station.spans.items c.push_station.new.spans.items c.push_station.new.spans.items (spans_of r) k
-    (length r.setting.stations) c.args.most c.in_err-push_station.field-0.0 c.from_residual.result c.from_residual.ensures.1 below
+    (length r.setting.stations) c.args.most c.in_err-push_station.field-0.0 c.from_residual-in_err-push_station.result c.from_residual-in_err-push_station.ensures.1 below
     c.loop-station.invariant.added c.in_err-push_station.ensures
+
+pub push_station-requires-clause-changes : goal.push_station-requires-clause-changes
+push_station-requires-clause-changes g c =
+    let r : PlainRecording = c.args.findings.now in
+    let all = c.in_ok-changes.ensures in
+    let count = c.station_count-station-end.ensures.count ∙ ap (λ (x : PlainRecording). length x.setting.stations) c.log.ensures in
+    let within : c.loop-station.station < length c.in_ok-changes.changes.items = omega (arith, c.loop-station-test.true, c.loop-station.auto.station-end, count, all.count) in
+    c.deref.ensures.value ∙ changes_here r c.in_ok-changes.changes.items c.loop-station.station c.index.result.now all within c.index.ensures
 
 pub loop-station-preserved : goal.loop-station-preserved
 loop-station-preserved g c =

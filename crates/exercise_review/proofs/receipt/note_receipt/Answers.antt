@@ -1,0 +1,21 @@
+use Rattle.exercise_model.specs.Recording.{PlainRecording}
+use Rattle.exercise_review.specs.declared.receipt.Receipt.{Receipt}
+use Rattle.exercise_review.proofs.Receiving.{heard_still, heard_more, sent_no_bytes, told_no_bytes}
+use Rattle.exercise_review.proofs.receipt.note_receipt.Goals as goal
+
+pub returns-in_ok-keep_receipt-in-Received : goal.returns-in_ok-keep_receipt-in-Received
+returns-in_ok-keep_receipt-in-Received g c =
+    let r : PlainRecording = g.L.ExerciseLog.recording c.args.log.now in
+    let x : Receipt = record { station = c.in-Received.station; bytes = c.in-Received.bytes } in
+    heard_more r c.args.entry c.in-Received.stamp x c.args.heard.now c.keep_receipt.new.heard c.in-Received.ensures.entry
+    c.in_ok-keep_receipt-in-Received.ensures c.requires.tied
+
+pub returns-in-Sent : goal.returns-in-Sent
+returns-in-Sent g c =
+    let r : PlainRecording = g.L.ExerciseLog.recording c.args.log.now in
+    heard_still r c.args.entry c.args.heard.now (sent_no_bytes r c.args.entry _ _ _ c.in-Sent.ensures.entry) c.requires.tied
+
+pub returns-in-Told : goal.returns-in-Told
+returns-in-Told g c =
+    let r : PlainRecording = g.L.ExerciseLog.recording c.args.log.now in
+    heard_still r c.args.entry c.args.heard.now (told_no_bytes r c.args.entry _ _ _ c.in-Told.ensures.entry) c.requires.tied

@@ -1,0 +1,6 @@
+use Rattle.exercise_review.specs.Register.{AreRegistered}
+use Rattle.exercise_review.proofs.ways.ways_of.Given as goal
+
+-- The entries so far are kept.
+abbrev pub invariant-loop-entry : goal.invariant-loop-entry
+invariant-loop-entry g l = AreRegistered (g.K.Keying.keys l.keying) l.entry l.last l.before.items

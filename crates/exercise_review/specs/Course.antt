@@ -1,0 +1,101 @@
+-- The changes of a station, and which of them comes next for an entity (profile).
+use Rattle.std.specs.Prelude.{◌≡◌, ℕ, ◌+◌, ◌<◌, ◌≤◌, List, [], ◌++◌, length, Bool, true, false, ◌==◌, ◌&&◌, not, None, IfSome, slice_get, slice_index_or, Vec}
+use Rattle.std.specs.declared.alloc.Global.{Global}
+use Rattle.dis_records.specs.declared.kind.Kind.TheVariants as kinds
+use Rattle.dis_records.specs.declared.entity.Scope.{Scope}
+use Rattle.dis_records.specs.declared.entity.Scope.TheVariants.{One, All}
+use Rattle.dis_records.specs.declared.entity_state.EntityState.{EntityState}
+use Rattle.dis_records.specs.declared.entity_state.EntityState.TheVariants.{Absent, Stopped, Running}
+use Rattle.exercise_model.specs.declared.state.Change.{Change}
+use Rattle.exercise_model.specs.Station.{listed_state}
+use Rattle.exercise_model.specs.Recording.{PlainRecording}
+use Rattle.exercise_model.specs.History.{station_at}
+use Rattle.exercise_model.specs.State.{state_made, changed}
+use Rattle.exercise_model.specs.Cause.{same_state}
+use Rattle.exercise_review.specs.declared.life.Stretch.{Stretch}
+use Rattle.exercise_review.specs.declared.span.Made.{Made}
+use Rattle.exercise_review.specs.declared.course.Own.{Own}
+use Rattle.exercise_review.specs.declared.course.Course.{Course}
+use Rattle.exercise_review.specs.Life.{LifeSoFar, stretch_of}
+use Rattle.exercise_review.specs.Room.{lists_below}
+use Rattle.exercise_review.specs.Span.{made_at, changes_made, lived_by}
+
+-- THE CHANGES OF ALL STATIONS in the entries below n, each station's in their order
+pub record AreChanges (r : PlainRecording) (n : ℕ) (all : List (Vec Made Global)) : Type 0 where
+  pub count : length all ≡ length r.setting.stations
+  pub each : (s : ℕ) → IfSome (slice_get all s) (λ ms. ms.items ≡ lists_below (made_at r s) n)
+
+-- what is read past the end of a list of changes
+abbrev pub no_made : Made
+no_made = record { entry = 0; change = record { kind = kinds.CreateEntity; scope = One 0 } }
+
+-- the change at a place
+abbrev pub change_in : List Made → ℕ → Change
+change_in ms k = (slice_index_or ms k no_made).change
+
+-- a scope is entity e alone, or all entities
+abbrev pub is_one : ℕ → Scope → Bool
+is_one e (One n) = n == e
+is_one e All = false
+
+abbrev pub is_all : Scope → Bool
+is_all (One n) = false
+is_all All = true
+
+-- a change is one of entity e alone
+abbrev pub is_of : ℕ → Change → Bool
+is_of e c = is_one e c.scope
+
+-- it is one of all entities, and leaves those in state y in another
+abbrev pub moves_all : EntityState → Change → Bool
+moves_all y c = is_all c.scope && not (same_state (state_made c.kind y) y)
+
+-- b is where the first change from place a on stands that passes, or the end of the list where none does
+pub record IsNextIn (test : Change → Bool) (ms : List Made) (a b : ℕ) : Type 0 where
+  pub from : a ≤ b
+  pub within : b ≤ length ms
+  pub none : (i : ℕ) → a ≤ i → i < b → test (change_in ms i) ≡ false
+  pub passes : b < length ms → test (change_in ms b) ≡ true
+
+-- THE NEXT THAT PASSES, from each place on that is not before place a
+pub record AreNextIn (test : Change → Bool) (ms : List Made) (a : ℕ) (places : List ℕ) : Type 0 where
+  pub count : length places ≡ length ms + 1
+  pub each : (k : ℕ) → a ≤ k → k ≤ length ms → IsNextIn test ms k (slice_index_or places k 0)
+
+-- THE OWN CHANGES OF EACH ENTITY: the first from place a on, and from each of them the next
+pub record AreOwn (ms : List Made) (a : ℕ) (o : Own) : Type 0 where
+  pub numbers : length o.first.items ≡ 65536
+  pub count : length o.next.items ≡ length ms
+  pub first : (e : ℕ) → e < 65536 → IsNextIn (is_of e) ms a (slice_index_or o.first.items e 0)
+  pub next : (k : ℕ) → a ≤ k → k < length ms → (e : ℕ) → is_of e (change_in ms k) ≡ true → IsNextIn (is_of e) ms (k + 1) (slice_index_or o.next.items k 0)
+
+-- A COURSE over its changes: what comes next for each entity, of its own and of all
+pub record AreInOrder (c : Course) : Type 0 where
+  pub starts : length c.starts.items ≡ 65536
+  pub own : AreOwn c.changes.now 0 c.own
+  pub absent : AreNextIn (moves_all Absent) c.changes.now 0 c.absent.items
+  pub stopped : AreNextIn (moves_all Stopped) c.changes.now 0 c.stopped.items
+  pub running : AreNextIn (moves_all Running) c.changes.now 0 c.running.items
+
+-- THE COURSE OF STATION s: its changes, and the states that it opens with
+pub record IsCourse (r : PlainRecording) (s : ℕ) (c : Course) : Type 0 where
+  pub order : AreInOrder c
+  pub changes : c.changes.now ≡ changes_made r s
+  pub starts : (e : ℕ) → slice_index_or c.starts.items e Absent ≡ listed_state (station_at r s).opening e
+
+-- from place a up to place b no change moves entity e, which is in state y
+abbrev pub IsStill : ℕ → EntityState → List Made → ℕ → ℕ → Type 0
+IsStill e y ms a b = (i : ℕ) → a ≤ i → i < b → changed e y (change_in ms i) ≡ y
+
+-- b is as far as entity e, whose own next change this is, stays in state y
+pub record IsStayTo (e : ℕ) (y : EntityState) (ms : List Made) (own a b : ℕ) : Type 0 where
+  pub from : a ≤ b
+  pub to : b ≤ own
+  pub still : IsStill e y ms a b
+
+-- how entity e lived by a course
+abbrev pub lived_in : Course → ℕ → LifeSoFar
+lived_in c e = lived_by e (record { ended = []; state = slice_index_or c.starts.items e Absent; since = None }) c.changes.now
+
+abbrev pub lives_in : Course → ℕ → List Stretch
+lives_in c e = let l = lived_in c e in l.ended ++ stretch_of l None

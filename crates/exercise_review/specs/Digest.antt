@@ -1,0 +1,67 @@
+-- Digests of requests: what is the same order at one station has one digest (profile).
+use Rattle.std.specs.Prelude.{ℕ, ◌+◌, ◌-◌, ◌*◌, List, length, take, fold, slice_get, unwrap_or}
+use Rattle.std.specs.Hash.{u64}
+use Rattle.std.specs.Hash.DefaultHasher.{initial, write, finish}
+use Rattle.std.specs.declared.hash.DefaultHasher.{DefaultHasher}
+use Rattle.dis_records.specs.declared.datum.FixedDatum.{FixedDatum}
+use Rattle.dis_records.specs.declared.clock_time.ClockTime.{ClockTime}
+use Rattle.dis_records.specs.declared.entity.EntityId.{EntityId}
+use Rattle.dis_records.specs.Datum.{Datum}
+use Rattle.siman_pdus.specs.declared.pdu.Body.{Body}
+use Rattle.siman_pdus.specs.declared.pdu.Body.TheVariants as bodies
+use Rattle.siman_pdus.specs.declared.pdu.Pdu.{Pdu}
+use Rattle.siman_pdus.specs.DatumLists.{DatumLists, IdLists}
+use Rattle.siman_pdus.specs.Role.{request_id_of}
+
+-- ---- what a hasher is fed: words of 64 bits, each of two numbers of 32
+
+unfoldable pub fed : DefaultHasher → (high low : ℕ) → DefaultHasher
+fed h high low = fold write h (u64 (high * 0x100000000 + low))
+
+-- two numbers of 16 bits as one of 32
+abbrev pub both : (high low : ℕ) → ℕ
+both high low = high * 0x10000 + low
+
+abbrev pub time_fed : DefaultHasher → ClockTime → DefaultHasher
+time_fed h t = fed h t.hour t.past
+
+abbrev pub fixed_fed : DefaultHasher → FixedDatum → DefaultHasher
+fixed_fed h d = fed h d.id d.value
+
+-- the last byte of a value, if it has one
+abbrev pub last_of : Datum → ℕ
+last_of d = unwrap_or (slice_get d.bytes (length d.bytes - 1)) 0
+
+-- the bytes before it
+abbrev pub front_of : Datum → List ℕ
+front_of d = take (length d.bytes - 1) d.bytes
+
+abbrev pub variable_fed : DefaultHasher → Datum → DefaultHasher
+variable_fed h d = fed (write (fed h d.id d.bits) (front_of d)) 0 (last_of d)
+
+abbrev pub datums_fed : DefaultHasher → DatumLists → DefaultHasher
+datums_fed h d = fold variable_fed (fold fixed_fed (fed h (length d.fixed) (length d.variable)) d.fixed) d.variable
+
+abbrev pub id_fed : DefaultHasher → ℕ → DefaultHasher
+id_fed h id = fed h 0 id
+
+abbrev pub ids_fed : DefaultHasher → IdLists → DefaultHasher
+ids_fed h d = fold id_fed (fold id_fed (fed h (length d.fixed) (length d.variable)) d.fixed) d.variable
+
+-- what a request asks, but for its identifier
+abbrev pub body_fed : DefaultHasher → Body → DefaultHasher
+body_fed h (bodies.StartResume real sim request) = time_fed (time_fed h real) sim
+body_fed h (bodies.StopFreeze real reason behaviour request) = fed (time_fed h real) reason behaviour
+body_fed h (bodies.ActionRequest request action datums) = datums_fed (fed h 0 action) datums
+body_fed h (bodies.DataQuery request interval ids) = ids_fed (fed h 0 interval) ids
+body_fed h (bodies.SetData request datums) = datums_fed h datums
+body_fed h body = h
+
+-- who asks whom, at station s, under which identifier
+abbrev pub head_fed : (s : ℕ) → (origin target : EntityId) → (request : ℕ) → DefaultHasher
+head_fed s origin target request =
+    fed (fed (fed initial request (both s target.entity)) (both origin.site origin.application) (both target.site target.application)) 0 origin.entity
+
+-- THE DIGEST OF p AT STATION s: of all in which it is compared with others, but the version and the exercise
+unfoldable pub digest_of : (s : ℕ) → Pdu → ℕ
+digest_of s p = finish (body_fed (head_fed s p.origin p.target (unwrap_or (request_id_of p.body) 0)) p.body)

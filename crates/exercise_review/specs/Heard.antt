@@ -1,0 +1,48 @@
+-- Where each station received each datagram first and last (profile).
+use Rattle.std.specs.Prelude.{◌≡◌, ℕ, List, ◌∷◌, Bool, true, false, ◌&&◌, ◌==◌, bytes_eq, Option, option_map}
+use Rattle.std.specs.Option.{option_map_or}
+use Rattle.std.specs.Hash.{HashWrites, u16}
+use Rattle.std.specs.Cmp.Lexicographic.{bytes_decides}
+use Rattle.std.proofs.Common.{ap, ◌∙◌}
+use Rattle.std.proofs.lemmas.Bool.{and_parts, eqb-true}
+use Rattle.std.specs.declared.hash.BuildHasherDefault.{BuildHasherDefault}
+use Rattle.std.specs.declared.hash.DefaultHasher.{DefaultHasher}
+use Rattle.indexmap.specs.IndexMap.{IndexMap, get}
+use Rattle.exercise_model.specs.Recording.{PlainRecording}
+use Rattle.exercise_model.specs.Place.{first_below}
+use Rattle.exercise_review.specs.declared.receipt.Receipt.{Receipt}
+use Rattle.exercise_review.specs.declared.receipt.Receipts.{Receipts}
+use Rattle.exercise_review.specs.Counted.{last_below}
+use Rattle.exercise_review.specs.Entries.{bytes_got}
+
+-- station s receives these bytes at entry i
+unfoldable pub gets_in : PlainRecording → ℕ → List ℕ → ℕ → Bool
+gets_in r s b i = option_map_or (bytes_eq b) (bytes_got r s i) false
+
+-- the same station, and the same bytes
+abbrev pub same_receipt : Receipt → Receipt → Bool
+same_receipt x y = (x.station == y.station) && bytes_eq x.bytes.now y.bytes.now
+
+-- what a hasher is fed of a receipt
+abbrev pub receipt_fed : Receipt → HashWrites
+receipt_fed x = x.bytes.now ∷ u16 x.station
+
+-- the same receipt is fed alike
+pub receipts_alike : (x y : Receipt) → same_receipt x y ≡ true → receipt_fed x ≡ receipt_fed y
+receipts_alike x y same =
+    let parts = and_parts (x.station == y.station) _ same in
+    ap (λ (b : List ℕ). b ∷ u16 x.station) ((bytes_decides x.bytes.now y.bytes.now).0 parts.1)
+    ∙ ap (λ (s : ℕ). y.bytes.now ∷ u16 s) (eqb-true x.station y.station parts.0)
+
+-- the first entry of what was kept, or this one
+abbrev pub first_kept : ℕ → Option Receipts → ℕ
+first_kept entry kept = option_map_or (λ (x : Receipts). x.first) kept entry
+
+-- what notes where they were received
+abbrev pub Heard : Type 0
+Heard = IndexMap Receipt Receipts (BuildHasherDefault DefaultHasher)
+
+-- THE TIE: of the entries below n at which a station receives the same bytes, the first and the last
+pub record AreHeard (r : PlainRecording) (n : ℕ) (heard : Heard) : Type 0 where
+  pub first : (k : Receipt) → option_map (λ (x : Receipts). x.first) (get same_receipt heard k) ≡ first_below (gets_in r k.station k.bytes.now) n
+  pub last : (k : Receipt) → option_map (λ (x : Receipts). x.last) (get same_receipt heard k) ≡ last_below (gets_in r k.station k.bytes.now) n

@@ -1,0 +1,157 @@
+//! Digests of requests: numbers that are the same for what is the same order at one station. Strangers
+//! choose what requests say, so the hasher is one for which nobody writes down many that fall
+//! together.
+
+ghost use Rattle.std.specs.Prelude.{◌≡◌, ◌-◌, fold, length, take, map};
+ghost use Rattle.std.specs.Hash.DefaultHasher.{write, initial};
+ghost use Rattle.dis_records.specs.Datum.{canonical};
+ghost use Rattle.dis_records.specs.Records.{shown};
+ghost use Rattle.siman_pdus.specs.Reading.{pdu_of, body_of, datums_of, ids_of};
+ghost use Rattle.exercise_review.specs.Digest.{fed, both, time_fed, fixed_fed, variable_fed, datums_fed, id_fed, ids_fed, body_fed, head_fed, digest_of};
+
+use dis_records::records::{DatumIdRecords, FixedRecords, VariableRecords};
+use dis_records::{ClockTime, DatumsView, EntityId, IdsView, VariableView};
+use siman_pdus::{BodyView, PduView, request_id};
+use std::hash::{DefaultHasher, Hasher};
+
+/// Two numbers of 16 bits as one.
+fn both(high: u16, low: u16) -> u32
+    ensures { result ≡ both high low }
+{
+    u32::from(high) * 0x1_0000 + u32::from(low)
+}
+
+/// Feeds two numbers of 32 bits as one word.
+#[tactic(auto, unfolding(crate::specs::Digest::fed))]
+fn feed(hasher: &mut DefaultHasher, high: u32, low: u32)
+    ensures { hasher.new ≡ fed hasher.old high low }
+{
+    hasher.write_u64(u64::from(high) * 0x1_0000_0000 + u64::from(low));
+}
+
+/// Feeds a time.
+fn feed_time(hasher: &mut DefaultHasher, time: ClockTime)
+    ensures { hasher.new ≡ time_fed hasher.old time }
+{
+    feed(hasher, time.hour, time.past);
+}
+
+/// Feeds fixed datums.
+fn feed_fixed(hasher: &mut DefaultHasher, datums: FixedRecords<'_>)
+    ensures { hasher.new ≡ fold fixed_fed hasher.old datums.entry }
+{
+    for datum in datums {
+        feed(hasher, datum.id, datum.value);
+    }
+}
+
+/// Feeds identifiers of datums.
+fn feed_ids(hasher: &mut DefaultHasher, ids: DatumIdRecords<'_>)
+    ensures { hasher.new ≡ fold id_fed hasher.old ids.entry }
+{
+    for id in ids {
+        feed(hasher, 0, id);
+    }
+}
+
+/// Feeds a variable datum, its unused bits and its padding aside.
+#[tactic(auto, using(crate::proofs::Digests::front_stands, crate::proofs::Digests::last_stands))]
+fn feed_record(hasher: &mut DefaultHasher, datum: VariableView<'_>)
+    ensures { hasher.new ≡ variable_fed hasher.old (canonical (shown datum.entry)) }
+{
+    feed(hasher, datum.id, datum.bits);
+    hasher.write(&datum.bytes[..datum.bytes.len().saturating_sub(1)]);
+    let last = match datum.last() {
+        Some(last) => last,
+        None => 0,
+    };
+    feed(hasher, 0, u32::from(last));
+}
+
+/// Feeds variable datums.
+fn feed_variable(hasher: &mut DefaultHasher, datums: VariableRecords<'_>)
+    ensures { hasher.new ≡ fold variable_fed hasher.old (map canonical datums.entry) }
+{
+    for datum in datums {
+        feed_record(hasher, datum);
+    }
+}
+
+/// Feeds the datums of a body.
+fn feed_datums(hasher: &mut DefaultHasher, datums: &DatumsView<'_>)
+    ensures { hasher.new ≡ datums_fed hasher.old (datums_of datums.now) }
+{
+    feed(hasher, datums.fixed_count(), datums.variable_count());
+    feed_fixed(hasher, datums.fixed());
+    feed_variable(hasher, datums.variable());
+}
+
+/// Feeds the identifiers of a query.
+fn feed_query(hasher: &mut DefaultHasher, ids: &IdsView<'_>)
+    ensures { hasher.new ≡ ids_fed hasher.old (ids_of ids.now) }
+{
+    feed(hasher, ids.fixed_count(), ids.variable_count());
+    feed_ids(hasher, ids.fixed());
+    feed_ids(hasher, ids.variable());
+}
+
+/// Feeds what a request asks, but for its identifier.
+fn feed_body(hasher: &mut DefaultHasher, body: &BodyView<'_>)
+    ensures { hasher.new ≡ body_fed hasher.old (body_of body.now) }
+{
+    match body {
+        BodyView::StartResume { real, sim, .. } => {
+            feed_time(hasher, *real);
+            feed_time(hasher, *sim);
+        }
+        BodyView::StopFreeze {
+            real,
+            reason,
+            behaviour,
+            ..
+        } => {
+            feed_time(hasher, *real);
+            feed(hasher, u32::from(*reason), u32::from(*behaviour));
+        }
+        BodyView::ActionRequest { action, datums, .. } => {
+            feed(hasher, 0, *action);
+            feed_datums(hasher, datums);
+        }
+        BodyView::DataQuery { interval, ids, .. } => {
+            feed(hasher, 0, *interval);
+            feed_query(hasher, ids);
+        }
+        BodyView::SetData { datums, .. } => feed_datums(hasher, datums),
+        _ => {}
+    }
+}
+
+/// What is fed of who asks whom, at a station, under which identifier.
+fn head_fed(station: u16, origin: EntityId, target: EntityId, request: u32) -> DefaultHasher
+    ensures { result ≡ head_fed station origin target request }
+{
+    let mut hasher = DefaultHasher::new();
+    feed(&mut hasher, request, both(station, target.entity));
+    feed(
+        &mut hasher,
+        both(origin.site, origin.application),
+        both(target.site, target.application),
+    );
+    feed(&mut hasher, 0, u32::from(origin.entity));
+    hasher
+}
+
+/// The digest of a PDU at a station: of all in which it is compared with others, but the version and
+/// the exercise.
+#[tactic(auto, unfolding(crate::specs::Digest::digest_of))]
+pub(crate) fn digest_of(station: u16, pdu: &PduView<'_>) -> u64
+    ensures { result ≡ digest_of station (pdu_of pdu.now) }
+{
+    let request = match request_id(pdu) {
+        Some(request) => request,
+        None => 0,
+    };
+    let mut hasher = head_fed(station, pdu.origin, pdu.target, request);
+    feed_body(&mut hasher, &pdu.body);
+    hasher.finish()
+}

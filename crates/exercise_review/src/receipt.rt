@@ -1,0 +1,113 @@
+//! Where each station received each datagram first and last, kept in a table under its bytes.
+
+ghost use Rattle.std.specs.Prelude.{◌≡◌, ◌<◌, ◌+◌, ◌==◌, ◌&&◌, length, None, IfOk, OnOk, bytes_eq, Some, if◌then◌else◌};
+ghost use Rattle.std.specs.Cmp.Rules.{comparing, hashing};
+ghost use Rattle.indexmap.specs.IndexMap.{get};
+ghost use Rattle.exercise_review.specs.declared.receipt.Receipt.{Receipt};
+ghost use Rattle.exercise_review.specs.Heard.{same_receipt, receipt_fed, receipts_alike, first_kept, AreHeard};
+ghost use borrow.Author.Rules.{rules};
+
+use exercise_model::{EntryView, ExerciseLog};
+use indexmap::IndexMap;
+use std::alloc::{AllocError, Global};
+use std::hash::{BuildHasherDefault, DefaultHasher, Hash, Hasher};
+
+/// A station and the bytes of a datagram where they lie, as a key.
+#[derive(Clone, Copy)]
+pub(crate) struct Receipt<'a> {
+    pub station: u16,
+    pub bytes: &'a [u8],
+}
+
+impl<'a> PartialEq for Receipt<'a> {
+    ghost eq = { λ x y. (x.station == y.station) && bytes_eq x.bytes.now y.bytes.now };
+
+    ghost laws = { Prim.search (comparing, rules) };
+
+    fn eq(&self, other: &Receipt<'a>) -> bool {
+        self.station == other.station && self.bytes == other.bytes
+    }
+}
+
+impl<'a> Eq for Receipt<'a> {
+    ghost laws = { Prim.search (comparing, rules) };
+}
+
+impl<'a> Hash for Receipt<'a> {
+    ghost hash_input = { receipt_fed };
+
+    ghost respects_eq = { receipts_alike };
+
+    fn hash<H: Hasher>(&self, state: &mut H) {
+        state.write(self.bytes);
+        state.write_u16(self.station);
+    }
+}
+
+/// The first and the last entry at which a station received a datagram.
+#[derive(Clone, Copy)]
+pub(crate) struct Receipts {
+    pub first: usize,
+    pub last: usize,
+}
+
+/// The receipts of each datagram at each station. Strangers choose the bytes, so the hasher is one for
+/// which nobody writes down keys that fall together.
+pub(crate) type Heard<'a> = IndexMap<Receipt<'a>, Receipts, BuildHasherDefault<DefaultHasher>>;
+
+/// No receipts. It takes no memory.
+fn no_receipts<'a>(alloc: Global) -> Heard<'a>
+    ensures { (k : Receipt) → get same_receipt result k ≡ None }
+{
+    Heard::with_hasher(alloc, BuildHasherDefault::default())
+}
+
+/// Keeps one more receipt.
+fn keep_receipt<'a>(
+    heard: &mut Heard<'a>,
+    receipt: Receipt<'a>,
+    entry: usize,
+) -> Result<(), AllocError>
+    ensures { OnOk result ((k : Receipt) → get same_receipt heard.new k ≡ (if same_receipt receipt.entry k then Some (record { first = first_kept entry (get same_receipt heard.old receipt.entry); last = entry }) else get same_receipt heard.old k)) }
+{
+    let first = match heard.get(&receipt) {
+        Some(kept) => kept.first,
+        None => entry,
+    };
+    heard.insert(receipt, Receipts { first, last: entry })?;
+    Ok(())
+}
+
+/// Keeps the next entry, where it receives something.
+fn note_receipt<'a, L: ExerciseLog>(
+    heard: &mut Heard<'a>,
+    log: &'a L,
+    entry: usize,
+) -> Result<(), AllocError>
+    requires within { entry < length (L.recording log.now).entries }
+    requires tied { AreHeard (L.recording log.now) entry heard.old }
+    ensures { OnOk result (AreHeard (L.recording log.now) (entry + 1) heard.new) }
+{
+    match log.entry(entry) {
+        EntryView::Received { station, bytes, .. } => {
+            keep_receipt(heard, Receipt { station, bytes }, entry)?;
+            Ok(())
+        }
+        EntryView::Sent { .. } => Ok(()),
+        EntryView::Told { .. } => Ok(()),
+    }
+}
+
+/// Where each station of a log received each datagram first and last. What is kept takes memory.
+pub(crate) fn heard_in<'a, L: ExerciseLog>(
+    alloc: Global,
+    log: &'a L,
+) -> Result<Heard<'a>, AllocError>
+    ensures { IfOk result (AreHeard (L.recording log.now) (length (L.recording log.now).entries)) }
+{
+    let mut heard = no_receipts(alloc);
+    for entry in 0..log.entry_count() {
+        note_receipt(&mut heard, log, entry)?;
+    }
+    Ok(heard)
+}

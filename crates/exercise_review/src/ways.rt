@@ -1,0 +1,145 @@
+//! Entries by their keys: from the last under each key a way leads back to the first.
+
+ghost use Rattle.std.specs.Prelude.{◌≡◌, ◌<◌, ℕ, ◌+◌, true, nat_eq, None, Some, IfOk, OnOk, IfSome};
+ghost use Rattle.indexmap.specs.IndexMap.{get};
+ghost use Rattle.siman_pdus.specs.Answers.{same_id};
+ghost use Rattle.exercise_model.specs.Place.{first_below};
+ghost use Rattle.exercise_review.specs.Register.{holds, AreRegistered};
+ghost use Rattle.exercise_review.specs.Counted.{last_below};
+
+use crate::question::{Question, first_below};
+use indexmap::IndexMap;
+use std::alloc::{AllocError, Global};
+use std::hash::{BuildHasherDefault, DefaultHasher};
+
+/// The last entry under each key. Strangers choose what entries say, so the hasher is one for which
+/// nobody writes down keys that fall together.
+pub(crate) type LastEntries = IndexMap<u64, usize, BuildHasherDefault<DefaultHasher>>;
+
+/// The last entry under each key, and for each entry the one before it under its key.
+#[derive(Drop)]
+pub(crate) struct Ways {
+    pub last: LastEntries,
+    pub before: Vec<Option<usize>>,
+}
+
+/// The keys of entries. What it means is one function; no call takes memory.
+pub(crate) trait Keying {
+    ghost use Rattle.std.specs.Prelude.{◌≡◌, ℕ, Option};
+
+    /// The key of each entry.
+    ghost keys: { Self → ℕ → Option ℕ };
+
+    /// The key of an entry.
+    fn key(&self, entry: usize) -> Option<u64>
+        ensures { result ≡ keys self.now entry };
+}
+
+/// No entries. It takes no memory.
+fn no_entries(alloc: Global) -> LastEntries
+    ensures { (key : ℕ) → get nat_eq result key ≡ None }
+{
+    LastEntries::with_hasher(alloc, BuildHasherDefault::default())
+}
+
+/// Keeps the next entry.
+fn note_entry<K: Keying>(
+    last: &mut LastEntries,
+    before: &mut Vec<Option<usize>>,
+    keying: &K,
+    entry: usize,
+) -> Result<(), AllocError>
+    requires { AreRegistered (K.keys keying.now) entry last.old before.old.items }
+    ensures { OnOk result (AreRegistered (K.keys keying.now) (entry + 1) last.new before.new.items) }
+{
+    let earlier = match keying.key(entry) {
+        Some(key) => last.insert(key, entry)?,
+        None => None,
+    };
+    before.push(earlier)?;
+    Ok(())
+}
+
+/// The entries below an end by their keys. What is kept takes memory.
+pub(crate) fn ways_of<K: Keying>(alloc: Global, keying: &K, end: usize) -> Result<Ways, AllocError>
+    ensures { IfOk result (λ ways. AreRegistered (K.keys keying.now) end ways.last ways.before.items) }
+{
+    let mut last = no_entries(alloc);
+    let mut before = Vec::with_capacity(alloc, end)?;
+    for entry in 0..end {
+        note_entry(&mut last, &mut before, keying, entry)?;
+    }
+    Ok(Ways { last, before })
+}
+
+/// The entry before one under their key.
+fn before<K: Keying>(ways: &Ways, keying: &K, end: usize, key: u64, entry: usize) -> Option<usize>
+    requires within { entry < end }
+    requires tied { AreRegistered (K.keys keying.now) end ways.now.last ways.now.before.items }
+    requires key { holds (K.keys keying.now) key entry ≡ true }
+    ensures { result ≡ last_below (holds (K.keys keying.now) key) entry }
+{
+    ways.before[entry]
+}
+
+/// Whether an entry that passes is the first, where all that pass have this key: only those between
+/// it and the one before it that passes are asked.
+fn is_first_under<K: Keying, Q: Question>(
+    ways: &Ways,
+    keying: &K,
+    end: usize,
+    question: &Q,
+    key: u64,
+    entry: usize,
+) -> bool
+    requires within { entry < end }
+    requires tied { AreRegistered (K.keys keying.now) end ways.now.last ways.now.before.items }
+    requires passes { Q.test question.now entry ≡ true }
+    requires under { (i : ℕ) → Q.test question.now i ≡ true → holds (K.keys keying.now) key i ≡ true }
+    ensures { result ≡ same_id (first_below (Q.test question.now) end) (Some entry) }
+{
+    let mut next = before(ways, keying, end, key, entry);
+    while let Some(at) = next {
+        if question.passes(at) {
+            return false;
+        }
+        next = before(ways, keying, end, key, at);
+    }
+    true
+}
+
+/// Whether an entry is the first that passes, where all that pass have its key if it passes.
+#[tactic(auto, using(crate::proofs::FirstOnes::fails_itself, crate::proofs::FirstOnes::none_before))]
+pub(crate) fn is_first<K: Keying, Q: Question>(
+    ways: &Ways,
+    keying: &K,
+    end: usize,
+    question: &Q,
+    entry: usize,
+) -> bool
+    requires within { entry < end }
+    requires tied { AreRegistered (K.keys keying.now) end ways.now.last ways.now.before.items }
+    requires under { Q.test question.now entry ≡ true → IfSome (K.keys keying.now entry) (λ k. (i : ℕ) → Q.test question.now i ≡ true → holds (K.keys keying.now) k i ≡ true) }
+    ensures { result ≡ same_id (first_below (Q.test question.now) end) (Some entry) }
+{
+    if !question.passes(entry) {
+        return false;
+    }
+    match keying.key(entry) {
+        Some(key) => is_first_under(ways, keying, end, question, key, entry),
+        None => is_first_of_all(question, end, entry),
+    }
+}
+
+/// Whether an entry that passes is the first.
+#[tactic(auto, using(crate::proofs::FirstOnes::none_or_not, crate::proofs::FirstOnes::none_before))]
+fn is_first_of_all<Q: Question>(question: &Q, end: usize, entry: usize) -> bool
+    requires within { entry < end }
+    requires passes { Q.test question.now entry ≡ true }
+    ensures { result ≡ same_id (first_below (Q.test question.now) end) (Some entry) }
+{
+    match first_below(question, entry) {
+        Some(_) => false,
+        None => true,
+    }
+}

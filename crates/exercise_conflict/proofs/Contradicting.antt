@@ -12,7 +12,7 @@ use Rattle.siman_pdus.specs.Answers.{is_answer_to}
 use Rattle.dis_records.specs.declared.entity_state.EntityState.{EntityState}
 use Rattle.exercise_model.specs.declared.acknowledge.AcknowledgeKey.{AcknowledgeKey}
 use Rattle.exercise_model.specs.declared.cause.Cause.{Cause}
-use Rattle.exercise_model.specs.declared.cause.Cause.TheVariants.{ReusedIdentifier, WrongAnswer, ChangedAnswer, Stranger, NeverSent, WrongState}
+use Rattle.exercise_model.specs.declared.cause.Cause.TheVariants.{ReusedIdentifier, WrongAnswer, ChangedAnswer, Impossible, Stranger, NeverSent, WrongState}
 use Rattle.exercise_model.specs.Entry.{Entry, Sent, Received, Told}
 use Rattle.exercise_model.specs.Recording.{PlainRecording}
 use Rattle.exercise_model.specs.Setting.{is_recorded, may_be_heard}
@@ -124,24 +124,25 @@ changed_rows a b c d e f one two three four five =
     ap (λ x. chain x b c d e f) one ∙ ap (λ x. chain false x c d e f) two ∙ ap (λ x. chain false false x d e f) three ∙ ap (λ x. chain false false false x e f) four
     ∙ ap (λ x. chain false false false false x f) five
 
-both : (b c : Bool) → (b && c) ≡ true → (b ≡ true) × (c ≡ true)
+pub both : (b c : Bool) → (b && c) ≡ true → (b ≡ true) × (c ≡ true)
 both true c e = (refl, e)
 both false c e = absurd (cc)
 
-off : (b c : Bool) → b ≡ true → (b && c) ≡ false → c ≡ false
+pub off : (b c : Bool) → b ≡ true → (b && c) ≡ false → c ≡ false
 off true c is e = e
 off false c is e = absurd (cc)
 
 -- ---- what an entry of a sent cause is
 
 -- a cause against what a station sends, and never one of a datagram that is received or of a state that is told
-abbrev is_sent_cause : Cause → Bool
+abbrev pub is_sent_cause : Cause → Bool
 is_sent_cause ReusedIdentifier = true
 is_sent_cause WrongAnswer = true
 is_sent_cause ChangedAnswer = true
+is_sent_cause Impossible = true
 is_sent_cause cause = false
 
-record SentFor (r : PlainRecording) (j : ℕ) (cause : Cause) : Type 0 where
+pub record SentFor (r : PlainRecording) (j : ℕ) (cause : Cause) : Type 0 where
   pub station : ℕ
   pub pdu : Pdu
   pub sent : IsSentAt r j station pdu
@@ -164,7 +165,7 @@ told_other y z cause is sent =
       | false ↦ λ is. absurd (cc (ap is_sent_cause (same_Some WrongState cause is) ∙ sent))
     ] is
 
-sent_for : (r : PlainRecording) (j : ℕ) (cause : Cause) → own_cause r j ≡ Some cause → is_sent_cause cause ≡ true → SentFor r j cause
+pub sent_for : (r : PlainRecording) (j : ℕ) (cause : Cause) → own_cause r j ≡ Some cause → is_sent_cause cause ≡ true → SentFor r j cause
 unfolding cause_of
 sent_for r j cause own is_sent = let at = accused r j cause own in of_entry at.entry at.at at.is
   where
@@ -183,7 +184,7 @@ sent_for r j cause own is_sent = let at = accused r j cause own in of_entry at.e
         ] e
     of_entry (Told s n y) at e = absurd (told_other y (state_after r.setting.exercise (station_at r s) (log_before r s j) n) cause e is_sent)
 
-earlier_is : (r : PlainRecording) (j : ℕ) (cause : Cause) (k : ℕ) → (for : SentFor r j cause) → earlier_sent r j for.station cause for.pdu ≡ Some k
+pub earlier_is : (r : PlainRecording) (j : ℕ) (cause : Cause) (k : ℕ) → (for : SentFor r j cause) → earlier_sent r j for.station cause for.pdu ≡ Some k
     → earlier_of r j ≡ Some k
 unfolding earlier_of
 earlier_is r j cause k for is =
@@ -291,7 +292,7 @@ by_entry r s p (suc n) =
     ] refl
 
 -- the request that p takes up, its entry and its event
-record TakesUp (r : PlainRecording) (s j : ℕ) (p : Pdu) : Type 0 where
+pub record TakesUp (r : PlainRecording) (s j : ℕ) (p : Pdu) : Type 0 where
   pub request : Pdu
   pub is : request_taken_up r.setting.exercise (station_at r s).address p (log_before r s j) ≡ Some request
   pub entry : ℕ
@@ -301,7 +302,7 @@ record TakesUp (r : PlainRecording) (s j : ℕ) (p : Pdu) : Type 0 where
   pub own : own_event r s entry ≡ Some event
   pub brings : request_brought r.setting.exercise (station_at r s).address p event ≡ Some request
 
-takes_up : (r : PlainRecording) (s j : ℕ) (p : Pdu) → is_none (request_taken_up r.setting.exercise (station_at r s).address p (log_before r s j)) ≡ false → TakesUp r s j p
+pub takes_up : (r : PlainRecording) (s j : ℕ) (p : Pdu) → is_none (request_taken_up r.setting.exercise (station_at r s).address p (log_before r s j)) ≡ false → TakesUp r s j p
 unfolding brought entry_taken_up
 takes_up r s j p some =
     elim (request_taken_up r.setting.exercise (station_at r s).address p (log_before r s j)) as

@@ -92,7 +92,7 @@ none_passes test (suc n) i none within passes =
           (cases_lt i n)
     ] refl none
 
-unsent_there : (r : PlainRecording) (b : List ℕ) (t : ℕ) → first_send r b t ≡ None → HasSend r t b → ⊥
+pub unsent_there : (r : PlainRecording) (b : List ℕ) (t : ℕ) → first_send r b t ≡ None → HasSend r t b → ⊥
 unfolding first_send
 unsent_there r b t none sent =
     let found = in_log r t (length r.entries) sent.0 (Send t b) sent.1.0 (sent.1.1 ∙ sym (log_before-all r t)) in

@@ -13,3 +13,6 @@ mod Ways
 mod Contradicting
 mod Steps
 mod Entities
+mod Asking
+mod Opposing
+mod Tables

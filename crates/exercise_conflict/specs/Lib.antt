@@ -6,3 +6,8 @@ pub mod Cycles
 pub mod Also
 pub mod Earlier
 pub mod Since
+pub mod Difference
+pub mod FieldText
+pub mod Clash
+pub mod Conflict
+pub mod Lacks

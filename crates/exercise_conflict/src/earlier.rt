@@ -14,7 +14,7 @@ use siman_pdus::{ABLE, PduView, UNABLE, is_request, is_under_identifier, same_or
 
 /// What a station sends at an entry, if it sends something that is not "other".
 #[tactic(auto, unfolding(exercise_model::specs::Place::own_event, crate::specs::Earlier::sent_pdu))]
-fn sent_pdu<'a, L: ExerciseLog>(
+pub(crate) fn sent_pdu<'a, L: ExerciseLog>(
     findings: &Findings<'a, L>,
     station: u16,
     entry: usize,
@@ -99,7 +99,7 @@ fn is_opposite_to(pdu: &PduView<'_>, other: &PduView<'_>) -> bool
 }
 
 /// The entry of the request that an answer takes up.
-fn pair_of<L: ExerciseLog>(findings: &Findings<'_, L>, entry: usize) -> Option<usize>
+pub(crate) fn pair_of<L: ExerciseLog>(findings: &Findings<'_, L>, entry: usize) -> Option<usize>
     ensures { result ≡ pair_of findings.now entry }
 {
     match findings.pair(entry) {
@@ -109,7 +109,7 @@ fn pair_of<L: ExerciseLog>(findings: &Findings<'_, L>, entry: usize) -> Option<u
 }
 
 /// What a PDU that a station sends at an entry contradicts, for this cause against it.
-fn earlier_sent<L: ExerciseLog>(
+pub(crate) fn earlier_sent<L: ExerciseLog>(
     findings: &Findings<'_, L>,
     station: u16,
     entry: usize,

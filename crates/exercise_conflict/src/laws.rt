@@ -3,7 +3,7 @@
 
 ghost use Rattle.std.specs.Prelude.{◌≡◌, ◌≢◌, ◌⊎◌, ◌<◌, length, ℕ, List, true, Some, None, slice_get};
 ghost use Rattle.exercise_model.specs.declared.cause.Cause.{Cause};
-ghost use Rattle.exercise_model.specs.declared.cause.Cause.TheVariants.{ReusedIdentifier, WrongAnswer, ChangedAnswer, NeverSent};
+ghost use Rattle.exercise_model.specs.declared.cause.Cause.TheVariants.{ReusedIdentifier, WrongAnswer, ChangedAnswer, Impossible, NeverSent, WrongState};
 ghost use Rattle.exercise_model.specs.Recording.{PlainRecording, IsRecording};
 ghost use Rattle.exercise_model.specs.History.{History};
 ghost use Rattle.exercise_model.specs.Run.{Explains};
@@ -19,6 +19,7 @@ ghost use Rattle.exercise_conflict.specs.Needed.{IsNeeded};
 ghost use Rattle.exercise_conflict.specs.declared.waits.Wait.{Wait};
 ghost use Rattle.exercise_conflict.specs.Waits.{waits_of, Leads};
 ghost use Rattle.exercise_conflict.specs.Earlier.{earlier_of, Contradicts, ContradictsAnswer};
+ghost use Rattle.exercise_conflict.specs.Conflict.{ClashesByOrder, ClashesByAnswer, ClashesByOpposite, ClashesByChange, ClashesByState, ClashesBySend};
 ghost use Rattle.exercise_conflict.specs.Since.{made_since, HasOneState, Made};
 ghost use Rattle.exercise_conflict.specs.Cycles.{cycle_at, AreWaits, EndsAt, IsTold};
 
@@ -95,4 +96,18 @@ pub fn earlier_is_the_conflict()
 pub fn states_are_made()
     ensures made { (r : PlainRecording) (s e n k : ℕ) → made_since r s e n ≡ Some k → Made r s e n k }
     ensures start { (r : PlainRecording) (s e n : ℕ) → made_since r s e n ≡ None → HasOneState r s e 0 n }
+{}
+
+/// The law of clashes: what an entry is said to contradict is what contradicts it. After the earlier
+/// entry that is told alone, of a changed answer with the request that it takes up before it, the entry
+/// has its cause (`order`, `answer`, `opposite`). An entity has the state that is told, and the change
+/// that is told made it: nothing after that changed it (`change`, `state`). Where no source of a
+/// datagram is told, the log of its sender has no send of it (`send`).
+pub fn clashes_are_the_conflict()
+    ensures order { (r : PlainRecording) (j : ℕ) → own_cause r j ≡ Some ReusedIdentifier → ClashesByOrder r j }
+    ensures answer { (r : PlainRecording) (j : ℕ) → own_cause r j ≡ Some WrongAnswer → ClashesByAnswer r j }
+    ensures opposite { (r : PlainRecording) (j : ℕ) → own_cause r j ≡ Some ChangedAnswer → ClashesByOpposite r j }
+    ensures change { (r : PlainRecording) (j : ℕ) → own_cause r j ≡ Some Impossible → ClashesByChange r j }
+    ensures state { (r : PlainRecording) (j : ℕ) → own_cause r j ≡ Some WrongState → ClashesByState r j }
+    ensures send { (r : PlainRecording) (j : ℕ) → own_cause r j ≡ Some NeverSent → ClashesBySend r j }
 {}

@@ -8,27 +8,44 @@
 //! a recording that has one ([`own_causes_stand`]), no further send mends it ([`own_causes_stay`]), and
 //! nothing at all one of four kinds ([`final_is_final`]). [`earlier_of`] is the earlier entry that an entry
 //! contradicts, and [`made_since`] the change that made the state of an entity; [`earlier_is_the_conflict`]
-//! and [`states_are_made`] are their laws. [`missing_is_needed`] says that each run of a
-//! wider recording has the sends that `missing_at` of `exercise_review` tells. [`fault_of`] says whether
-//! some run explains the recording of a certificate that is not good.
+//! and [`states_are_made`] are their laws. [`clash_of`] is the other side of each cause, with the first
+//! thing in which two PDUs differ ([`order_difference`], [`pdu_difference`]), and
+//! [`clashes_are_the_conflict`] its law. [`lacks_of`] is all that the logs lack, in one pass;
+//! [`missing_is_needed`] says that each run of a wider recording has these sends. [`fault_of`] says
+//! whether some run explains the recording of a certificate that is not good.
 #![tactic(auto)]
 
 mod also;
+mod asks;
+mod clash;
+mod clashing;
 mod cycles;
+mod difference;
 mod earlier;
 mod fault;
+mod field;
+mod lacks;
 mod laws;
+mod near;
 mod question;
+mod receipts;
 mod since;
+mod unasked;
 mod waits;
 
 pub use also::{also_at, standing_cause};
+pub use clash::{Clash, Unfit};
+pub use clashing::clash_of;
 pub use cycles::cycle_at;
+pub use difference::{order_difference, pdu_difference};
 pub use earlier::earlier_of;
 pub use fault::{Fault, fault_of};
+pub use field::Field;
+pub use lacks::{Lack, lacks_of};
 pub use laws::{
-    cycles_block, earlier_is_the_conflict, final_is_final, missing_is_needed, own_causes_stand,
-    own_causes_stay, states_are_made, ways_are_blocked, ways_end,
+    clashes_are_the_conflict, cycles_block, earlier_is_the_conflict, final_is_final,
+    missing_is_needed, own_causes_stand, own_causes_stay, states_are_made, ways_are_blocked,
+    ways_end,
 };
 pub use since::made_since;
 pub use waits::{Wait, wait_of, waits_of};

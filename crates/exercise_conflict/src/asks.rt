@@ -1,0 +1,144 @@
+//! Where each request was received first, kept in a table.
+
+ghost use Rattle.std.specs.Prelude.{◌≡◌, ◌+◌, length, None, IfOk, OnOk};
+ghost use Rattle.indexmap.specs.IndexMap.{get};
+ghost use Rattle.siman_pdus.specs.Reading.{pdu_of};
+ghost use Rattle.exercise_review.specs.Missing.{place_of};
+ghost use Rattle.exercise_conflict.specs.declared.asks.Ask.{Ask};
+ghost use Rattle.exercise_conflict.specs.Lacks.{same_ask, ask_of, ask_at, AreAsks};
+
+use crate::receipts::{Table, keep_first};
+use dis_records::{Address, addressed};
+use exercise_findings::Findings;
+use exercise_model::{EntryView, ExerciseLog, is_answer, meaning_view};
+use siman_pdus::{PduView, is_request, request_id};
+use std::alloc::{AllocError, Global};
+use std::hash::BuildHasherDefault;
+
+/// What a request is looked up by that a station received.
+#[derive(Clone, Copy, PartialEq, Eq, Hash)]
+pub(crate) struct Ask {
+    /// The station, from 0.
+    pub station: u16,
+    /// The request identifier.
+    pub request: u32,
+    /// The site that the request comes from.
+    pub site: u16,
+    /// The application that it comes from.
+    pub application: u16,
+}
+
+/// The entry by which each request was received first.
+pub(crate) type Asks = Table<Ask, usize>;
+
+/// No requests. It takes no memory.
+fn no_asks(alloc: Global) -> Asks
+    ensures { (k : Ask) → get same_ask result k ≡ None }
+{
+    Asks::with_hasher(alloc, BuildHasherDefault::default())
+}
+
+/// What a PDU is looked up by that the station at an address receives, where it is a request to it.
+fn ask_of(station: u16, address: Address, pdu: &PduView<'_>) -> Option<Ask>
+    ensures { result ≡ ask_of station address (pdu_of pdu.now) }
+{
+    if !is_request(pdu) || !addressed(pdu.target, address) {
+        return None;
+    }
+    match request_id(pdu) {
+        Some(request) => Some(Ask {
+            station,
+            request,
+            site: pdu.origin.site,
+            application: pdu.origin.application,
+        }),
+        None => None,
+    }
+}
+
+/// What an entry is looked up by.
+#[tactic(auto, unfolding(crate::specs::Lacks::ask_at))]
+fn ask_at<L: ExerciseLog>(findings: &Findings<'_, L>, entry: usize) -> Option<Ask>
+    ensures { result ≡ ask_at findings.now entry }
+{
+    let log = findings.log();
+    if entry >= log.entry_count() {
+        return None;
+    }
+    match log.entry(entry) {
+        EntryView::Received { station, bytes, .. } => {
+            match meaning_view(log.exercise(), bytes) {
+                Some(pdu) => ask_of(station, log.station(usize::from(station)).address(), &pdu),
+                None => None,
+            }
+        }
+        EntryView::Sent { .. } | EntryView::Told { .. } => None,
+    }
+}
+
+/// Keeps the next entry.
+fn note_ask<L: ExerciseLog>(
+    asks: &mut Asks,
+    findings: &Findings<'_, L>,
+    entry: usize,
+) -> Result<(), AllocError>
+    requires { AreAsks findings.now entry asks.old }
+    ensures { OnOk result (AreAsks findings.now (entry + 1) asks.new) }
+{
+    if let Some(ask) = ask_at(findings, entry) {
+        keep_first(asks, ask, entry)?;
+    }
+    Ok(())
+}
+
+/// Where each request of a log was received first.
+pub(crate) fn asks_of<L: ExerciseLog>(
+    alloc: Global,
+    findings: &Findings<'_, L>,
+) -> Result<Asks, AllocError>
+    ensures { IfOk result (λ asks. AreAsks findings.now (length findings.now.entries) asks) }
+{
+    let mut asks = no_asks(alloc);
+    for entry in 0..findings.log().entry_count() {
+        note_ask(&mut asks, findings, entry)?;
+    }
+    Ok(asks)
+}
+
+/// The first entry under a key.
+fn first_under(asks: &Asks, ask: Ask) -> Option<usize>
+    ensures { result ≡ get same_ask asks.now ask }
+{
+    match asks.get(&ask) {
+        Some(entry) => Some(*entry),
+        None => None,
+    }
+}
+
+/// Where the send of a PDU belongs in the log of a station: right after the request that it takes up.
+/// `None` where it belongs at the start.
+pub(crate) fn place_of<L: ExerciseLog>(
+    findings: &Findings<'_, L>,
+    asks: &Asks,
+    station: u16,
+    pdu: &PduView<'_>,
+) -> Option<usize>
+    requires { AreAsks findings.now (length findings.now.entries) asks.now }
+    ensures { result ≡ place_of findings.now station (pdu_of pdu.now) }
+{
+    if !is_answer(pdu) {
+        return None;
+    }
+    match request_id(pdu) {
+        Some(request) => first_under(
+            asks,
+            Ask {
+                station,
+                request,
+                site: pdu.target.site,
+                application: pdu.target.application,
+            },
+        ),
+        None => None,
+    }
+}

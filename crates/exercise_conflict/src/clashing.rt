@@ -1,0 +1,265 @@
+//! What an entry contradicts, read from the logs.
+
+ghost use Rattle.std.specs.Prelude.{◌≡◌, ◌≤◌, ◌<◌, length, option_map};
+ghost use Rattle.siman_pdus.specs.Answers.{matches_kind};
+ghost use Rattle.siman_pdus.specs.Reading.{pdu_of};
+ghost use Rattle.exercise_model.specs.Account.{pair_of_sent};
+ghost use Rattle.exercise_review.specs.Life.{state_before};
+ghost use Rattle.exercise_conflict.specs.Clash.{reused_at, unfit_of, wrong_at, state_told, hopeless_for, impossible_at, clash_sent, clash_got, clash_told, clash_of};
+ghost use Rattle.exercise_conflict.specs.Earlier.{IsSentAt};
+
+use crate::clash::{Clash, Unfit};
+use crate::difference::order_difference;
+use crate::earlier::{earlier_sent, pair_of, sent_pdu};
+use crate::near::unsent_by;
+use crate::since::made_since;
+use crate::unasked::{got_pdu, unasked_for};
+use dis_records::{EntityState, Kind, Scope};
+use exercise_findings::Findings;
+use exercise_model::{Cause, Change, EntryView, ExerciseLog, is_entity, meaning_view};
+use siman_pdus::{BodyView, Message, PduView};
+
+/// All entities of a station.
+const ALL_ENTITIES: u16 = 0xFFFF;
+
+/// Another order under the identifier of a PDU, at an entry.
+fn reused_at<L: ExerciseLog>(
+    findings: &Findings<'_, L>,
+    station: u16,
+    pdu: &PduView<'_>,
+    earlier: usize,
+) -> Option<Clash>
+    ensures { result ≡ reused_at findings.now station (pdu_of pdu.now) earlier }
+{
+    let other = sent_pdu(findings, station, earlier)?;
+    let differs = order_difference(pdu, &other)?;
+    Some(Clash::ReusedIdentifier { earlier, differs })
+}
+
+/// Whether an answer is one to requests of a kind.
+fn fits_kind(answer: &PduView<'_>, kind: Kind) -> bool
+    ensures { result ≡ matches_kind (pdu_of answer.now).body kind }
+{
+    match (&answer.body, kind) {
+        (BodyView::Acknowledge { flag, .. }, Kind::CreateEntity) => *flag == 1,
+        (BodyView::Acknowledge { flag, .. }, Kind::RemoveEntity) => *flag == 2,
+        (BodyView::Acknowledge { flag, .. }, Kind::StartResume) => *flag == 3,
+        (BodyView::Acknowledge { flag, .. }, Kind::StopFreeze) => *flag == 4,
+        (BodyView::ActionResponse { .. }, Kind::ActionRequest) => true,
+        (BodyView::DataPdu { .. }, Kind::DataQuery | Kind::SetData) => true,
+        _ => false,
+    }
+}
+
+/// Why an answer does not answer a request that it could take up.
+fn unfit_of(answer: &PduView<'_>, request: &PduView<'_>) -> Unfit
+    ensures { result ≡ unfit_of (pdu_of answer.now) (pdu_of request.now) }
+{
+    if fits_kind(answer, request.kind()) {
+        Unfit::Entity
+    } else {
+        Unfit::Kind
+    }
+}
+
+/// The request that an answer takes up and does not answer.
+fn wrong_at<L: ExerciseLog>(
+    findings: &Findings<'_, L>,
+    station: u16,
+    answer: &PduView<'_>,
+    earlier: usize,
+) -> Option<Clash>
+    ensures { result ≡ wrong_at findings.now station (pdu_of answer.now) earlier }
+{
+    let request = got_pdu(findings, station, earlier)?;
+    Some(Clash::WrongAnswer {
+        earlier,
+        differs: unfit_of(answer, &request),
+    })
+}
+
+/// The state of a number before an entry, if an entity can have the number.
+fn state_told<L: ExerciseLog>(
+    findings: &Findings<'_, L>,
+    station: u16,
+    entity: u16,
+    entry: usize,
+) -> Option<EntityState>
+    requires at { station < length findings.now.setting.stations }
+    requires within { entry ≤ length findings.now.entries }
+    ensures { result ≡ state_told findings.now station entity entry }
+{
+    if is_entity(entity) {
+        Some(findings.state_before(station, entity, entry))
+    } else {
+        None
+    }
+}
+
+/// What stands against a change of a scope.
+fn hopeless_for<L: ExerciseLog>(
+    findings: &Findings<'_, L>,
+    station: u16,
+    entry: usize,
+    earlier: usize,
+    scope: Scope,
+) -> Clash
+    requires at { station < length findings.now.setting.stations }
+    requires within { entry ≤ length findings.now.entries }
+    ensures { result ≡ hopeless_for findings.now station entry earlier scope }
+{
+    match scope {
+        Scope::One(entity) => Clash::Impossible {
+            earlier,
+            station,
+            entity,
+            state: state_told(findings, station, entity, entry),
+            change: made_since(findings, station, entity, entry),
+        },
+        Scope::All => Clash::Impossible {
+            earlier,
+            station,
+            entity: ALL_ENTITIES,
+            state: None,
+            change: None,
+        },
+    }
+}
+
+/// The request that an answer takes up, and what stands against the change that it asks for.
+fn impossible_at<L: ExerciseLog>(
+    findings: &Findings<'_, L>,
+    station: u16,
+    entry: usize,
+    answer: &PduView<'_>,
+    earlier: usize,
+) -> Option<Clash>
+    requires at { station < length findings.now.setting.stations }
+    requires within { entry ≤ length findings.now.entries }
+    ensures { result ≡ impossible_at findings.now station entry (pdu_of answer.now) earlier }
+{
+    let request = got_pdu(findings, station, earlier)?;
+    let change = Change::carried_out(answer, &request)?;
+    Some(hopeless_for(findings, station, entry, earlier, change.scope))
+}
+
+/// The request that what a station sends takes up.
+fn pair_of_sent<L: ExerciseLog>(
+    findings: &Findings<'_, L>,
+    station: u16,
+    entry: usize,
+    pdu: &PduView<'_>,
+) -> Option<usize>
+    requires { IsSentAt findings.now entry station (pdu_of pdu.now) }
+    ensures { result ≡ pair_of_sent findings.now station entry (pdu_of pdu.now) }
+{
+    pair_of(findings, entry)
+}
+
+/// What a station contradicts by a PDU that it sends at an entry, for this cause against it.
+fn clash_sent<L: ExerciseLog>(
+    findings: &Findings<'_, L>,
+    station: u16,
+    entry: usize,
+    cause: Cause,
+    pdu: &PduView<'_>,
+) -> Option<Clash>
+    requires at { station < length findings.now.setting.stations }
+    requires within { entry ≤ length findings.now.entries }
+    requires sent { IsSentAt findings.now entry station (pdu_of pdu.now) }
+    ensures { result ≡ clash_sent findings.now entry station cause (pdu_of pdu.now) }
+{
+    match cause {
+        Cause::WrongSender => Some(Clash::WrongSender {
+            from: pdu.origin,
+            station,
+        }),
+        Cause::ReusedIdentifier => {
+            let earlier = earlier_sent(findings, station, entry, cause, pdu)?;
+            reused_at(findings, station, pdu, earlier)
+        }
+        Cause::NoRequest => Some(unasked_for(findings, station, entry, pdu)),
+        Cause::WrongAnswer => {
+            let earlier = earlier_sent(findings, station, entry, cause, pdu)?;
+            wrong_at(findings, station, pdu, earlier)
+        }
+        Cause::ChangedAnswer => {
+            let earlier = earlier_sent(findings, station, entry, cause, pdu)?;
+            Some(Clash::ChangedAnswer { earlier })
+        }
+        Cause::Impossible => {
+            let earlier = pair_of_sent(findings, station, entry, pdu)?;
+            impossible_at(findings, station, entry, pdu, earlier)
+        }
+        _ => None,
+    }
+}
+
+/// What a station contradicts by receiving a datagram at an entry, for this cause against it.
+fn clash_got<L: ExerciseLog>(
+    findings: &Findings<'_, L>,
+    entry: usize,
+    bytes: &[u8],
+    cause: Cause,
+    pdu: &PduView<'_>,
+) -> Option<Clash>
+    ensures { result ≡ clash_got findings.now entry bytes.now cause (pdu_of pdu.now) }
+{
+    match cause {
+        Cause::Stranger => Some(Clash::Stranger { from: pdu.origin }),
+        Cause::NeverSent => Some(unsent_by(findings, entry, bytes, pdu)),
+        _ => None,
+    }
+}
+
+/// What a station contradicts by telling the state of an entity, for this cause against it.
+fn clash_told<L: ExerciseLog>(
+    findings: &Findings<'_, L>,
+    station: u16,
+    entry: usize,
+    entity: u16,
+    cause: Cause,
+) -> Option<Clash>
+    requires at { station < length findings.now.setting.stations }
+    requires within { entry ≤ length findings.now.entries }
+    ensures { result ≡ clash_told findings.now entry station entity cause }
+{
+    match cause {
+        Cause::WrongState => Some(Clash::WrongState {
+            station,
+            entity,
+            state: findings.state_before(station, entity, entry),
+            change: made_since(findings, station, entity, entry),
+        }),
+        _ => None,
+    }
+}
+
+/// What an entry contradicts: the other side of the first cause that the log of its station has against
+/// it, where a datagram that was received is judged as if nothing had been sent. `None` where there is
+/// no cause, and past the last entry. It takes no memory.
+#[tactic(auto, unfolding(crate::specs::Clash::clash_of))]
+pub fn clash_of<L: ExerciseLog>(findings: &Findings<'_, L>, entry: usize) -> Option<Clash>
+    ensures { result ≡ clash_of findings.now entry }
+{
+    let cause = findings.cause(entry)?;
+    let log = findings.log();
+    if entry >= log.entry_count() {
+        return None;
+    }
+    match log.entry(entry) {
+        EntryView::Sent { station, bytes, .. } => {
+            let pdu = meaning_view(log.exercise(), bytes)?;
+            clash_sent(findings, station, entry, cause, &pdu)
+        }
+        EntryView::Received { bytes, .. } => {
+            let pdu = meaning_view(log.exercise(), bytes)?;
+            clash_got(findings, entry, bytes, cause, &pdu)
+        }
+        EntryView::Told {
+            station,
+            entity,
+            ..
+        } => clash_told(findings, station, entry, entity, cause),
+    }
+}

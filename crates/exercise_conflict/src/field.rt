@@ -1,0 +1,92 @@
+//! The fields of a datagram, by their names.
+
+ghost use Rattle.std.specs.Prelude.{◌≡◌};
+ghost use Rattle.exercise_conflict.specs.FieldText.{field_text};
+
+use std::fmt;
+
+/// A thing in which one datagram can differ from another.
+#[derive(Clone, Copy, Debug, PartialEq, Eq)]
+pub enum Field {
+    /// The protocol version.
+    Version,
+    /// The timestamp.
+    Time,
+    /// The PDU status.
+    Status,
+    /// The kind of the PDU.
+    Kind,
+    /// The originating identifier.
+    From,
+    /// The receiving identifier.
+    To,
+    /// The real-world time of a Start/Resume or a Stop/Freeze.
+    Real,
+    /// The simulation time of a Start/Resume.
+    Sim,
+    /// The request identifier.
+    Request,
+    /// The reason of a Stop/Freeze.
+    Reason,
+    /// The frozen behaviour of a Stop/Freeze.
+    Behaviour,
+    /// What an Acknowledge acknowledges.
+    Flag,
+    /// How an Acknowledge answers.
+    Response,
+    /// The action of an Action Request.
+    Action,
+    /// The request status of an Action Response.
+    Outcome,
+    /// The time interval of a Data Query.
+    Interval,
+    /// The event type of an Event Report.
+    Event,
+    /// The fixed datum records, or the identifiers of fixed datums.
+    Fixed,
+    /// The variable datum records, or the identifiers of variable datums.
+    Variable,
+    /// Bytes that no field has: padding, and unused bits.
+    Padding,
+}
+
+impl Field {
+    /// Its name, as it has it in a line that tells a PDU.
+    pub fn name(self) -> &'static str
+        ensures { result.now ≡ field_text self }
+    {
+        match self {
+            Field::Version => "version",
+            Field::Time => "time",
+            Field::Status => "status",
+            Field::Kind => "kind",
+            Field::From => "from",
+            Field::To => "to",
+            Field::Real => "real",
+            Field::Sim => "sim",
+            Field::Request => "request",
+            Field::Reason => "reason",
+            Field::Behaviour => "behaviour",
+            Field::Flag => "flag",
+            Field::Response => "response",
+            Field::Action => "action",
+            Field::Outcome => "result",
+            Field::Interval => "interval",
+            Field::Event => "event",
+            Field::Fixed => "fixed",
+            Field::Variable => "variable",
+            Field::Padding => "padding",
+        }
+    }
+}
+
+/// Its name, as `response`.
+impl fmt::Display for Field {
+    ghost use Rattle.std.specs.Prelude.{Some};
+
+    ghost output = { λ field. Some (field_text field) };
+
+    fn fmt<W: fmt::Write>(&self, f: &mut fmt::Formatter<W>) -> fmt::Result {
+        f.write_str(self.name())
+    }
+}

@@ -1,0 +1,144 @@
+//! A datagram that was never sent: its source, and what its sender sent that is like it.
+
+ghost use Rattle.std.specs.Prelude.{◌≡◌, option_map};
+ghost use Rattle.siman_pdus.specs.Reading.{pdu_of};
+ghost use Rattle.exercise_model.specs.Account.{sender_of};
+ghost use Rattle.exercise_findings.specs.Source.{source_of};
+ghost use Rattle.exercise_conflict.specs.Clash.{is_near, sends_near_at, near_of, or_padding, differs_at, unsent_by};
+
+use crate::clash::Clash;
+use crate::difference::pdu_difference;
+use crate::earlier::sent_pdu;
+use crate::field::Field;
+use crate::question::{Question, first_below};
+use exercise_findings::Findings;
+use exercise_model::{EntryView, ExerciseLog, is_from, meaning_view};
+use siman_pdus::{Message, PduView, is_under_identifier, request_id, same_order};
+
+/// The recorded station that a PDU comes from.
+#[tactic(auto, unfolding(exercise_model::specs::Account::sender_of), using(crate::proofs::Steps::question_steps))]
+pub(crate) fn sender_of<L: ExerciseLog>(
+    findings: &Findings<'_, L>,
+    pdu: &PduView<'_>,
+) -> Option<u16>
+    ensures { result ≡ sender_of findings.now (pdu_of pdu.now) }
+{
+    for station in 0..findings.log().station_count() {
+        if is_from(findings.log().station(station).address(), pdu) {
+            return Some(station as u16);
+        }
+    }
+    None
+}
+
+/// Whether a PDU is like another one: of the same kind, to the same receiver, under the same request
+/// identifier; where its kind has none, the same order.
+fn is_near(pdu: &PduView<'_>, other: &PduView<'_>) -> bool
+    ensures { result ≡ is_near (pdu_of pdu.now) (pdu_of other.now) }
+{
+    if request_id(pdu).is_none() {
+        return same_order(pdu, other);
+    }
+    pdu.kind().code() == other.kind().code()
+        && pdu.target == other.target
+        && is_under_identifier(pdu, other)
+}
+
+/// Where a station sends a PDU that is like another one.
+#[derive(Drop)]
+struct SendsNear<'a, L: ExerciseLog> {
+    findings: &'a Findings<'a, L>,
+    station: u16,
+    pdu: &'a PduView<'a>,
+}
+
+impl<L: ExerciseLog> Question for SendsNear<'_, L> {
+    ghost test = { λ q. sends_near_at q.findings.now q.station (pdu_of q.pdu.now) };
+
+    #[tactic(auto, unfolding(crate::specs::Clash::sends_near_at))]
+    fn passes(&self, entry: usize) -> bool {
+        match sent_pdu(self.findings, self.station, entry) {
+            Some(other) => is_near(self.pdu, &other),
+            None => false,
+        }
+    }
+}
+
+/// The first entry of the station that a PDU comes from which sends one that is like it.
+fn near_of<L: ExerciseLog>(findings: &Findings<'_, L>, pdu: &PduView<'_>) -> Option<usize>
+    ensures { result ≡ near_of findings.now (pdu_of pdu.now) }
+{
+    let station = sender_of(findings, pdu)?;
+    let near = SendsNear {
+        findings,
+        station,
+        pdu,
+    };
+    first_below(&near, findings.log().entry_count())
+}
+
+/// Bytes that no field has, where no field differs.
+fn or_padding(found: Option<Field>) -> Field
+    ensures { result ≡ or_padding found }
+{
+    match found {
+        Some(field) => field,
+        None => Field::Padding,
+    }
+}
+
+/// The first thing in which a datagram differs from what an entry sends.
+fn differs_at<L: ExerciseLog>(
+    findings: &Findings<'_, L>,
+    bytes: &[u8],
+    pdu: &PduView<'_>,
+    entry: usize,
+) -> Option<Field>
+    ensures { result ≡ differs_at findings.now bytes.now (pdu_of pdu.now) entry }
+{
+    let log = findings.log();
+    if entry >= log.entry_count() {
+        return None;
+    }
+    match log.entry(entry) {
+        EntryView::Sent { bytes: sent, .. } if bytes != sent => {
+            match meaning_view(log.exercise(), sent) {
+                Some(other) => Some(or_padding(pdu_difference(pdu, &other))),
+                None => None,
+            }
+        }
+        _ => None,
+    }
+}
+
+/// The source of what an entry received, as a number of an entry.
+fn source_of<L: ExerciseLog>(findings: &Findings<'_, L>, entry: usize) -> Option<usize>
+    ensures { result ≡ source_of findings.now entry }
+{
+    match findings.source(entry) {
+        Some(source) => Some(source as usize),
+        None => None,
+    }
+}
+
+/// What there is of a datagram that an entry received and that was never sent.
+pub(crate) fn unsent_by<L: ExerciseLog>(
+    findings: &Findings<'_, L>,
+    entry: usize,
+    bytes: &[u8],
+    pdu: &PduView<'_>,
+) -> Clash
+    ensures { result ≡ unsent_by findings.now entry bytes.now (pdu_of pdu.now) }
+{
+    let near = near_of(findings, pdu);
+    let differs = match near {
+        Some(near) => differs_at(findings, bytes, pdu, near),
+        None => None,
+    };
+    Clash::NeverSent {
+        from: pdu.origin,
+        sent: source_of(findings, entry),
+        near,
+        differs,
+    }
+}

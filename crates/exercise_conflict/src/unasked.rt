@@ -1,0 +1,162 @@
+//! An answer without a request: where its request stands after all.
+
+ghost use Rattle.std.specs.Prelude.{◌≡◌, ◌<◌, length, option_map};
+ghost use Rattle.siman_pdus.specs.Reading.{pdu_of};
+ghost use Rattle.exercise_model.specs.History.{station_at};
+ghost use Rattle.exercise_model.specs.Place.{brings_request, entry_taken_up};
+ghost use Rattle.exercise_conflict.specs.Clash.{got_pdu, is_asking, is_overheard, overhears_at, asks_at, unasked_for};
+
+use crate::clash::Clash;
+use crate::question::{Question, first_below};
+use dis_records::{Address, addressed};
+use exercise_findings::Findings;
+use exercise_model::{EntryView, ExerciseLog, is_asked, is_from, meaning_view};
+use siman_pdus::{PduView, is_request, is_under_identifier};
+
+/// What a station receives at an entry, if it receives something that is not "other".
+#[tactic(auto, unfolding(exercise_model::specs::Place::own_event, crate::specs::Clash::got_pdu))]
+pub(crate) fn got_pdu<'a, L: ExerciseLog>(
+    findings: &Findings<'a, L>,
+    station: u16,
+    entry: usize,
+) -> Option<PduView<'a>>
+    ensures { option_map pdu_of result ≡ got_pdu findings.now station entry }
+{
+    let log = findings.log();
+    if entry >= log.entry_count() {
+        return None;
+    }
+    match log.entry(entry) {
+        EntryView::Received {
+            station: at,
+            bytes,
+            ..
+        } if at == station => meaning_view(log.exercise(), bytes),
+        _ => None,
+    }
+}
+
+/// Where a station receives a request that an answer could take up.
+#[derive(Drop)]
+struct Brings<'a, L: ExerciseLog> {
+    findings: &'a Findings<'a, L>,
+    station: u16,
+    address: Address,
+    answer: &'a PduView<'a>,
+    ghost own: { address ≡ (station_at findings.now station).address },
+}
+
+impl<L: ExerciseLog> Question for Brings<'_, L> {
+    ghost test = { λ q. brings_request q.findings.now q.station (pdu_of q.answer.now) };
+
+    fn passes(&self, entry: usize) -> bool {
+        match got_pdu(self.findings, self.station, entry) {
+            Some(request) => is_asked(self.address, self.answer, &request),
+            None => false,
+        }
+    }
+}
+
+/// Whether a PDU is a request under the identifier of an answer, from where the answer goes to.
+fn is_asking(answer: &PduView<'_>, request: &PduView<'_>) -> bool
+    ensures { result ≡ is_asking (pdu_of answer.now) (pdu_of request.now) }
+{
+    let (asker, to) = (request.origin, answer.target);
+    is_request(request)
+        && is_under_identifier(answer, request)
+        && asker.site == to.site
+        && asker.application == to.application
+}
+
+/// Whether it is one that does not address the station at an address.
+fn is_overheard(address: Address, answer: &PduView<'_>, request: &PduView<'_>) -> bool
+    ensures { result ≡ is_overheard address (pdu_of answer.now) (pdu_of request.now) }
+{
+    is_asking(answer, request) && !addressed(request.target, address)
+}
+
+/// Where a station receives a request for an answer that does not address the station.
+#[derive(Drop)]
+struct Overhears<'a, L: ExerciseLog> {
+    findings: &'a Findings<'a, L>,
+    station: u16,
+    address: Address,
+    answer: &'a PduView<'a>,
+    ghost own: { address ≡ (station_at findings.now station).address },
+}
+
+impl<L: ExerciseLog> Question for Overhears<'_, L> {
+    ghost test = { λ q. overhears_at q.findings.now q.station (pdu_of q.answer.now) };
+
+    #[tactic(auto, unfolding(crate::specs::Clash::overhears_at))]
+    fn passes(&self, entry: usize) -> bool {
+        match got_pdu(self.findings, self.station, entry) {
+            Some(request) => is_overheard(self.address, self.answer, &request),
+            None => false,
+        }
+    }
+}
+
+/// Where a request for an answer is sent, under the address of the station that sends it.
+#[derive(Drop)]
+struct Asks<'a, L: ExerciseLog> {
+    findings: &'a Findings<'a, L>,
+    answer: &'a PduView<'a>,
+}
+
+impl<L: ExerciseLog> Question for Asks<'_, L> {
+    ghost test = { λ q. asks_at q.findings.now (pdu_of q.answer.now) };
+
+    #[tactic(auto, unfolding(crate::specs::Clash::asks_at))]
+    fn passes(&self, entry: usize) -> bool {
+        let log = self.findings.log();
+        if entry >= log.entry_count() {
+            return false;
+        }
+        match log.entry(entry) {
+            EntryView::Sent { station, bytes, .. } => {
+                match meaning_view(log.exercise(), bytes) {
+                    Some(request) => {
+                        is_from(log.station(usize::from(station)).address(), &request)
+                            && is_asking(self.answer, &request)
+                    }
+                    None => false,
+                }
+            }
+            EntryView::Received { .. } | EntryView::Told { .. } => false,
+        }
+    }
+}
+
+/// Where the requests stand for which an answer was sent too early.
+#[tactic(auto, unfolding(exercise_model::specs::Place::entry_taken_up))]
+pub(crate) fn unasked_for<L: ExerciseLog>(
+    findings: &Findings<'_, L>,
+    station: u16,
+    entry: usize,
+    answer: &PduView<'_>,
+) -> Clash
+    requires { station < length findings.now.setting.stations }
+    ensures { result ≡ unasked_for findings.now station entry (pdu_of answer.now) }
+{
+    let log = findings.log();
+    let address = log.station(usize::from(station)).address();
+    let brings = Brings {
+        findings,
+        station,
+        address,
+        answer,
+    };
+    let overhears = Overhears {
+        findings,
+        station,
+        address,
+        answer,
+    };
+    let asks = Asks { findings, answer };
+    Clash::NoRequest {
+        later: first_below(&brings, log.entry_count()),
+        overheard: first_below(&overhears, entry),
+        sent: first_below(&asks, log.entry_count()),
+    }
+}

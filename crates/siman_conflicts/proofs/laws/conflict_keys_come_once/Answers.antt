@@ -1,0 +1,26 @@
+use Rattle.siman_conflicts.proofs.Keyed.{rule_apart, clash_apart, wait_apart, final_apart, also_apart, missing_apart, fault_apart, cycle_apart}
+use Rattle.siman_conflicts.proofs.laws.conflict_keys_come_once.Goals as goal
+
+pub returns-clause-rules : goal.returns-clause-rules
+returns-clause-rules c = rule_apart
+
+pub returns-clause-clashes : goal.returns-clause-clashes
+returns-clause-clashes c = clash_apart
+
+pub returns-clause-waits : goal.returns-clause-waits
+returns-clause-waits c = wait_apart
+
+pub returns-clause-finals : goal.returns-clause-finals
+returns-clause-finals c = final_apart
+
+pub returns-clause-also : goal.returns-clause-also
+returns-clause-also c = also_apart
+
+pub returns-clause-missing : goal.returns-clause-missing
+returns-clause-missing c = missing_apart
+
+pub returns-clause-faults : goal.returns-clause-faults
+returns-clause-faults c = fault_apart
+
+pub returns-clause-cycles : goal.returns-clause-cycles
+returns-clause-cycles c = cycle_apart

@@ -1,0 +1,23 @@
+//! Laws of the lines that tell what contradicts what.
+
+ghost use Rattle.std.specs.Prelude.{◌≡◌, ℕ, List, true};
+ghost use Rattle.exercise_model.specs.declared.cause.Cause.{Cause};
+ghost use Rattle.exercise_model.specs.Recording.{PlainRecording};
+ghost use Rattle.exercise_conflict.specs.declared.clash.Clash.{Clash};
+ghost use Rattle.exercise_conflict.specs.declared.fault.Fault.{Fault};
+ghost use Rattle.exercise_conflict.specs.declared.lacks.Lack.{Lack};
+ghost use Rattle.exercise_conflict.specs.declared.waits.Wait.{Wait};
+ghost use Rattle.siman_texts.specs.Keys.{has_no_key_twice};
+ghost use Rattle.siman_conflicts.specs.Lines.{rule_line, clash_line, wait_line, final_line, also_line, missing_line, fault_line, cycle_line};
+
+/// The law of keys: in JSON none of these lines has a key twice.
+pub fn conflict_keys_come_once()
+    ensures rules { (cause : Cause) → has_no_key_twice (rule_line cause) ≡ true }
+    ensures clashes { (r : PlainRecording) (entry : ℕ) (clash : Clash) → has_no_key_twice (clash_line r entry clash) ≡ true }
+    ensures waits { (r : PlainRecording) (wait : Wait) → has_no_key_twice (wait_line r wait) ≡ true }
+    ensures finals { (entry : ℕ) → has_no_key_twice (final_line entry) ≡ true }
+    ensures also { (r : PlainRecording) (entry s : ℕ) (cause : Cause) → has_no_key_twice (also_line r entry s cause) ≡ true }
+    ensures missing { (r : PlainRecording) (lack : Lack) → has_no_key_twice (missing_line r lack) ≡ true }
+    ensures faults { (fault : Fault) → has_no_key_twice (fault_line fault) ≡ true }
+    ensures cycles { (r : PlainRecording) (stations : List ℕ) → has_no_key_twice (cycle_line r stations) ≡ true }
+{}

@@ -11,7 +11,7 @@ use Rattle.siman_words.specs.declared.commands.OneWord.TheVariants.{Pdu, Show}
 use Rattle.siman_words.specs.declared.commands.TwoWords.{TwoWords}
 use Rattle.siman_words.specs.declared.commands.TwoWords.TheVariants.{Check, Audit, World, Live, Convert, Mend}
 use Rattle.siman_words.specs.declared.commands.ViewWord.{ViewWord}
-use Rattle.siman_words.specs.declared.commands.ViewWord.TheVariants.{Review}
+use Rattle.siman_words.specs.declared.commands.ViewWord.TheVariants.{Review, Log}
 use Rattle.siman_words.specs.declared.commands.JoinForm.{JoinForm}
 use Rattle.siman_words.specs.declared.commands.JoinForm.TheVariants.{Open, Closed}
 use Rattle.siman_words.specs.declared.commands.Takes.{Takes}
@@ -53,7 +53,7 @@ unfoldable pub takes_named : List ℕ → Option Takes
 takes_named = takes_of (
     (codes "pdu", shapes.One Pdu) ∷ (codes "pdus", shapes.Nothing Pdus) ∷ (codes "show", shapes.One Show) ∷ (codes "check", shapes.Two Check)
     ∷ (codes "audit", shapes.Two Audit) ∷ (codes "world", shapes.Two World) ∷ (codes "live", shapes.Two Live) ∷ (codes "convert", shapes.Two Convert) ∷ (codes "mend", shapes.Two Mend)
-    ∷ (codes "join", shapes.Pieces) ∷ (codes "review", shapes.View Review) ∷ [])
+    ∷ (codes "join", shapes.Pieces) ∷ (codes "review", shapes.View Review) ∷ (codes "log", shapes.View Log) ∷ [])
 
 -- a command is asked for where it has the words that it takes, none of them an option
 abbrev pub bare_asked : NoWord → List (List ℕ) → Option Asked

@@ -42,6 +42,8 @@ pub enum TwoWords {
 pub enum ViewWord {
     /// What became of each order, and how each entity lived.
     Review,
+    /// What happened at each entry, with every datum and what goes with it.
+    Log,
 }
 
 /// The form that words ask for of a joined recording.
@@ -113,7 +115,7 @@ pub(crate) struct Row {
 }
 
 /// The table of the commands, in the order of the help.
-pub(crate) const ROWS: [Row; 11] = [
+pub(crate) const ROWS: [Row; 12] = [
     Row {
         name: "pdu",
         takes: Takes::One(OneWord::Pdu),
@@ -284,6 +286,24 @@ pub(crate) const ROWS: [Row; 11] = [
                 name: "FILTER",
                 often: Often::AnyTimes,
                 about: "Which lines are told: station=S:A, entity=S:A:E, request=S:A/N or fate=WORD; words of one key add to each other",
+            },
+        ],
+    },
+    Row {
+        name: "log",
+        takes: Takes::View(ViewWord::Log),
+        about: "Tells what happened at each entry of a recording, in names, with every datum and what goes with it",
+        example: "Example:\n  siman log exercise.dsrc request=1:1/104 station=2:4",
+        words: &[
+            Word {
+                name: "REC",
+                often: Often::Once,
+                about: "The file of the recording",
+            },
+            Word {
+                name: "FILTER",
+                often: Often::AnyTimes,
+                about: "Which entries are told: station=S:A, entity=S:A:E, request=S:A/N or kind=NAME; words of one key add to each other",
             },
         ],
     },

@@ -1,6 +1,6 @@
 //! The usage of the program and its help, as `clap` tells them.
 
-use crate::commands::{ABOUT, Often, ROWS, Row, STATUSES, Takes, VERSION, Word};
+use crate::commands::{ABOUT, Often, ROWS, Row, STATUSES, Takes, VERSION, ViewWord, Word};
 use clap::error::ErrorKind;
 use clap::{Arg, ArgAction, Command, Error};
 use std::alloc::{AllocError, Global};
@@ -49,7 +49,12 @@ fn command<'a>(alloc: Global, row: Row) -> Result<Command<'a>, AllocError> {
         Takes::Pieces => command.override_usage(
             "siman join <PIECE>... <NEW> [form=open|form=closed]",
         ),
-        Takes::View(_) => command.override_usage("siman review <REC> [FILTER]... [--json]"),
+        Takes::View(ViewWord::Review) => {
+            command.override_usage("siman review <REC> [FILTER]... [--json]")
+        }
+        Takes::View(ViewWord::Log) => {
+            command.override_usage("siman log <REC> [FILTER]... [--json]")
+        }
         Takes::Nothing(_) | Takes::One(_) | Takes::Two(_) => command,
     };
     command.args(arguments)

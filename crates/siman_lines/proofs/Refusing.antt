@@ -1,6 +1,6 @@
 -- Where a recorder refuses an entry of a call.
 use Rattle.std.proofs.Common.{◌≡◌, ℕ, ◌<◌, ◌≤◌, List, [], ◌∷◌, length, refl, sym, ◌∙◌, subst, inl, inr, arith}
-use Rattle.std.specs.Prelude.{Bool, true, false, nat_lt, nat_le, ◌&&◌, Result, Ok, Err}
+use Rattle.std.specs.Prelude.{Bool, true, false, nat_lt, nat_le, ◌&&◌, Option, Some, None, Result, Ok, Err}
 use Rattle.std.proofs.lemmas.Bool.Decides.{nat_tests}
 use Rattle.dis_records.specs.declared.header.TheConstants.{LARGEST_DATAGRAM}
 use Rattle.siman_pdus.specs.Spelling.{pdu_text}
@@ -20,7 +20,8 @@ use Rattle.siman_lines.specs.declared.fault.IssueFault.{IssueFault}
 use Rattle.siman_lines.specs.declared.fault.IssueFault.TheVariants as issue_faults
 use Rattle.siman_lines.specs.declared.served.Served.{Served}
 use Rattle.siman_lines.specs.Serving.{State, ServeEnds, is_short}
-use Rattle.siman_lines.specs.Ordering.{IssueEnds, NudgeEnds}
+use Rattle.siman_lines.specs.LineDatagrams.{Datagrams, Same}
+use Rattle.siman_lines.specs.Ordering.{Rests, IssueEnds, NudgeEnds}
 use Rattle.siman_lines.specs.KeptAtLine.{IsRightRefusal, RefusesServe, RefusesIssue}
 use Rattle.siman_lines.proofs.Writings.{right_refusal, refusal_before, setting_all}
 
@@ -81,3 +82,12 @@ nudge_refused s now old new (Err (issue_faults.Record fault)) within ends =
     right_refusal old.recorder new.recorder (Sent s now (pdu_text ends.1.repeat)) fault
     (good_text s now (pdu_text ends.1.repeat) old.recorder.setting old.recorder.setting within refl ends.1.size) ends.1.left.refused
 nudge_refused s now old new (Err issue_faults.Memory) within ends = tt
+
+-- Where nothing was done.
+
+same_told : (o : Option Datagrams) → Same o o
+same_told None = tt
+same_told (Some ds) = refl
+
+pub rests_same : (x : State) → Rests x x
+rests_same x = record { recorder = refl; sent_are = same_told x.sent; received_are = same_told x.received; worked = refl }

@@ -24,7 +24,7 @@ use Rattle.siman_stations.specs.Deeds.{ReceivesSent}
 use Rattle.siman_lines.specs.Calls.{IsFresh, Stations, AreCalls}
 use Rattle.siman_lines.specs.KeptAtLine.{IsWritten}
 use Rattle.siman_lines.specs.LineDatagrams.{Datagrams}
-use Rattle.siman_lines.specs.Ordering.{IssueEnds, NudgeEnds}
+use Rattle.siman_lines.specs.Ordering.{Rests, IssueEnds, NudgeEnds}
 use Rattle.siman_lines.specs.Serving.{State, ServeEnds}
 use Rattle.siman_lines.specs.Steps.{Each, Stops}
 
@@ -89,6 +89,19 @@ TellsAt e p w v (Err faults.Line) = ⊥
 TellsAt e p w v (Err (faults.Record fault)) =
     WritesNone w (Told p.index e (state_over p.node.application.outfit (came p.node.application) e)) fault v
 TellsAt e p w v (Err faults.Memory) = ⊥
+
+-- what an order and a repeat leave of a station beside its halves and its line: its index, and what it keeps of what was left out
+pub record KeepsCounts {L : Type 0} (p q : StationAtLine L) : Type 0 where
+  pub index : q.index ≡ p.index
+  pub dropped : q.dropped ≡ p.dropped
+  pub busy : q.busy ≡ p.busy
+
+-- WHERE A STATION DOES NOT DO WHAT IT IS ASKED TO its halves, its recorder and its line are as they were
+abbrev pub LeavesRefused : {L : Type 0} → Telling L → (p : StationAtLine L) → (w : WriterState) → (q : StationAtLine L) → (v : WriterState) → AtLineFault → Type 0
+LeavesRefused told p w q v (faults.Station fault) = (q.node ≡ p.node) × Rests (state_at told p w) (state_at told q v)
+LeavesRefused told p w q v faults.Line = Unit {0}
+LeavesRefused told p w q v (faults.Record fault) = Unit {0}
+LeavesRefused told p w q v faults.Memory = Unit {0}
 
 -- how the fault of a station that is served is told
 abbrev pub of_serve : ServeFault → AtLineFault

@@ -8,3 +8,4 @@ pub mod AtLine
 pub mod Steps
 pub mod AtLines
 pub mod Udp
+pub mod LeftOut

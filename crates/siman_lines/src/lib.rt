@@ -4,6 +4,7 @@
 
 mod fault;
 mod laws;
+mod left;
 mod line;
 mod memory;
 mod ordering;
@@ -15,6 +16,7 @@ mod udp;
 
 pub use fault::{AtLineFault, IssueFault, ServeFault};
 pub use laws::{calls_are_kept, calls_make_a_run, lines_make_a_run, what_is_kept_stands};
+pub use left::{LeftOut, left_out};
 pub use line::{Line, LineFault};
 pub use memory::MemoryLine;
 pub use ordering::{issue, nudge};

@@ -4,7 +4,7 @@
 ghost use Rattle.std.specs.Prelude.{◌≡◌, ◌≤◌, ◌⊎◌, ◌^◌, ◌++◌, [], ◌∷◌, None, OnOk, IfOk, IfErr, length};
 ghost use Rattle.siman_stations.specs.Asked.{order_fault, tell_fault};
 ghost use Rattle.siman_lines.specs.AtLine.{Hinders};
-ghost use Rattle.siman_lines.specs.AtLines.{Telling, AtLines, posts_from, posts_of, Misfits, OrdersAt, RepeatsAt, TellsAt, ServesAt, RoundEnds, RoundsEnd, Follows};
+ghost use Rattle.siman_lines.specs.AtLines.{Telling, AtLines, posts_from, posts_of, Misfits, KeepsCounts, LeavesRefused, OrdersAt, RepeatsAt, TellsAt, ServesAt, RoundEnds, RoundsEnd, Follows};
 ghost use Rattle.siman_lines.specs.KeptAtLine.{Keeps};
 
 use crate::fault::{AtLineFault, IssueFault, ServeFault};
@@ -92,7 +92,10 @@ pub fn order_at<L: Line + Drop, W: Write>(
         OrdersAt told now order station.old recorder.old station.new recorder.new result }
     ensures made { OnOk result (order_fault station.old.node.manager now order ≡ None) }
     ensures fault { IfErr result (Hinders (order_fault station.old.node.manager now order)) }
+    ensures refused { let told : Telling L = record { received = L.received; sent = L.sent; failures = L.failures; strangers = L.strangers } in
+        IfErr result (LeavesRefused told station.old recorder.old station.new recorder.new) }
     ensures index { station.new.index ≡ station.old.index }
+    ensures counts { KeepsCounts station.old station.new }
     // What was kept of the station is kept, with a fault too.
     ensures keeps { Keeps station.old.index station.old.node recorder.old (L.sent station.old.line) station.new.node recorder.new (L.sent station.new.line) }
 {
@@ -125,6 +128,7 @@ pub fn repeat_at<L: Line + Drop, W: Write>(
         RepeatsAt told now station.old recorder.old station.new recorder.new result }
     ensures fault { IfErr result (Hinders None) }
     ensures index { station.new.index ≡ station.old.index }
+    ensures counts { KeepsCounts station.old station.new }
     // What was kept of the station is kept, with a fault too.
     ensures keeps { Keeps station.old.index station.old.node recorder.old (L.sent station.old.line) station.new.node recorder.new (L.sent station.new.line) }
 {
@@ -151,6 +155,8 @@ pub fn tell_at<L: Line + Drop, W: Write>(
     ensures ends { TellsAt entity station.now recorder.old recorder.new result }
     ensures made { OnOk result (tell_fault entity ≡ None) }
     ensures fault { IfErr result (Hinders (tell_fault entity)) }
+    ensures refused { let told : Telling L = record { received = L.received; sent = L.sent; failures = L.failures; strangers = L.strangers } in
+        IfErr result (LeavesRefused told station.now recorder.old station.now recorder.new) }
     // What was kept of the station is kept, with a fault too.
     ensures keeps { Keeps station.now.index station.now.node recorder.old (L.sent station.now.line) station.now.node recorder.new (L.sent station.now.line) }
 {

@@ -1,0 +1,20 @@
+-- What stations left out, all together (profile).
+use Rattle.std.specs.Prelude.{ℕ, ◌-◌, ◌^◌, min, Bool, ◌&&◌, ◌==◌, List, sum_by, count_by}
+use Rattle.siman_lines.specs.declared.left.LeftOut.{LeftOut}
+use Rattle.siman_lines.specs.declared.station_at_line.StationAtLine.{StationAtLine}
+
+-- a count of 64 bits, the most of which stands for more
+abbrev pub capped : ℕ → ℕ
+capped n = min n (2 ^ 64 - 1)
+
+-- WHAT STATIONS LEFT OUT: at how many of them something may be left to serve, how many long datagrams they dropped, and how many datagrams from elsewhere their lines passed over, by what lines of their kind tell of strangers
+abbrev pub left_out_by : {L : Type 0} → (strangers : L → ℕ) → List (StationAtLine L) → LeftOut
+left_out_by strangers ps = record {
+  busy = count_by (λ p. p.busy) ps;
+  dropped = capped (sum_by (λ p. p.dropped) ps);
+  strangers = capped (sum_by (λ p. strangers p.line) ps);
+}
+
+-- nothing was left out
+abbrev pub is_nothing : LeftOut → Bool
+is_nothing left = left.busy == 0 && left.dropped == 0 && left.strangers == 0

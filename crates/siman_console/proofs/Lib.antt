@@ -11,6 +11,9 @@ pub mod Tellings
 pub mod LineReadings
 pub mod Judged
 pub mod Lived
+pub mod Moved
+pub mod Posts
 mod Conversions
 mod JoinedPieces
 mod Reviewed
+mod Logged

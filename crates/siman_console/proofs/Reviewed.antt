@@ -11,6 +11,7 @@ use Rattle.exercise_review.specs.declared.fate.Fate.{Fate}
 use Rattle.exercise_review.specs.declared.fate.Fate.TheVariants.{Done, Answered, Refused, Pending, Unheard, Unanswered, Lost, Unknown, Nobody}
 use Rattle.exercise_review.specs.declared.filter.Filter.{Filter}
 use Rattle.siman_texts.specs.declared.spelling.Spelling.{Spelling}
+use Rattle.siman_words.specs.declared.commands.ViewWord.{ViewWord}
 use Rattle.siman_console.specs.declared.fault.Fault.{Fault}
 use Rattle.siman_console.specs.Ending.{of_recording}
 use Rattle.siman_console.specs.FilterWords.{filter_of}
@@ -25,9 +26,9 @@ apart_at (y ∷ ys) zero x within is = ap (λ z. z ∷ ys) (sym is)
 apart_at (y ∷ ys) (suc i) x within is = ap (λ zs. y ∷ zs) (apart_at ys i x (omega arith) is)
 
 -- a word that asks for no filter, behind words that do
-pub first_bad : {W : Type 0} (text : W → List ℕ) (ws : List W) (i : ℕ) (w : W) (filters : List Filter) → i < length ws → w ≡ get_or ws i w
-    → AskFor (map text (take i ws)) filters → filter_of (text w) ≡ None → IsFirstBad (map text ws) (text w)
-first_bad text ws i w filters within is ask bad = record {
+pub first_bad : {W : Type 0} (view : ViewWord) (text : W → List ℕ) (ws : List W) (i : ℕ) (w : W) (filters : List Filter) → i < length ws → w ≡ get_or ws i w
+    → AskFor view (map text (take i ws)) filters → filter_of view (text w) ≡ None → IsFirstBad view (map text ws) (text w)
+first_bad view text ws i w filters within is ask bad = record {
   before = map text (take i ws);
   behind = map text (drop (suc i) ws);
   stands = ap (map text) (apart_at ws i w within is) ∙ map-append text (take i ws) (w ∷ drop (suc i) ws);

@@ -1,5 +1,6 @@
 -- What a program has outside, what it leaves there, and what it does: the files that it opens, makes, saves, discards and closes, in their order.
-use Rattle.std.specs.Prelude.{◌≡◌, ◌⊎◌, ⊤, ℕ, Bool, List, [], ◌++◌, Option, Some, None, IfSome, Result, Ok, Err}
+use Rattle.std.specs.Prelude.{◌≡◌, ◌⊎◌, ⊤, ℕ, Bool, List, [], ◌++◌, length, Vec, Option, Some, None, IfSome, Result, Ok, Err}
+use Rattle.std.specs.declared.alloc.Global.{Global}
 use Rattle.std.specs.IoError.{error_kind}
 use Rattle.std.specs.declared.io.Error.{Error}
 use Rattle.std.specs.declared.io.ErrorKind.{ErrorKind}
@@ -37,6 +38,11 @@ abbrev pub saved_by : Result (Unit {0}) Error → Saved
 saved_by (Ok x) = Ok x
 saved_by (Err error) = Err (error_kind error)
 
+-- how many there are of what was asked for, or why there is none
+abbrev pub counted_by : {F : Type 0} → Result (Vec F Global) Error → Result ℕ ErrorKind
+counted_by (Ok items) = Ok (length items.items)
+counted_by (Err error) = Err (error_kind error)
+
 pub data Deed : Type 0 where
   -- a file of a name was opened to be read
   Opens : (name : List ℕ) → Found → Deed
@@ -48,8 +54,11 @@ pub data Deed : Type 0 where
   Makes : (name : List ℕ) → Found → Deed
   Saves : Option (List ℕ) → Saved → Deed
   Discards : Option (List ℕ) → Deed
-  -- it was looked whether a name is taken; a file was created under it; it was left with these bytes, where they are known
+  -- it was looked whether a name is taken
   LooksFor : (name : List ℕ) → Bool → Deed
+  -- lines of so many stations were asked for, and so many were had, or it is told why none were
+  Lines : (stations : ℕ) → Result ℕ ErrorKind → Deed
+  -- a file was created under a name; it was left with these bytes, where they are known
   Creates : (name : List ℕ) → Found → Deed
   Leaves : Option (List ℕ) → Deed
 

@@ -4,6 +4,7 @@ pub mod Check
 pub mod Convert
 pub mod Join
 pub mod Live
+pub mod Log
 pub mod Mend
 pub mod Pdus
 pub mod Review
@@ -22,6 +23,7 @@ use Rattle.siman_words.specs.declared.commands.TwoWords.{TwoWords}
 use Rattle.siman_words.specs.declared.commands.ViewWord.{ViewWord}
 use Rattle.siman_words.specs.Words.{Asked, Trial, Bare, One, Two, View, asked, asks_help}
 use Rattle.siman_words.specs.Words as asks
+use Rattle.siman_lines.specs.AtLines.{Telling}
 use Rattle.siman_console.specs.declared.fault.Fault.{Fault}
 use Rattle.siman_console.specs.declared.fault.Fault.TheVariants.{Words, Output, Memory}
 use Rattle.siman_console.specs.Answer.{said_of_hex, IsSaid}
@@ -36,6 +38,7 @@ use Rattle.siman_console.specs.Making.{Answered}
 use Rattle.siman_console.specs.Program.Mend.{MendsFile, MakesMended}
 use Rattle.siman_console.specs.Opening.{WorksOn}
 use Rattle.siman_console.specs.Program.Pdus.{EndsLines}
+use Rattle.siman_console.specs.Program.Log.{LogsNamed}
 use Rattle.siman_console.specs.Program.Review.{ReviewsNamed}
 use Rattle.siman_console.specs.Saying.{SaysOfFile, SaysOfFiles}
 use Rattle.siman_console.specs.Program.Show.{ShowsFile}
@@ -50,32 +53,33 @@ DoesOne OneWord.Show recording deeds answered out = SaysOfFile ShowsFile recordi
 -- a view of a recording, under the words that choose among its lines, in a spelling
 abbrev pub DoesView : ViewWord → (recording : List ℕ) → (filters : List (List ℕ)) → Spelling → List Deed → Answered → Stream → Type 0
 DoesView ViewWord.Review recording filters spelling = ReviewsNamed spelling recording filters
+DoesView ViewWord.Log recording filters spelling = LogsNamed spelling recording filters
 
 -- with the status of what was answered, or with that of the fault that was met, which is then told
 abbrev pub EndsAs : (Answered → Stream → Type 0) → Outcome → Type 0
 EndsAs Tells o = (answered : Answered) × Tells answered o.out × Ends answered o.ended o.errors.old o.errors.new
 
 -- how a command with two words ends
-abbrev pub EndsTwo : TwoWords → (first second : List ℕ) → List Deed → Outcome → Type 0
-EndsTwo TwoWords.Check recording certificate deeds o = EndsAs (SaysOfFiles ChecksFiles recording certificate deeds) o
-EndsTwo TwoWords.Audit recording certificate deeds o = EndsAs (WorksOn SearchesFile MakesFinding recording certificate deeds) o
-EndsTwo TwoWords.World script recording deeds o = EndsAs (WorksOn RunsFile MakesWorld script recording deeds) o
-EndsTwo TwoWords.Live script recording deeds o = EndsLive script recording deeds o
-EndsTwo TwoWords.Convert old new deeds o = EndsAs (WorksOn CarriesFile MakesConverted old new deeds) o
-EndsTwo TwoWords.Mend old new deeds o = EndsAs (WorksOn MendsFile MakesMended old new deeds) o
+abbrev pub EndsTwo : {L : Type 0} → Telling L → TwoWords → (first second : List ℕ) → List Deed → Outcome → Type 0
+EndsTwo told TwoWords.Check recording certificate deeds o = EndsAs (SaysOfFiles ChecksFiles recording certificate deeds) o
+EndsTwo told TwoWords.Audit recording certificate deeds o = EndsAs (WorksOn SearchesFile MakesFinding recording certificate deeds) o
+EndsTwo told TwoWords.World script recording deeds o = EndsAs (WorksOn RunsFile MakesWorld script recording deeds) o
+EndsTwo told TwoWords.Live script recording deeds o = EndsLive told script recording deeds o
+EndsTwo told TwoWords.Convert old new deeds o = EndsAs (WorksOn CarriesFile MakesConverted old new deeds) o
+EndsTwo told TwoWords.Mend old new deeds o = EndsAs (WorksOn MendsFile MakesMended old new deeds) o
 
 -- how a command ends that takes no words, and reads standard input, which has these bytes where they are known
 abbrev pub EndsBare : NoWord → Option (List ℕ) → Outcome → Type 0
 EndsBare NoWord.Pdus input o = (bytes : List ℕ) × Has input bytes × EndsLines (lines_of bytes) o
 
 -- HOW A TASK ENDS
-abbrev pub EndsTask : Asked → List Deed → Option (List ℕ) → Outcome → Type 0
-EndsTask Trial deeds input o = (deeds ≡ []) × EndsAs (TriesInput input) o
-EndsTask (Bare command) deeds input o = (deeds ≡ []) × EndsBare command input o
-EndsTask (One command word) deeds input o = EndsAs (DoesOne command word deeds) o
-EndsTask (Two command first second) deeds input o = EndsTwo command first second deeds o
-EndsTask (asks.Join pieces made form) deeds input o = EndsAs (JoinsPieces pieces made (word_of form) deeds) o
-EndsTask (View view recording filters spelling) deeds input o = EndsAs (DoesView view recording filters spelling deeds) o
+abbrev pub EndsTask : {L : Type 0} → Telling L → Asked → List Deed → Option (List ℕ) → Outcome → Type 0
+EndsTask told Trial deeds input o = (deeds ≡ []) × EndsAs (TriesInput input) o
+EndsTask told (Bare command) deeds input o = (deeds ≡ []) × EndsBare command input o
+EndsTask told (One command word) deeds input o = EndsAs (DoesOne command word deeds) o
+EndsTask told (Two command first second) deeds input o = EndsTwo told command first second deeds o
+EndsTask told (asks.Join pieces made form) deeds input o = EndsAs (JoinsPieces pieces made (word_of form) deeds) o
+EndsTask told (View view recording filters spelling) deeds input o = EndsAs (DoesView view recording filters spelling deeds) o
 
 -- HOW WORDS END that ask for no task: with want of memory, with the help that they ask for, or as a fault of usage, which is told on the writer of faults
 abbrev pub EndsUsage : (helps : Bool) → Outcome → Type 0
@@ -85,17 +89,17 @@ EndsUsage helps o =
     ⊎ ((helps ≡ false) × (o.ended.status ≡ 2) × Keeps o.out.old o.out.new)
 
 -- Words that ask for nothing of the table ask for help or break the usage, and no file is opened.
-abbrev pub EndsAsked : Option Asked → (helps : Bool) → List Deed → Option (List ℕ) → Outcome → Type 0
-EndsAsked (Some task) helps deeds input o = EndsTask task deeds input o
-EndsAsked None helps deeds input o = (deeds ≡ []) × EndsUsage helps o
+abbrev pub EndsAsked : {L : Type 0} → Telling L → Option Asked → (helps : Bool) → List Deed → Option (List ℕ) → Outcome → Type 0
+EndsAsked told (Some task) helps deeds input o = EndsTask told task deeds input o
+EndsAsked told None helps deeds input o = (deeds ≡ []) × EndsUsage helps o
 
 -- the words, or why they could not be had
 abbrev pub words_by : {E : Type 0} → (E → ErrorKind) → Result (Vec (String Global) Global) E → Result (List (List ℕ)) ErrorKind
 words_by kind (Ok words) = Ok (map string_bytes words.items)
 words_by kind (Err error) = Err (kind error)
 
--- HOW THE PROGRAM ENDS whose words are these, the program's name first, or could not be had: for want of memory, or since a word is not UTF-8
-abbrev pub EndsProgram : Result (List (List ℕ)) ErrorKind → List Deed → Option (List ℕ) → Outcome → Type 0
-EndsProgram (Ok words) deeds input o = EndsAsked (asked words) (asks_help words) deeds input o
-EndsProgram (Err kind) deeds input o =
+-- HOW THE PROGRAM ENDS whose words are these, the program's name first, or could not be had: for want of memory, or since a word is not UTF-8. Its lines tell what they tell.
+abbrev pub EndsProgram : {L : Type 0} → Telling L → Result (List (List ℕ)) ErrorKind → List Deed → Option (List ℕ) → Outcome → Type 0
+EndsProgram told (Ok words) deeds input o = EndsAsked told (asked words) (asks_help words) deeds input o
+EndsProgram told (Err kind) deeds input o =
     (deeds ≡ []) × (Keeps o.out.old o.out.new × ((fault : Fault) × IsToldAs kind Words fault × Ends (Err fault) o.ended o.errors.old o.errors.new))

@@ -6,7 +6,8 @@
 //! [`pdu_command`] and [`pdus_command`] for datagrams in hex text, [`show_command`] for recordings,
 //! [`check_command`] for a recording and its certificate, [`audit_command`] for the search of a
 //! recording, [`world_command`] for a script and the recording of its world, and [`trial`] for a
-//! script and the report of its world. The lines that they print are those of `siman_reports`;
+//! script and the report of its world. The lines that they print are those of `siman_reports` and
+//! `siman_logs`;
 //! [`filter_of`] reads the words that choose among them. The contracts of the commands give
 //! the status and the bytes on the writer of the answer; the writer of faults gets bytes only where
 //! the status is 2 or 3.
@@ -40,6 +41,7 @@ pub use outside::Outside;
 pub use program::audit::audit_command;
 pub use program::check::{LARGEST_CERTIFICATE, check_command, check_files};
 pub use program::convert::LARGEST_OLD_RECORDING;
+pub use program::log::log_command;
 pub use program::pdu::pdu_command;
 pub use program::pdus::pdus_command;
 pub use program::review::review_command;

@@ -8,8 +8,9 @@ use std::io::{Read, Write};
 /// The files that a program may open and make, and the lines that it may have. In contracts it may
 /// tell what it holds and what it did; the files of the operating system tell neither.
 pub trait Outside {
-    ghost use Rattle.std.specs.Prelude.{◌≡◌, ◌∷◌, [], ℕ, List, Option, None};
-    ghost use Rattle.siman_console.specs.Outside.{Found, Deed, Opens, Compares, Reads, Makes, Saves, Discards, LooksFor, Creates, Leaves, found_by, saved_by, Adds, IsHeld, IsFresh};
+    ghost use Rattle.std.specs.Prelude.{◌≡◌, ◌∷◌, [], ℕ, List, Option, Some, None, IfOk, slice_get};
+    ghost use Rattle.siman_lines.specs.Calls.{IsUnused};
+    ghost use Rattle.siman_console.specs.Outside.{Found, Deed, Opens, Compares, Reads, Makes, Saves, Discards, LooksFor, Lines, Creates, Leaves, found_by, saved_by, counted_by, Adds, IsHeld, IsFresh};
 
     /// A file that was opened to be read, of which nothing was read so far.
     type Opened: Drop;
@@ -80,7 +81,9 @@ pub trait Outside {
     fn close(&mut self, file: Self::Made)
         ensures done { Adds (deeds self.old) (deeds self.new) (Leaves (Self.Made.contents file) ∷ []) };
 
-    /// The lines of so many stations, each of which sends to all others. No file is opened or made.
+    /// The lines of so many stations, each of which sends to all others, and was handed nothing so
+    /// far. No file is opened or made.
     fn lines(&mut self, alloc: Global, stations: usize) -> io::Result<Vec<Self::Line>>
-        ensures done { Adds (deeds self.old) (deeds self.new) [] };
+        ensures done { Adds (deeds self.old) (deeds self.new) (Lines stations (counted_by result) ∷ []) }
+        ensures unused { IfOk result (λ lines. (number : ℕ) (l : Self.Line) → slice_get lines.items number ≡ Some l → IsUnused (Self.Line.sent l)) };
 }

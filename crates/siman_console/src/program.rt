@@ -6,12 +6,14 @@ ghost use Rattle.std.specs.List.{All};
 ghost use Rattle.siman_console.specs.Outside.{Deed, Adds, WasHeld, Stream, Outcome};
 ghost use Rattle.siman_console.specs.Program.{DoesOne, DoesView, EndsTwo, EndsTask, EndsProgram, words_by};
 ghost use Rattle.siman_words.specs.Words.{asked_by};
+ghost use Rattle.siman_lines.specs.AtLines.{Telling};
 
 pub(crate) mod audit;
 pub(crate) mod check;
 pub(crate) mod convert;
 mod join;
 mod live;
+pub(crate) mod log;
 mod mend;
 pub(crate) mod pdu;
 pub(crate) mod pdus;
@@ -28,6 +30,7 @@ use crate::program::check::CheckCommand;
 use crate::program::convert::Carried;
 use crate::program::join::{join_pieces, word_of};
 use crate::program::live::end_live;
+use crate::program::log::log_named;
 use crate::program::mend::MendedFile;
 use crate::program::pdu::tell_word;
 use crate::program::pdus::end_lines;
@@ -69,8 +72,9 @@ fn end_two<O: Outside, W: Write, E: Write>(
     out: &mut W,
     errors: &mut E,
 ) -> Ended
-    ensures { let o : Outcome = record { ended = result; out = record { old = W.contents out.old; new = W.contents out.new }; errors = record { old = E.contents errors.old; new = E.contents errors.new } } in
-        (deeds : List Deed) × Adds (O.deeds outside.old) (O.deeds outside.new) deeds × All (WasHeld (O.holds outside.old)) deeds × EndsTwo command words.entry.0.now words.entry.1.now deeds o }
+    ensures { let told : Telling O.Line = record { received = O.Line.received; sent = O.Line.sent; failures = O.Line.failures; strangers = O.Line.strangers } in
+        let o : Outcome = record { ended = result; out = record { old = W.contents out.old; new = W.contents out.new }; errors = record { old = E.contents errors.old; new = E.contents errors.new } } in
+        (deeds : List Deed) × Adds (O.deeds outside.old) (O.deeds outside.new) deeds × All (WasHeld (O.holds outside.old)) deeds × EndsTwo told command words.entry.0.now words.entry.1.now deeds o }
 {
     match command {
         TwoWords::Check => end(
@@ -113,6 +117,7 @@ fn do_view<'a, O: Outside, W: Write>(
     let (recording, words) = words;
     match view {
         ViewWord::Review => review_named(alloc, recording, words, spelling, outside, out),
+        ViewWord::Log => log_named(alloc, recording, words, spelling, outside, out),
     }
 }
 
@@ -125,8 +130,9 @@ fn end_task<'a, O: Outside, R: Read + Drop, W: Write, E: Write>(
     out: &mut W,
     errors: &mut E,
 ) -> Ended
-    ensures { let o : Outcome = record { ended = result; out = record { old = W.contents out.old; new = W.contents out.new }; errors = record { old = E.contents errors.old; new = E.contents errors.new } } in
-        (deeds : List Deed) × Adds (O.deeds outside.old) (O.deeds outside.new) deeds × All (WasHeld (O.holds outside.old)) deeds × EndsTask (asked_by string_bytes task.entry) deeds (R.remaining input) o }
+    ensures { let told : Telling O.Line = record { received = O.Line.received; sent = O.Line.sent; failures = O.Line.failures; strangers = O.Line.strangers } in
+        let o : Outcome = record { ended = result; out = record { old = W.contents out.old; new = W.contents out.new }; errors = record { old = E.contents errors.old; new = E.contents errors.new } } in
+        (deeds : List Deed) × Adds (O.deeds outside.old) (O.deeds outside.new) deeds × All (WasHeld (O.holds outside.old)) deeds × EndsTask told (asked_by string_bytes task.entry) deeds (R.remaining input) o }
 {
     match task {
         Task::Trial => end(TrialCommand.say(alloc, input, out), errors),
@@ -161,8 +167,9 @@ pub fn run<O: Outside, R: Read + Drop, W: Write, E: Write>(
     out: &mut W,
     errors: &mut E,
 ) -> Ended
-    ensures { let o : Outcome = record { ended = result; out = record { old = W.contents out.old; new = W.contents out.new }; errors = record { old = E.contents errors.old; new = E.contents errors.new } } in
-        (deeds : List Deed) × Adds (O.deeds outside.old) (O.deeds outside.new) deeds × All (WasHeld (O.holds outside.old)) deeds × EndsProgram (words_by error_kind words) deeds (R.remaining input) o }
+    ensures { let told : Telling O.Line = record { received = O.Line.received; sent = O.Line.sent; failures = O.Line.failures; strangers = O.Line.strangers } in
+        let o : Outcome = record { ended = result; out = record { old = W.contents out.old; new = W.contents out.new }; errors = record { old = E.contents errors.old; new = E.contents errors.new } } in
+        (deeds : List Deed) × Adds (O.deeds outside.old) (O.deeds outside.new) deeds × All (WasHeld (O.holds outside.old)) deeds × EndsProgram told (words_by error_kind words) deeds (R.remaining input) o }
 {
     let words = match words {
         Ok(words) => words,

@@ -1,65 +1,49 @@
 -- What `live` does with the stations and moves of a script, and how it ends (profile).
+pub mod Lived
 pub mod Moves
-use Rattle.std.specs.Prelude.{◌≡◌, ◌≢◌, ◌⊎◌, ◌≤◌, ◌<◌, ⊤, ℕ, Bool, true, false, List, [], ◌∷◌, ◌++◌, length, codes, Option, Result, Ok, Err}
-use Rattle.std.specs.Io.KnownBytes.{Appends, Keeps}
-use Rattle.byte_files.specs.Writing.{Writes, WritesPart}
-use Rattle.exercise_model.specs.declared.recording.TheConstants.{MOST_ENTRIES}
+use Rattle.std.specs.Prelude.{◌≡◌, ◌≢◌, ◌⊎◌, ⊤, ℕ, Bool, true, false, List, [], ◌∷◌, ◌++◌, length, codes, Option, Result, Ok, Err}
+use Rattle.std.specs.Io.KnownBytes.{Keeps}
+use Rattle.byte_files.specs.Writing.{Writes}
+use Rattle.exercise_model.specs.Setting.{SettingData}
 use Rattle.siman_scripts.specs.declared.script_fault.ScriptFault.TheVariants as scripts
 use Rattle.siman_worlds.specs.declared.world_fault.WorldFault.TheVariants as worlds
 use Rattle.siman_scripts.specs.Script.{ScriptData, script_at}
 use Rattle.siman_worlds.specs.World.{are_world_stations}
+use Rattle.siman_worlds.specs.Holds.{AreNewNodes}
 use Rattle.siman_console.specs.declared.fault.Fault.{Fault}
 use Rattle.siman_console.specs.declared.fault.Fault.TheVariants.{Script, ScriptRead, World, LineFailed, Output, Exists, Memory}
 use Rattle.siman_console.specs.declared.program.live.Begun.{Begun}
 use Rattle.std.specs.declared.io.ErrorKind.{ErrorKind}
 use Rattle.std.specs.declared.io.ErrorKind.TheVariants.{AlreadyExists, OutOfMemory}
-use Rattle.siman_console.specs.Outside.{Has, Stream, Outcome, Deed, LooksFor, Creates, Leaves}
-use Rattle.siman_console.specs.Ending.{Wrote, fault_line, status_of}
+use Rattle.siman_console.specs.Outside.{Has, Stream, Outcome, Deed, LooksFor, Lines, Creates, Leaves}
+use Rattle.siman_console.specs.Ending.{Wrote, fault_line, status_of, IsToldAs}
 use Rattle.siman_console.specs.Making.{Answered}
 use Rattle.siman_console.specs.Opening.{WorksOn}
 use Rattle.siman_reports.specs.Records.{line_end}
 use Rattle.siman_console.specs.declared.fault.Ended.{Ended}
-use Rattle.siman_reports.specs.CountLine.{counted}
-use Rattle.siman_texts.specs.Spelled.{line_text}
 use Rattle.siman_console.specs.Program.World.{Scripted}
+use Rattle.siman_console.specs.Program.Live.Lived.{setting_of, Lives}
+use Rattle.siman_lines.specs.declared.station_at_line.StationAtLine.{StationAtLine}
+use Rattle.siman_lines.specs.AtLines.{Telling, Misfits, posts_of}
+use Rattle.siman_scripts.specs.declared.act.Move.{Move}
 
--- live records=N
-abbrev pub live_text : ℕ → List ℕ
-live_text entries = line_text (counted (codes "live") (codes "records") entries)
-
--- WHAT COMES OF A SCRIPT BEFORE ITS MOVES: its stations begin and their lines stand, or it is told why not. The first line of the script that is refused, stations that a world cannot have, lines that cannot be had; a failed read may come in place of the script, want of memory at any time.
+-- WHAT COMES OF A SCRIPT BEFORE ITS MOVES: its stations begin, or it is told why not. The first line of the script that is refused, or stations that a world cannot have; a failed read may come in place of the script, want of memory at any time.
 abbrev pub BeginsNone : Scripted → Fault → Type 0
 BeginsNone scripted (Script (scripts.BadLine line)) = scripted ≡ Err (scripts.BadLine line)
 BeginsNone scripted (Script (scripts.UnknownStation line)) = scripted ≡ Err (scripts.UnknownStation line)
 BeginsNone scripted ScriptRead = ⊤
 BeginsNone scripted (World worlds.Stations) = (s : ScriptData) × (scripted ≡ Ok s) × (are_world_stations s.stations ≡ false)
-BeginsNone scripted LineFailed = (s : ScriptData) × (scripted ≡ Ok s) × (are_world_stations s.stations ≡ true)
 BeginsNone scripted Memory = ⊤
 BeginsNone scripted other = ⊥
 
--- WHAT IS TOLD OF SO MANY MOVES: with status 0 the line with the number of entries is out, whole. A move that is refused is one of these. After a failed write a prefix of the line is out, or nothing; after any other fault nothing.
-abbrev pub TellsMoves : (count : ℕ) → Result ℕ Fault → (out : Stream) → Type 0
-TellsMoves count (Ok status) out = (status ≡ 0) × ((n : ℕ) × (n ≤ MOST_ENTRIES) × Appends out.old out.new (live_text n))
-TellsMoves count (Err (World (worlds.Move number fault))) out = (number < count) × Keeps out.old out.new
-TellsMoves count (Err LineFailed) out = Keeps out.old out.new
-TellsMoves count (Err Output) out = Keeps out.old out.new ⊎ ((n : ℕ) × (n ≤ MOST_ENTRIES) × WritesPart out.old out.new (live_text n))
-TellsMoves count (Err Memory) out = Keeps out.old out.new
-TellsMoves count (Err other) out = ⊥
-
--- why moves halt, of which there are so many: a move that is refused is one of them
-abbrev pub HaltsIn : (count : ℕ) → Fault → Type 0
-HaltsIn count (World (worlds.Move number fault)) = number < count
-HaltsIn count LineFailed = ⊤
-HaltsIn count Output = ⊤
-HaltsIn count Memory = ⊤
-HaltsIn count other = ⊥
-
--- the stations of a script were begun, and its moves are these
+-- the stations of a script were begun, each with its halves, and its moves are these
 pub record IsBegun (scripted : Scripted) (begun : Begun) : Type 0 where
   pub script : ScriptData
   pub read : scripted ≡ Ok script
   pub stations : are_world_stations script.stations ≡ true
   pub moves : begun.moves.items ≡ script.moves
+  pub setting : begun.recording.setting ≡ setting_of script
+  pub nodes : AreNewNodes script.exercise script.stations begun.nodes.items
 
 abbrev pub Begins : Scripted → Result Begun Fault → Type 0
 Begins scripted (Ok begun) = IsBegun scripted begun
@@ -69,34 +53,45 @@ Begins scripted (Err fault) = BeginsNone scripted fault
 abbrev pub BeginsFile : (known : Option (List ℕ)) → Result Begun Fault → Type 0
 BeginsFile known begun = (text : List ℕ) × Has known text × Begins (script_at text) begun
 
--- how it is told that the lines of stations could not be had: want of memory, or else `live: line`
-abbrev pub IsUnlined : Fault → Type 0
-IsUnlined fault = (fault ≡ Memory) ⊎ (fault ≡ LineFailed)
-
 -- how it is told that a file was not created: want of memory, or that one stands there, or else as a failed write
 abbrev pub IsUncreated : ErrorKind → Fault → Type 0
 IsUncreated kind fault =
     ((kind ≡ OutOfMemory) × (fault ≡ Memory)) ⊎ ((kind ≡ AlreadyExists) × (fault ≡ Exists))
     ⊎ ((kind ≢ OutOfMemory) × (kind ≢ AlreadyExists) × (fault ≡ Output))
 
--- A FILE IS CREATED of what comes of so many moves, and left
-abbrev pub CreatesMoves : (name : List ℕ) → (count : ℕ) → List Deed → Answered → Stream → Type 0
-CreatesMoves name count (Creates made (Err kind) ∷ []) answered out =
+-- A FILE IS CREATED, in which the stations record what they do, and is left
+abbrev pub CreatesLived : {L : Type 0} → Telling L → SettingData → List Move → List (StationAtLine L) → (name : List ℕ) → List Deed → Answered → Stream → Type 0
+CreatesLived told w moves posts name (Creates made (Err kind) ∷ []) answered out =
     (made ≡ name) × Keeps out.old out.new × ((fault : Fault) × IsUncreated kind fault × (answered ≡ Err fault))
-CreatesMoves name count (Creates made (Ok fresh) ∷ Leaves left ∷ []) answered out = (made ≡ name) × TellsMoves count answered out
-CreatesMoves name count deeds answered out = ⊥
+CreatesLived told w moves posts name (Creates made (Ok fresh) ∷ Leaves left ∷ []) answered out =
+    (made ≡ name) × (let file : Stream = record { old = fresh; new = left } in Lives told w moves posts file answered out)
+CreatesLived told w moves posts name deeds answered out = ⊥
 
--- None is created where the lines of the stations could not be had.
-abbrev pub LivesAtLines : (name : List ℕ) → (count : ℕ) → List Deed → Answered → Stream → Type 0
-LivesAtLines name count deeds answered out =
-    ((fault : Fault) × IsUnlined fault × (answered ≡ Err fault) × (deeds ≡ []) × Keeps out.old out.new)
-    ⊎ CreatesMoves name count deeds answered out
+-- none is created, and nothing is out
+abbrev pub CreatesNone : Fault → List Deed → Answered → Stream → Type 0
+CreatesNone fault deeds answered out = (deeds ≡ []) × (answered ≡ Err fault) × Keeps out.old out.new
+
+-- STATIONS STAND AT THEIR LINES, post i with node i, line i and station i; none does where there are not as many lines as stations, or where memory runs out
+abbrev pub StandsAtLines : {L : Type 0} → Telling L → Begun → List L → (name : List ℕ) → List Deed → Answered → Stream → Type 0
+StandsAtLines told begun lines name deeds answered out =
+    (Misfits begun.nodes.items lines × CreatesNone LineFailed deeds answered out)
+    ⊎ CreatesNone Memory deeds answered out
+    ⊎ ((length lines ≡ length begun.nodes.items)
+    × CreatesLived told begun.recording.setting begun.moves.items (posts_of begun.nodes.items lines) name deeds answered out)
+
+-- AS MANY LINES AS STATIONS are asked for; that none could be had is told as `live: line`, or as want of memory
+abbrev pub LivesAtLines : {L : Type 0} → Telling L → Begun → (name : List ℕ) → List Deed → Answered → Stream → Type 0
+LivesAtLines told begun name (Lines stations (Err kind) ∷ deeds) answered out =
+    (stations ≡ length begun.nodes.items) × ((fault : Fault) × IsToldAs kind LineFailed fault × CreatesNone fault deeds answered out)
+LivesAtLines {L} told begun name (Lines stations (Ok count) ∷ deeds) answered out =
+    (stations ≡ length begun.nodes.items) × ((lines : List L) × (length lines ≡ count) × StandsAtLines told begun lines name deeds answered out)
+LivesAtLines told begun name deeds answered out = ⊥
 
 -- WHERE A FILE STANDS under the name nothing is done, and no line is asked for
-abbrev pub LivesBegun : Begun → (name : List ℕ) → List Deed → Answered → Stream → Type 0
-LivesBegun begun name (LooksFor looked true ∷ deeds) answered out = (looked ≡ name) × (deeds ≡ []) × (answered ≡ Err Exists) × Keeps out.old out.new
-LivesBegun begun name (LooksFor looked false ∷ deeds) answered out = (looked ≡ name) × LivesAtLines name (length begun.moves.items) deeds answered out
-LivesBegun begun name deeds answered out = ⊥
+abbrev pub LivesBegun : {L : Type 0} → Telling L → Begun → (name : List ℕ) → List Deed → Answered → Stream → Type 0
+LivesBegun told begun name (LooksFor looked true ∷ deeds) answered out = (looked ≡ name) × CreatesNone Exists deeds answered out
+LivesBegun told begun name (LooksFor looked false ∷ deeds) answered out = (looked ≡ name) × LivesAtLines told begun name deeds answered out
+LivesBegun told begun name deeds answered out = ⊥
 
 -- HOW `live` ENDS.
 
@@ -120,7 +115,7 @@ pub record EndsLived (created : Bool) (name : List ℕ) (answered : Answered) (e
   pub status_is : ended.status ≡ status_of answered
   pub tells : TellsLived created name answered ended.written old new
 
-abbrev pub EndsLive : (script recording : List ℕ) → List Deed → Outcome → Type 0
-EndsLive script recording deeds o =
-    (answered : Answered) × WorksOn BeginsFile LivesBegun script recording deeds answered o.out
+abbrev pub EndsLive : {L : Type 0} → Telling L → (script recording : List ℕ) → List Deed → Outcome → Type 0
+EndsLive told script recording deeds o =
+    (answered : Answered) × WorksOn BeginsFile (LivesBegun told) script recording deeds answered o.out
     × EndsLived (is_created deeds) recording answered o.ended o.errors.old o.errors.new

@@ -26,21 +26,25 @@ abbrev pub PassesOn : Result (Unit {0}) Fault → Option (List ℕ) → Option (
 PassesOn (Ok x) old new held text = IsPassedOn old new held text
 PassesOn (Err fault) old new held text = IsUnpassed fault × WritesPart old new text
 
--- the recording that was read is out whole, or a prefix of its text
-abbrev pub ShowsWhole : Result PlainRecording FormatFault → Option (List ℕ) → Option (List ℕ) → Type 0
-ShowsWhole recorded old new = (r : PlainRecording) × (recorded ≡ Ok r) × Appends old new (show_text r)
+-- a text of the recording that was read is out whole, or a prefix of it
+abbrev pub GivesWhole : (text : PlainRecording → List ℕ) → Result PlainRecording FormatFault → Option (List ℕ) → Option (List ℕ) → Type 0
+GivesWhole text recorded old new = (r : PlainRecording) × (recorded ≡ Ok r) × Appends old new (text r)
 
-abbrev pub ShowsPart : Result PlainRecording FormatFault → Option (List ℕ) → Option (List ℕ) → Type 0
-ShowsPart recorded old new = (r : PlainRecording) × (recorded ≡ Ok r) × WritesPart old new (show_text r)
+abbrev pub GivesPart : (text : PlainRecording → List ℕ) → Result PlainRecording FormatFault → Option (List ℕ) → Option (List ℕ) → Type 0
+GivesPart text recorded old new = (r : PlainRecording) × (recorded ≡ Ok r) × WritesPart old new (text r)
 
--- A recording was shown, or there was none to show; a failed read may come in its place, want of memory before it and while it is shown.
+-- A text of a recording was given, or there was none to give; a failed read may come in its place, want of memory before it and while it is given.
+abbrev pub Gives : (text : PlainRecording → List ℕ) → Result PlainRecording FormatFault → Result (Unit {0}) Fault → Option (List ℕ) → Option (List ℕ) → Type 0
+Gives text recorded (Ok x) old new = GivesWhole text recorded old new
+Gives text recorded (Err (Recording (recordings.Format fault))) old new = (recorded ≡ Err fault) × Keeps old new
+Gives text recorded (Err (Recording recordings.Read)) old new = Keeps old new
+Gives text recorded (Err Output) old new = GivesPart text recorded old new
+Gives text recorded (Err Memory) old new = Keeps old new ⊎ GivesPart text recorded old new
+Gives text recorded (Err other) old new = ⊥
+
+-- A recording was shown, or there was none to show.
 abbrev pub Shows : Result PlainRecording FormatFault → Result (Unit {0}) Fault → Option (List ℕ) → Option (List ℕ) → Type 0
-Shows recorded (Ok x) old new = ShowsWhole recorded old new
-Shows recorded (Err (Recording (recordings.Format fault))) old new = (recorded ≡ Err fault) × Keeps old new
-Shows recorded (Err (Recording recordings.Read)) old new = Keeps old new
-Shows recorded (Err Output) old new = ShowsPart recorded old new
-Shows recorded (Err Memory) old new = Keeps old new ⊎ ShowsPart recorded old new
-Shows recorded (Err other) old new = ⊥
+Shows recorded shown old new = Gives show_text recorded shown old new
 
 -- the status of a recording that was shown is 0
 abbrev pub shown_status : Result (Unit {0}) Fault → Result ℕ Fault

@@ -1,29 +1,30 @@
 //! The command `live`: the moves of a script, made by stations that each have a line of their own.
 
-ghost use Rattle.std.specs.Prelude.{◌≡◌, ◌≤◌, ◌++◌, ℕ, List, Option, Ok, Err, IfOk, IfErr, length, true, false};
+ghost use Rattle.std.specs.Prelude.{◌≡◌, ◌++◌, ℕ, List, Option, Ok, Err, length, true, false};
 ghost use Rattle.byte_files.specs.Writing.{Writes};
-ghost use Rattle.exercise_model.specs.declared.recording.TheConstants.{MOST_ENTRIES};
 ghost use Rattle.siman_scripts.specs.Script.{script_at};
 ghost use Rattle.std.specs.IoError.{error_kind};
 ghost use Rattle.std.specs.List.{All};
-ghost use Rattle.siman_lines.specs.AtLines.{Telling, AtLines, Follows};
+ghost use Rattle.exercise_model.specs.Setting.{IsSetting};
+ghost use Rattle.siman_lines.specs.AtLines.{Telling, AreFresh};
 ghost use Rattle.siman_console.specs.Ending.{fault_line};
 ghost use Rattle.siman_console.specs.Opening.{WorksOn};
-ghost use Rattle.siman_console.specs.Program.Live.{Begins, BeginsFile, TellsMoves, HaltsIn, IsUnlined, IsUncreated, CreatesMoves, LivesAtLines, LivesBegun, is_created, mend_line, EndsLived, EndsLive};
+ghost use Rattle.siman_console.specs.Program.Live.{Begins, BeginsFile, IsUncreated, CreatesLived, LivesAtLines, LivesBegun, is_created, mend_line, EndsLived, EndsLive};
+ghost use Rattle.siman_console.specs.Program.Live.Lived.{AreNew};
 ghost use Rattle.siman_console.specs.Outside.{Stream, Outcome, Deed, Found, Adds, WasHeld, Has};
 
 mod moves;
+mod recorded;
 
-use crate::fault::{Ended, Fault, tell};
+use crate::fault::{Ended, Fault, of_error, tell};
 use crate::input::read_text;
 use crate::opening::open_apart;
 use crate::outside::Outside;
-use crate::program::live::moves::{make_move, stand_at_lines};
+use crate::program::live::moves::stand_at_lines;
+use crate::program::live::recorded::{Recorded, record_moves, tell_entries};
 use byte_files::{WriteFailed, put, put_both};
-use exercise_model::{ExerciseLog, Recording};
-use exercise_recording::RecordingWriter;
-use siman_lines::{Line, StationAtLine};
-use siman_reports::counted;
+use exercise_model::Recording;
+use siman_lines::{StationAtLine, left_out};
 use siman_scripts::{LARGEST_SCRIPT, Move, Script, read_script};
 use siman_stations::Node;
 use siman_worlds::{Beginning, begin_world};
@@ -74,88 +75,6 @@ fn begin_read(alloc: Global, script: Script) -> Result<Begun, Fault<'static>>
     })
 }
 
-/// Makes moves in their order, each station at its line, and writes the recording of what the
-/// stations sent, received and told, entry by entry, and then the line. A Tick sends the repeat that is
-/// due, if one is; a Tell tells the state of the entity; a Deliver is passed over, since the lines
-/// deliver. After each other move four rounds serve each station in turn, for at most 64 receives.
-/// After a fault among the moves the recording has no end, and no line is out.
-fn put_moves<L: Line + Drop, F: Write, W: Write>(
-    alloc: Global,
-    head: &Recording,
-    stations: Vec<StationAtLine<L>>,
-    moves: Vec<Move>,
-    file: &mut F,
-    out: &mut W,
-) -> Result<u8, Fault<'static>>
-    ensures { let out : Stream = record { old = W.contents out.old; new = W.contents out.new } in
-        TellsMoves (length moves.items) result out }
-{
-    let entries = record_moves(alloc, head, stations, moves, file)?;
-    let line = counted(alloc, "live", "records", entries as usize)?;
-    match put(out, line.as_bytes()) {
-        Ok(()) => Ok(0),
-        Err(_) => Err(Fault::Output),
-    }
-}
-
-/// Makes moves in their order, and writes the recording of what comes of them. How many entries it
-/// has.
-fn record_moves<L: Line + Drop, F: Write>(
-    alloc: Global,
-    head: &Recording,
-    stations: Vec<StationAtLine<L>>,
-    moves: Vec<Move>,
-    file: &mut F,
-) -> Result<u32, Fault<'static>>
-    ensures count { IfOk result (λ n. n ≤ MOST_ENTRIES) }
-    ensures fault { IfErr result (HaltsIn (length moves.items)) }
-{
-    let setting = head.setting();
-    let started = RecordingWriter::start(file, setting.exercise(), setting.stations());
-    let Ok(mut recorder) = started else {
-        return Err(Fault::Output);
-    };
-    let mut stations = stations;
-    make_moves(alloc, &mut stations, &mut recorder, moves)?;
-    match recorder.finish() {
-        Ok(()) => Ok(recorder.entry_count()),
-        Err(_) => Err(Fault::Output),
-    }
-}
-
-/// Makes moves in their order, up to the first that cannot be made.
-fn make_moves<L: Line + Drop, W: Write>(
-    alloc: Global,
-    stations: &mut Vec<StationAtLine<L>>,
-    recorder: &mut RecordingWriter<'_, W>,
-    moves: Vec<Move>,
-) -> Result<(), Fault<'static>>
-    ensures fault { IfErr result (HaltsIn (length moves.items)) }
-    // What comes of them is what comes of calls at these stations, with a fault too.
-    ensures follows { let told : Telling L = record { received = L.received; sent = L.sent; failures = L.failures; strangers = L.strangers } in
-        let old : AtLines L = record { stations = stations.old.items; recorder = recorder.old } in
-        let new : AtLines L = record { stations = stations.new.items; recorder = recorder.new } in
-        Follows told old new }
-{
-    for (number, step) in moves.into_iter().enumerate() {
-        match make_move(alloc, stations, recorder, step) {
-            Ok(()) => {}
-            Err(halt) => return Err(halt.at(number)),
-        }
-    }
-    Ok(())
-}
-
-/// How it is told that the lines of the stations could not be had.
-fn unlined(error: &io::Error) -> Fault<'static>
-    ensures { IsUnlined result }
-{
-    if error.kind() == ErrorKind::OutOfMemory {
-        return Fault::Memory;
-    }
-    Fault::LineFailed
-}
-
 /// How it is told that a file could not be created.
 fn uncreated(error: &io::Error) -> Fault<'static>
     ensures { IsUncreated (error_kind error.now) result }
@@ -175,7 +94,7 @@ struct Lived<'a> {
 }
 
 /// Creates the file of a recording, in which the stations write what comes of their moves, and then
-/// tells the line.
+/// tells the line. The stations are as they are begun.
 fn create_live<O: Outside, W: Write>(
     alloc: Global,
     head: &Recording,
@@ -185,13 +104,18 @@ fn create_live<O: Outside, W: Write>(
     outside: &mut O,
     out: &mut W,
 ) -> Lived<'static>
-    ensures { let out : Stream = record { old = W.contents out.old; new = W.contents out.new } in
-        (deeds : List Deed) × Adds (O.deeds outside.old) (O.deeds outside.new) deeds × ((holds : List ℕ → Option Found) → All (WasHeld holds) deeds) × CreatesMoves name.now (length moves.items) deeds result.answered out × (result.created ≡ is_created deeds) }
+    requires { let told : Telling O.Line = record { received = O.Line.received; sent = O.Line.sent; failures = O.Line.failures; strangers = O.Line.strangers } in
+        IsSetting head.now.setting → AreFresh told head.now.setting stations.items }
+    ensures { let told : Telling O.Line = record { received = O.Line.received; sent = O.Line.sent; failures = O.Line.failures; strangers = O.Line.strangers } in
+        let out : Stream = record { old = W.contents out.old; new = W.contents out.new } in
+        (deeds : List Deed) × Adds (O.deeds outside.old) (O.deeds outside.new) deeds × ((holds : List ℕ → Option Found) → All (WasHeld holds) deeds) × CreatesLived told head.now.setting moves.items stations.items name.now deeds result.answered out × (result.created ≡ is_created deeds) }
 {
     match outside.create(name) {
         Ok(file) => {
-            let mut file = file;
-            let answered = put_moves(alloc, head, stations, moves, &mut file, out);
+            let mut stations = stations;
+            let recorded = record_moves(alloc, head, &mut stations, moves, file);
+            let Recorded { entries, file } = recorded;
+            let answered = tell_entries(alloc, entries, left_out(&stations), out);
             outside.close(file);
             Lived {
                 answered,
@@ -213,8 +137,10 @@ fn live_at_lines<O: Outside, W: Write>(
     outside: &mut O,
     out: &mut W,
 ) -> Lived<'static>
-    ensures { let out : Stream = record { old = W.contents out.old; new = W.contents out.new } in
-        (deeds : List Deed) × Adds (O.deeds outside.old) (O.deeds outside.new) deeds × ((holds : List ℕ → Option Found) → All (WasHeld holds) deeds) × LivesAtLines name.now (length begun.moves.items) deeds result.answered out × (result.created ≡ is_created deeds) }
+    requires { AreNew begun.recording.setting begun.nodes.items }
+    ensures { let told : Telling O.Line = record { received = O.Line.received; sent = O.Line.sent; failures = O.Line.failures; strangers = O.Line.strangers } in
+        let out : Stream = record { old = W.contents out.old; new = W.contents out.new } in
+        (deeds : List Deed) × Adds (O.deeds outside.old) (O.deeds outside.new) deeds × ((holds : List ℕ → Option Found) → All (WasHeld holds) deeds) × LivesAtLines told begun name.now deeds result.answered out × (result.created ≡ is_created deeds) }
 {
     let Begun {
         recording,
@@ -225,7 +151,7 @@ fn live_at_lines<O: Outside, W: Write>(
         Ok(lines) => lines,
         Err(error) => {
             return Lived {
-                answered: Err(unlined(&error)),
+                answered: Err(of_error(&error, Fault::LineFailed)),
                 created: false,
             };
         }
@@ -248,8 +174,10 @@ fn live_begun<O: Outside, W: Write>(
     outside: &mut O,
     out: &mut W,
 ) -> Lived<'static>
-    ensures { let out : Stream = record { old = W.contents out.old; new = W.contents out.new } in
-        (deeds : List Deed) × Adds (O.deeds outside.old) (O.deeds outside.new) deeds × ((holds : List ℕ → Option Found) → All (WasHeld holds) deeds) × LivesBegun begun name.now deeds result.answered out × (result.created ≡ is_created deeds) }
+    requires { AreNew begun.recording.setting begun.nodes.items }
+    ensures { let told : Telling O.Line = record { received = O.Line.received; sent = O.Line.sent; failures = O.Line.failures; strangers = O.Line.strangers } in
+        let out : Stream = record { old = W.contents out.old; new = W.contents out.new } in
+        (deeds : List Deed) × Adds (O.deeds outside.old) (O.deeds outside.new) deeds × ((holds : List ℕ → Option Found) → All (WasHeld holds) deeds) × LivesBegun told begun name.now deeds result.answered out × (result.created ≡ is_created deeds) }
 {
     if outside.is_taken(name) {
         return Lived {
@@ -268,8 +196,9 @@ fn live_of_file<'a, O: Outside, W: Write>(
     outside: &mut O,
     out: &mut W,
 ) -> Lived<'a>
-    ensures { let out : Stream = record { old = W.contents out.old; new = W.contents out.new } in
-        (deeds : List Deed) × Adds (O.deeds outside.old) (O.deeds outside.new) deeds × All (WasHeld (O.holds outside.old)) deeds × WorksOn BeginsFile LivesBegun names.entry.0.now names.entry.1.now deeds result.answered out × (result.created ≡ is_created deeds) }
+    ensures { let told : Telling O.Line = record { received = O.Line.received; sent = O.Line.sent; failures = O.Line.failures; strangers = O.Line.strangers } in
+        let out : Stream = record { old = W.contents out.old; new = W.contents out.new } in
+        (deeds : List Deed) × Adds (O.deeds outside.old) (O.deeds outside.new) deeds × All (WasHeld (O.holds outside.old)) deeds × WorksOn BeginsFile (LivesBegun told) names.entry.0.now names.entry.1.now deeds result.answered out × (result.created ≡ is_created deeds) }
 {
     match open_apart(names, outside) {
         Ok(opened) => match begin_script(alloc, outside.read(opened)) {
@@ -335,8 +264,9 @@ pub(crate) fn end_live<O: Outside, W: Write, E: Write>(
     out: &mut W,
     errors: &mut E,
 ) -> Ended
-    ensures { let o : Outcome = record { ended = result; out = record { old = W.contents out.old; new = W.contents out.new }; errors = record { old = E.contents errors.old; new = E.contents errors.new } } in
-        (deeds : List Deed) × Adds (O.deeds outside.old) (O.deeds outside.new) deeds × All (WasHeld (O.holds outside.old)) deeds × EndsLive words.entry.0.now words.entry.1.now deeds o }
+    ensures { let told : Telling O.Line = record { received = O.Line.received; sent = O.Line.sent; failures = O.Line.failures; strangers = O.Line.strangers } in
+        let o : Outcome = record { ended = result; out = record { old = W.contents out.old; new = W.contents out.new }; errors = record { old = E.contents errors.old; new = E.contents errors.new } } in
+        (deeds : List Deed) × Adds (O.deeds outside.old) (O.deeds outside.new) deeds × All (WasHeld (O.holds outside.old)) deeds × EndsLive told words.entry.0.now words.entry.1.now deeds o }
 {
     let lived = live_of_file(alloc, words, outside, out);
     end_lived(lived, words.1, errors)

@@ -4,7 +4,7 @@ ghost use Rattle.std.specs.Prelude.{◌≡◌, ◌+◌, ◌<◌, List, ℕ, leng
 ghost use Rattle.std.specs.Io.Buffered.{reader_remaining};
 ghost use Rattle.siman_scripts.specs.Text.{lines_of};
 ghost use Rattle.siman_console.specs.declared.hex_text.TheConstants.{LONGEST_HEX};
-ghost use Rattle.siman_console.specs.declared.fault.Fault.TheVariants.{Memory};
+ghost use Rattle.siman_console.specs.declared.fault.Fault.TheVariants.{Input, Memory};
 ghost use Rattle.siman_console.specs.declared.program.pdus.Stop.TheVariants as stops;
 ghost use Rattle.siman_console.specs.Ending.{Wrote};
 ghost use Rattle.siman_console.specs.Outside.{Has, Stream, Outcome};
@@ -31,6 +31,14 @@ impl From<AllocError> for Stop {
 
     fn from(_e: AllocError) -> Stop {
         Stop::Fault(Fault::Memory)
+    }
+}
+
+impl From<ReadFailed> for Stop {
+    ghost from_gives = { λ _ stop. stop ≡ stops.Fault Input };
+
+    fn from(_e: ReadFailed) -> Stop {
+        Stop::Fault(Fault::Input)
     }
 }
 
@@ -125,15 +133,13 @@ fn tell_lines<R: Read, W: Write, E: Write>(
 {
     let mut worst = 0;
     for number in 1..usize::MAX {
-        let held = match read_line(reader, buffer) {
-            Ok(Some(held)) => held,
-            Ok(None) => return Ok(worst),
-            Err(_) => return Err(Stop::Fault(Fault::Input)),
+        let Some(held) = read_line(reader, buffer)? else {
+            return Ok(worst);
         };
         let status = tell_line(alloc, number, &buffer[..held], out, errors)?;
         worst = worst.max(status);
     }
-    Err(Stop::Fault(Fault::Input))
+    Err(Stop::from(ReadFailed))
 }
 
 /// Reads the next line of a reader, which a line feed ends that the last may lack, and answers how

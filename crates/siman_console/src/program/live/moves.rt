@@ -6,7 +6,7 @@ ghost use Rattle.siman_lines.specs.AtLine.{Hinders};
 ghost use Rattle.siman_lines.specs.AtLines.{Telling, AtLines, posts_of, Misfits, Follows};
 ghost use Rattle.siman_lines.specs.KeptAtLine.{Keeps};
 ghost use Rattle.siman_worlds.specs.Acts.{as_move};
-ghost use Rattle.siman_console.specs.Program.Live.Moves.{live_fault, judged, move_fault, Gives, at_move};
+ghost use Rattle.siman_console.specs.Program.Live.Moves.{live_fault, judged, move_fault, Gives, at_move, of_done, ActEnds, JudgedEnds, MoveEnds, MovesEnd};
 
 use crate::fault::Fault;
 use exercise_model::MOST_ENTRIES;
@@ -74,6 +74,7 @@ pub(crate) fn stand_at_lines<L: Line + Drop>(
 fn of_station(done: Result<(), AtLineFault>) -> Result<(), Halt>
     ensures made { (reason : Option StationFault) → OnOk done (reason ≡ None) → OnOk result (as_move reason ≡ None) }
     ensures fault { (reason : Option StationFault) → IfErr done (Hinders reason) → IfErr result (Gives (as_move reason)) }
+    ensures named { result ≡ of_done done }
 {
     match done {
         Ok(()) => Ok(()),
@@ -94,6 +95,8 @@ fn act_at<L: Line + Drop, W: Write>(
 ) -> Result<(), Halt>
     ensures made { OnOk result (live_fault station.old.node now act ≡ None) }
     ensures fault { IfErr result (Gives (live_fault station.old.node now act)) }
+    ensures does { let told : Telling L = record { received = L.received; sent = L.sent; failures = L.failures; strangers = L.strangers } in
+        ActEnds told now act result station.old recorder.old station.new recorder.new }
     ensures index { station.new.index ≡ station.old.index }
     ensures keeps { Keeps station.old.index station.old.node recorder.old (L.sent station.old.line) station.new.node recorder.new (L.sent station.new.line) }
 {
@@ -107,7 +110,7 @@ fn act_at<L: Line + Drop, W: Write>(
 
 /// Makes a move, and serves what comes of it. A delivery is passed over, and nothing served: the
 /// lines deliver.
-pub(crate) fn make_move<L: Line + Drop, W: Write>(
+fn make_move<L: Line + Drop, W: Write>(
     alloc: Global,
     stations: &mut Vec<StationAtLine<L>>,
     recorder: &mut RecordingWriter<'_, W>,
@@ -115,6 +118,10 @@ pub(crate) fn make_move<L: Line + Drop, W: Write>(
 ) -> Result<(), Halt>
     ensures made { OnOk result (move_fault recorder.old.entries (option_map (λ (p : StationAtLine L). p.node) (slice_get stations.old.items step.station)) step.now step.act ≡ None) }
     ensures fault { IfErr result (Gives (move_fault recorder.old.entries (option_map (λ (p : StationAtLine L). p.node) (slice_get stations.old.items step.station)) step.now step.act)) }
+    ensures ends { let told : Telling L = record { received = L.received; sent = L.sent; failures = L.failures; strangers = L.strangers } in
+        let old : AtLines L = record { stations = stations.old.items; recorder = recorder.old } in
+        let new : AtLines L = record { stations = stations.new.items; recorder = recorder.new } in
+        MoveEnds told step old new result }
     // What comes of it is what comes of calls at these stations, with a fault too.
     ensures follows { let told : Telling L = record { received = L.received; sent = L.sent; failures = L.failures; strangers = L.strangers } in
         let old : AtLines L = record { stations = stations.old.items; recorder = recorder.old } in
@@ -136,6 +143,10 @@ fn judge_and_make<L: Line + Drop, W: Write>(
 ) -> Result<(), Halt>
     ensures made { OnOk result (judged recorder.old.entries (option_map (λ (p : StationAtLine L). p.node) (slice_get stations.old.items step.station)) step.now step.act ≡ None) }
     ensures fault { IfErr result (Gives (judged recorder.old.entries (option_map (λ (p : StationAtLine L). p.node) (slice_get stations.old.items step.station)) step.now step.act)) }
+    ensures ends { let told : Telling L = record { received = L.received; sent = L.sent; failures = L.failures; strangers = L.strangers } in
+        let old : AtLines L = record { stations = stations.old.items; recorder = recorder.old } in
+        let new : AtLines L = record { stations = stations.new.items; recorder = recorder.new } in
+        JudgedEnds told step old new result }
     // What comes of it is what comes of calls at these stations, with a fault too.
     ensures follows { let told : Telling L = record { received = L.received; sent = L.sent; failures = L.failures; strangers = L.strangers } in
         let old : AtLines L = record { stations = stations.old.items; recorder = recorder.old } in
@@ -157,4 +168,30 @@ fn judge_and_make<L: Line + Drop, W: Write>(
         act,
     )?;
     of_station(serve_rounds(alloc, stations, recorder, now, ROUNDS, TURNS))
+}
+
+/// Makes moves in their order, up to the first that cannot be made.
+pub(crate) fn make_moves<L: Line + Drop, W: Write>(
+    alloc: Global,
+    stations: &mut Vec<StationAtLine<L>>,
+    recorder: &mut RecordingWriter<'_, W>,
+    moves: Vec<Move>,
+) -> Result<(), Fault<'static>>
+    ensures ends { let told : Telling L = record { received = L.received; sent = L.sent; failures = L.failures; strangers = L.strangers } in
+        let old : AtLines L = record { stations = stations.old.items; recorder = recorder.old } in
+        let new : AtLines L = record { stations = stations.new.items; recorder = recorder.new } in
+        MovesEnd told moves.items old new result }
+    // What comes of them is what comes of calls at these stations, with a fault too.
+    ensures follows { let told : Telling L = record { received = L.received; sent = L.sent; failures = L.failures; strangers = L.strangers } in
+        let old : AtLines L = record { stations = stations.old.items; recorder = recorder.old } in
+        let new : AtLines L = record { stations = stations.new.items; recorder = recorder.new } in
+        Follows told old new }
+{
+    for (number, step) in moves.into_iter().enumerate() {
+        match make_move(alloc, stations, recorder, step) {
+            Ok(()) => {}
+            Err(halt) => return Err(halt.at(number)),
+        }
+    }
+    Ok(())
 }

@@ -6,6 +6,7 @@ use Rattle.siman_console.specs.Outside.{Deed, Reads, WasHeld}
 use Rattle.siman_console.specs.Program.Live.{is_created}
 use Rattle.siman_console.proofs.Openings.{adds_then, all_one}
 use Rattle.siman_console.proofs.Lived.{none_created}
+use Rattle.siman_console.proofs.Posts.{are_new}
 use Rattle.siman_console.proofs.program.live.live_of_file.Goals as goal
 
 pub returns-in-Ok-begin_script : goal.returns-in-Ok-begin_script
@@ -44,3 +45,7 @@ returns-in-Err g c =
       inl (c.in-Err.fault, opened.3, refl, Keeps-refl (g.W.Write.contents c.args.out.now)),
       sym (none_created _ _ opened.0 c.in-Err.fault opened.3),
     )
+
+pub live_begun-requires : goal.live_begun-requires
+live_begun-requires g c =
+    let begun = c.in-Ok-begin_script.ensures.2 in are_new begun.script _ _ begun.setting begun.nodes

@@ -1,5 +1,7 @@
 -- One line after the other is read and told.
 use Rattle.std.proofs.Common.{◌≡◌, ◌+◌, length, arith}
+use Rattle.siman_console.specs.declared.program.pdus.Stop.TheVariants as stops
+use Rattle.siman_console.specs.declared.fault.Fault.TheVariants.{Input}
 use Rattle.siman_console.specs.declared.hex_text.TheConstants.{LONGEST_HEX}
 use Rattle.siman_console.proofs.Tellings.{passed_on, told-none, told-more, told-short, told-all, told-unread}
 use Rattle.siman_console.proofs.program.pdus.tell_lines.Goals as goal
@@ -10,22 +12,23 @@ loop-number-init g c = (c.requires, told-none _ _ _)
 pub loop-number-preserved : goal.loop-number-preserved
 loop-number-preserved g c =
     let size : length c.read_line.new.buffer ≡ LONGEST_HEX + 1 = omega (arith, c.loop-number.invariant.0, c.read_line.auto.buffer) in
-    let holds = rw c.in-Ok-Some.field-0-is at c.in-Ok-Some.ensures in
+    let holds = rw c.in-Some.is at c.in_ok-held.ensures in
     (size, told-more c.loop-number.invariant.1 size holds c.max-worst.ensures c.in_ok-status.ensures)
 
 pub returns-in_err-status : goal.returns-in_err-status
 returns-in_err-status g c =
     let size : length c.read_line.new.buffer ≡ LONGEST_HEX + 1 = omega (arith, c.loop-number.invariant.0, c.read_line.auto.buffer) in
-    let holds = rw c.in-Ok-Some.field-0-is at c.in-Ok-Some.ensures in
+    let holds = rw c.in-Some.is at c.in_ok-held.ensures in
     let stop = c.in_err-status.field-0.0 in
-    passed_on _ stop c.from_residual.result _ _ c.from_residual.ensures.1 (told-short (g.W.Write.contents c.tell_line.new.out)
+    passed_on _ stop c.from_residual-in_err-status.result _ _ c.from_residual-in_err-status.ensures.1 (told-short (g.W.Write.contents c.tell_line.new.out)
     (g.E.Write.contents c.tell_line.new.errors) stop c.loop-number.invariant.1 size holds c.in_err-status.ensures)
 
-pub returns-in-Ok-None : goal.returns-in-Ok-None
-returns-in-Ok-None g c = told-all c.loop-number.invariant.1 (rw c.in-Ok-None.field-0-is at c.in-Ok-None.ensures)
+pub returns-in_default : goal.returns-in_default
+returns-in_default g c = told-all c.loop-number.invariant.1 (rw c.in_default.is at c.in_ok-held.ensures)
 
-pub returns-in-Err : goal.returns-in-Err
-returns-in-Err g c = told-unread c.loop-number.invariant.1
+pub returns-in_err-held : goal.returns-in_err-held
+returns-in_err-held g c =
+    passed_on _ (stops.Fault Input) c.from_residual.result _ _ c.from_residual.ensures.1 (told-unread c.loop-number.invariant.1)
 
 pub returns : goal.returns
-returns g c = told-unread c.loop-number.invariant.1
+returns g c = rw c.from.ensures (told-unread c.loop-number.invariant.1)

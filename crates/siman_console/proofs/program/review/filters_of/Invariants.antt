@@ -4,4 +4,4 @@ use Rattle.siman_console.specs.FilterWords.{filter_of}
 use Rattle.siman_console.proofs.program.review.filters_of.Given as goal
 
 abbrev pub invariant-loop-word : goal.invariant-loop-word
-invariant-loop-word g l = map filter_of (map g.S.AsStr.text (take l.word-index l.words)) ≡ map Some l.filters.items
+invariant-loop-word g l = map (filter_of l.view) (map g.S.AsStr.text (take l.word-index l.words)) ≡ map Some l.filters.items

@@ -3,6 +3,7 @@ use Rattle.std.proofs.KnownBytes.{Keeps-refl}
 use Rattle.std.proofs.Common.{subst}
 use Rattle.exercise_recording.specs.Reading.{recording_at}
 use Rattle.siman_console.specs.declared.program.show.TheConstants.{LARGEST_RECORDING}
+use Rattle.siman_reports.specs.EntryLines.{show_text}
 use Rattle.siman_console.specs.Program.Show.{Shows}
 use Rattle.siman_console.proofs.Inputs.{of_recording, of_any, unfetched_recording}
 use Rattle.siman_console.proofs.Shown.{recording_unread}
@@ -13,7 +14,7 @@ returns-in_err-bytes g c =
     let fault = c.in_err-bytes.field-0.0 in
     let kept = g.W.Write.contents c.args.out.now in
     of_any (λ bytes. Shows (recording_at LARGEST_RECORDING bytes) c.from_residual.result kept kept) (g.R.Read.remaining c.args.recording)
-    (λ bytes. recording_unread _ fault _ _ _ c.from_residual.ensures.1 (unfetched_recording fault _ c.in_err-bytes.ensures.failed) (Keeps-refl kept))
+    (λ bytes. recording_unread show_text _ fault _ _ _ c.from_residual.ensures.1 (unfetched_recording fault _ c.in_err-bytes.ensures.failed) (Keeps-refl kept))
 
 pub returns : goal.returns
 returns g c =

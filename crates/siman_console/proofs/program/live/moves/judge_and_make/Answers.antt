@@ -1,5 +1,8 @@
 -- The halves of the station decide.
 use Rattle.std.proofs.Common.{◌∙◌, None, arith, refl}
+use Rattle.siman_console.proofs.Inputs.{at_fault}
+use Rattle.siman_console.proofs.Moved.{hindered, served}
+use Rattle.siman_console.specs.Program.Live.Moves.{JudgedEnds}
 use Rattle.siman_console.proofs.Judged.{stands_at, judged_there, passes_on, on_any, served_any}
 use Rattle.siman_lines.proofs.Offered.{follows_none, follows_one, follows_then}
 use Rattle.siman_console.proofs.program.live.moves.judge_and_make.Goals as goal
@@ -34,3 +37,18 @@ returns-clause-follows g c =
     let there = stands_at c.args.stations.now.items c.from-2.result c.from-2.result p (omega arith) refl c.index_mut.ensures.value in
     follows_then _ _ _ _ (follows_one _ c.from-2.result c.args.stations.now.items c.args.recorder.now _ p _ there c.in_ok-act_at.ensures.index c.in_ok-act_at.ensures.keeps)
     c.serve_rounds.ensures.follows
+
+pub returns-in_err-act_at-clause-ends : goal.returns-in_err-act_at-clause-ends
+returns-in_err-act_at-clause-ends g c =
+    let p = c.index_mut.result.now in
+    let there = stands_at c.args.stations.now.items c.from-2.result c.args.step.station p (omega arith) c.from-2.ensures c.index_mut.ensures.value in
+    at_fault (JudgedEnds _ c.args.step _ _) c.in_err-act_at.field-0.0 c.from_residual.result c.from_residual.ensures.1
+    (hindered _ c.args.step c.from-2.result c.in_err-act_at.field-0.0 c.args.stations.now.items c.args.recorder.now _ p _ c.from-2.ensures there
+    c.in_err-act_at.ensures.does)
+
+pub returns-clause-ends : goal.returns-clause-ends
+returns-clause-ends g c =
+    let p = c.index_mut.result.now in
+    let there = stands_at c.args.stations.now.items c.from-2.result c.args.step.station p (omega arith) c.from-2.ensures c.index_mut.ensures.value in
+    served _ c.args.step c.from-2.result c.args.stations.now.items c.args.recorder.now _ p _ _ c.of_station.result c.serve_rounds.result c.from-2.ensures there
+    c.in_ok-act_at.ensures.does c.serve_rounds.ensures.ends c.of_station.ensures.named

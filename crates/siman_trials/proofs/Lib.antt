@@ -1,1 +1,3 @@
 pub mod Handed
+pub mod Posts
+pub mod Ends

@@ -1,0 +1,15 @@
+use Rattle.siman_lines.specs.AtLines.{Telling, AtLines, Follows}
+use Rattle.siman_trials.proofs.performed.make_moves.Given as goal
+
+-- what came of the moves so far
+abbrev pub invariant-loop-step : goal.invariant-loop-step
+invariant-loop-step g l =
+    let told : Telling g.row.L.Denot = record {
+      received = g.L.Line.received;
+      sent = g.L.Line.sent;
+      failures = g.L.Line.failures;
+      strangers = g.L.Line.strangers;
+    } in
+    let old : AtLines g.row.L.Denot = record { stations = l.fn.stations.items; recorder = l.fn.recorder } in
+    let new : AtLines g.row.L.Denot = record { stations = l.stations.items; recorder = l.recorder } in
+    Follows told old new

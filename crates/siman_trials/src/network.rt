@@ -1,0 +1,35 @@
+//! An exercise over a network in memory.
+
+ghost use Rattle.siman_worlds.specs.World.{WorldData, setting_of};
+ghost use Rattle.siman_trials.specs.Recorded.{Leaves};
+
+use crate::recorded::{ExerciseFault, Recorded, record_exercise};
+use crate::wire::lines_of;
+use siman_lines::AtLineFault;
+use siman_scripts::{Move, WorldStation};
+use std::alloc::Global;
+use std::io::Write;
+
+/// Records an exercise of stations on a network in memory, on which each hears all others, once and in
+/// order, and of whose calls, counted from 1, the one of this number fails. What is written explains
+/// itself, as of [`record_exercise`]: that each datagram received was sent before is all that it asks
+/// of the network.
+pub fn record_on_network<W: Write + Drop>(
+    alloc: Global,
+    exercise: u8,
+    stations: Vec<WorldStation>,
+    moves: Vec<Move>,
+    fails_at: Option<u64>,
+    file: W,
+) -> Recorded<W>
+    ensures { let w : WorldData = record { exercise = exercise; stations = stations.items } in
+        Leaves (setting_of w) (W.contents file) (W.contents result.file) result.ended }
+{
+    match lines_of(alloc, stations.len(), fails_at) {
+        Ok(lines) => record_exercise(alloc, exercise, stations, lines, moves, file),
+        Err(_) => Recorded {
+            ended: Err(ExerciseFault::Lines(AtLineFault::Memory)),
+            file,
+        },
+    }
+}

@@ -1,0 +1,92 @@
+//! Moves that stations make at their lines.
+
+ghost use Rattle.std.specs.Prelude.{◌≡◌};
+ghost use Rattle.siman_lines.specs.AtLines.{Telling, AtLines, Follows};
+ghost use Rattle.siman_lines.specs.KeptAtLine.{Keeps};
+
+use exercise_recording::RecordingWriter;
+use siman_lines::{AtLineFault, Line, StationAtLine, order_at, repeat_at, serve_rounds, tell_at};
+use siman_scripts::{Act, Move};
+use std::alloc::Global;
+use std::io::Write;
+
+/// How many rounds follow a move.
+const ROUNDS: u32 = 4;
+
+/// How many receives a station makes at most in a round.
+const TURNS: u32 = 64;
+
+/// Why a move was not made, or what came of it not served.
+#[derive(Clone, Copy, Debug, PartialEq, Eq)]
+pub enum Halt {
+    /// There is no station of its index.
+    NoSuchStation,
+    /// A station was hindered at its line.
+    AtLine(AtLineFault),
+}
+
+/// A station does an act at its line; the lines deliver.
+fn act_at<L: Line + Drop, W: Write>(
+    alloc: Global,
+    station: &mut StationAtLine<L>,
+    recorder: &mut RecordingWriter<'_, W>,
+    now: u64,
+    act: Act,
+) -> Result<(), AtLineFault>
+    ensures index { station.new.index ≡ station.old.index }
+    ensures keeps { Keeps station.old.index station.old.node recorder.old (L.sent station.old.line) station.new.node recorder.new (L.sent station.new.line) }
+{
+    match act {
+        Act::Command(order) => order_at(alloc, station, recorder, now, order),
+        Act::Deliver(_) => Ok(()),
+        Act::Tick => repeat_at(alloc, station, recorder, now),
+        Act::Tell(entity) => tell_at(station, recorder, entity),
+    }
+}
+
+/// Makes a move, and serves what comes of it.
+fn make_move<L: Line + Drop, W: Write>(
+    alloc: Global,
+    stations: &mut Vec<StationAtLine<L>>,
+    recorder: &mut RecordingWriter<'_, W>,
+    step: Move,
+) -> Result<(), Halt>
+    ensures follows { let told : Telling L = record { received = L.received; sent = L.sent; failures = L.failures; strangers = L.strangers } in
+        let old : AtLines L = record { stations = stations.old.items; recorder = recorder.old } in
+        let new : AtLines L = record { stations = stations.new.items; recorder = recorder.new } in
+        Follows told old new }
+{
+    let Move { now, station, act } = step;
+    let number = usize::from(station);
+    if number >= stations.len() {
+        return Err(Halt::NoSuchStation);
+    }
+    if let Err(fault) = act_at(alloc, &mut stations[number], recorder, now, act) {
+        return Err(Halt::AtLine(fault));
+    }
+    match serve_rounds(alloc, stations, recorder, now, ROUNDS, TURNS) {
+        Ok(()) => Ok(()),
+        Err(fault) => Err(Halt::AtLine(fault)),
+    }
+}
+
+/// Makes moves in their order, up to the first that fails. A Command issues its order, a Tick repeats
+/// what is due, a Tell tells a state, and a Deliver does nothing, since the lines deliver; after each of
+/// them four rounds serve each station in turn, for at most 64 receives.
+pub fn make_moves<L: Line + Drop, W: Write>(
+    alloc: Global,
+    stations: &mut Vec<StationAtLine<L>>,
+    recorder: &mut RecordingWriter<'_, W>,
+    moves: Vec<Move>,
+) -> Result<(), Halt>
+    // What comes of them is what comes of calls at these stations, with a fault too.
+    ensures follows { let told : Telling L = record { received = L.received; sent = L.sent; failures = L.failures; strangers = L.strangers } in
+        let old : AtLines L = record { stations = stations.old.items; recorder = recorder.old } in
+        let new : AtLines L = record { stations = stations.new.items; recorder = recorder.new } in
+        Follows told old new }
+{
+    for step in moves {
+        make_move(alloc, stations, recorder, step)?;
+    }
+    Ok(())
+}

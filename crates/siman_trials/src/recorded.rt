@@ -1,0 +1,148 @@
+//! The recording of an exercise, from the beginning of its stations to the end of its file.
+
+ghost use Rattle.std.specs.Prelude.{◌≡◌, ℕ, List, Option};
+ghost use Rattle.exercise_model.specs.Recording.{opened};
+ghost use Rattle.exercise_model.specs.Setting.{SettingData, IsSetting};
+ghost use Rattle.exercise_recording.specs.Writer.{Starts};
+ghost use Rattle.siman_lines.specs.AtLines.{Telling, AreFresh};
+ghost use Rattle.siman_worlds.specs.Holds.{AreNewNodes};
+ghost use Rattle.siman_worlds.specs.World.{WorldData, setting_of};
+ghost use Rattle.siman_trials.specs.Recorded.{Leaves, AreUnused};
+
+use crate::performed::{Halt, make_moves};
+use exercise_model::Recording;
+use exercise_recording::{RecordingWriter, WriterFault};
+use siman_lines::{AtLineFault, Line, StationAtLine, lines_make_a_run, stations_at_lines};
+use siman_scripts::{Move, WorldStation};
+use siman_worlds::{Beginning, WorldFault, begin_world};
+use std::alloc::Global;
+use std::io::Write;
+
+/// Why the recording of an exercise has no end.
+#[derive(Clone, Copy, Debug, PartialEq, Eq)]
+pub enum ExerciseFault {
+    /// The stations are none of a world, or memory ran out.
+    World(WorldFault),
+    /// There are not as many lines as stations, or memory ran out.
+    Lines(AtLineFault),
+    /// A move was not made, or what came of it not served.
+    Move(Halt),
+    /// The head or the end was not written.
+    Record(WriterFault),
+}
+
+/// The recording of an exercise.
+#[derive(Drop)]
+pub struct Recorded<W: Drop> {
+    /// Whether it has its end, or why not.
+    pub ended: Result<(), ExerciseFault>,
+    /// The file that it stands in.
+    pub file: W,
+}
+
+/// Makes moves in their order, and ends the recording. Of stations as they are begun, and a recorder
+/// that was started, all that is written explains itself.
+fn end_moves<L: Line + Drop, W: Write>(
+    alloc: Global,
+    stations: &mut Vec<StationAtLine<L>>,
+    recorder: &mut RecordingWriter<'_, W>,
+    moves: Vec<Move>,
+) -> Result<(), ExerciseFault>
+    ensures { let told : Telling L = record { received = L.received; sent = L.sent; failures = L.failures; strangers = L.strangers } in
+        (before : Option (List ℕ)) (w : SettingData) → AreFresh told w stations.old.items → Starts before w recorder.old
+        → Leaves w before recorder.new.contents result }
+{
+    lines_make_a_run::<L>();
+    if let Err(fault) = make_moves(alloc, stations, recorder, moves) {
+        return Err(ExerciseFault::Move(fault));
+    }
+    match recorder.finish() {
+        Ok(()) => Ok(()),
+        Err(fault) => Err(ExerciseFault::Record(fault)),
+    }
+}
+
+/// Starts the recording of stations at their lines, makes their moves, and ends it.
+fn record_at_lines<L: Line + Drop, W: Write + Drop>(
+    alloc: Global,
+    head: &Recording,
+    stations: Vec<StationAtLine<L>>,
+    moves: Vec<Move>,
+    file: W,
+) -> Recorded<W>
+    ensures { let told : Telling L = record { received = L.received; sent = L.sent; failures = L.failures; strangers = L.strangers } in
+        (IsSetting head.now.setting → AreFresh told head.now.setting stations.items)
+        → Leaves head.now.setting (W.contents file) (W.contents result.file) result.ended }
+{
+    let setting = head.setting();
+    let begun = RecordingWriter::begin(
+        file,
+        setting.form(),
+        setting.exercise(),
+        setting.stations(),
+    );
+    let mut recorder = match begun {
+        Ok(recorder) => recorder,
+        Err(unstarted) => {
+            return Recorded {
+                ended: Err(ExerciseFault::Record(unstarted.fault)),
+                file: unstarted.writer,
+            };
+        }
+    };
+    let mut stations = stations;
+    let ended = end_moves(alloc, &mut stations, &mut recorder, moves);
+    let file = recorder.into_inner();
+    Recorded { ended, file }
+}
+
+/// Puts the stations of a world at their lines, and records what they do.
+fn record_begun<L: Line + Drop, W: Write + Drop>(
+    alloc: Global,
+    begun: Beginning,
+    lines: Vec<L>,
+    moves: Vec<Move>,
+    file: W,
+) -> Recorded<W>
+    ensures { (w : WorldData) → begun.recording ≡ opened (setting_of w) → AreNewNodes w.exercise w.stations begun.nodes.items → AreUnused L.sent lines.items
+        → Leaves (setting_of w) (W.contents file) (W.contents result.file) result.ended }
+{
+    let Beginning { recording, nodes } = begun;
+    match stations_at_lines(alloc, nodes, lines) {
+        Ok(stations) => record_at_lines(alloc, &recording, stations, moves, file),
+        Err(fault) => Recorded {
+            ended: Err(ExerciseFault::Lines(fault)),
+            file,
+        },
+    }
+}
+
+/// Records an exercise from its beginning to its end: the stations of a world are begun, each is put at
+/// its line, and a recording is started; the moves are made in their order, and after each of them the
+/// stations are served ([`make_moves`]); then the recording is ended. Its setting is that of the
+/// stations, in the first form. Of each line nothing was sent before.
+///
+/// Whatever the lines lose, copy, delay or swap, the recording that was written explains itself: its
+/// entries, in the order of the file, are a run that explains it. That asks for no more than that each
+/// datagram received was sent before. After a fault nothing stands in the file, or the beginning of
+/// such a recording, of whose entries the same is so.
+pub fn record_exercise<L: Line + Drop, W: Write + Drop>(
+    alloc: Global,
+    exercise: u8,
+    stations: Vec<WorldStation>,
+    lines: Vec<L>,
+    moves: Vec<Move>,
+    file: W,
+) -> Recorded<W>
+    requires unused { AreUnused L.sent lines.items }
+    ensures { let w : WorldData = record { exercise = exercise; stations = stations.items } in
+        Leaves (setting_of w) (W.contents file) (W.contents result.file) result.ended }
+{
+    match begin_world(alloc, exercise, stations) {
+        Ok(begun) => record_begun(alloc, begun, lines, moves, file),
+        Err(fault) => Recorded {
+            ended: Err(ExerciseFault::World(fault)),
+            file,
+        },
+    }
+}

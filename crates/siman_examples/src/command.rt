@@ -1,0 +1,32 @@
+//! Commands, and what they say.
+
+ghost use Rattle.std.specs.Prelude.{List, length, ℕ, ◌≡◌, ◌≤◌};
+ghost use Rattle.exercise_check.specs.declared.certificate.Step.{Step};
+ghost use Rattle.exercise_model.specs.Conversion.{converted};
+ghost use Rattle.exercise_model.specs.declared.form.Form.TheVariants.{First};
+ghost use Rattle.hex.specs.Hex.{IsBytes, encode_lower};
+ghost use Rattle.siman_console.specs.Answer.{said_of_hex, said_of_pdu};
+ghost use Rattle.siman_console.specs.Program.Check.{IsDue};
+ghost use Rattle.siman_pdus.specs.Spelling.{Spells};
+ghost use Rattle.siman_pdus.specs.declared.pdu.Pdu.{Pdu};
+ghost use Rattle.siman_reports.specs.Report.{report_text};
+
+use exercise_model::Recording;
+use siman_console::{answers_follow_the_grammar, conversion_keeps_answers};
+
+/// What the commands say of a recording they say of its conversion: its report is the same text
+/// (`report`), and what `check` is to say of it with some certificate is the same too (`checked`).
+pub fn say_the_same_of_the_archive(recording: &Recording)
+    ensures report { report_text (converted recording.now) ≡ report_text recording.now }
+    ensures checked { recording.now.setting.form ≡ First → (steps : List Step) (text : List ℕ) → IsDue recording.now steps text
+        → IsDue (converted recording.now) steps text }
+{
+    conversion_keeps_answers();
+}
+
+/// A datagram may be given in hex digits: one that spells a PDU is answered for as that PDU.
+pub fn take_hex_digits()
+    ensures { (pdu : Pdu) (b : List ℕ) → Spells pdu b → IsBytes b → length b ≤ 32768 → said_of_hex (encode_lower b) ≡ said_of_pdu pdu }
+{
+    answers_follow_the_grammar();
+}

@@ -1,0 +1,73 @@
+//! What a reader can learn from the laws of siman: short functions, each of which makes a use of one law
+//! or more that a reader would have, and is proved by it.
+//!
+//! Nothing of siman rests on this crate. A law is a function without a body, whose contract is a theorem
+//! over the definitions in `specs/`; a function calls it, and may then conclude what it says. Each file
+//! has one noun of the field, each function the name of what is learned of it.
+#![tactic(auto)]
+
+mod able;
+mod address;
+mod answer;
+mod archive;
+mod archived;
+mod auditor;
+mod certificate;
+mod change;
+mod command;
+mod contradiction;
+mod copies;
+mod datagram;
+mod entity;
+mod file;
+mod gap;
+mod line;
+mod log;
+mod manager;
+mod order;
+mod part;
+mod pieces;
+mod report;
+mod script;
+mod search;
+mod station;
+mod stranger;
+mod torn;
+mod version;
+mod wait;
+mod writer;
+
+pub use able::may_be_relied_on;
+pub use address::comes_before;
+pub use answer::has_one_request;
+pub use archive::{may_be_converted, need_one_byte_more};
+pub use archived::{need_no_second_check, need_no_second_search};
+pub use auditor::{found_what_others_find, reviewed_the_archive};
+pub use certificate::says_one_order;
+pub use change::made_the_state;
+pub use command::{say_the_same_of_the_archive, take_hex_digits};
+pub use contradiction::{
+    is_against_its_own_log, is_beyond_mending, is_set_right, is_shown_by_two_entries,
+};
+pub use copies::change_no_answer;
+pub use datagram::{end_of_one_pdu, length_that_is_read};
+pub use entity::changes_by_an_able_alone;
+pub use file::says_one_thing;
+pub use gap::must_be_filled;
+pub use line::{explain_what_they_wrote, leave_a_recording};
+pub use log::{grows_by_no_filter, is_read_by_programs, names_each_datum_once};
+pub use manager::sends_nothing_too_often;
+pub use order::{change_carried_out, fate_told, is_known_to_its_maker};
+pub use part::may_be_blamed_alone;
+pub use pieces::{are_blamed_one_by_one, come_in_any_order, lose_no_entry, may_be_one};
+pub use report::{
+    names_each_field_once, says_in_json_what_the_text_says, says_the_same_of_the_archive,
+};
+pub use script::explain_themselves;
+pub use search::no_luck_is_needed;
+pub use station::answers_rightly;
+pub use stranger::may_be_heard;
+pub use torn::{are_mended_once, lose_nothing_that_was_written};
+pub use version::has_status;
+pub use wait::{block_in_a_ring, lead_to_an_end};
+pub use writer::record_one_datagram;

@@ -1,0 +1,41 @@
+//! Lines of a log.
+
+ghost use Rattle.std.specs.List.{flat_map};
+ghost use Rattle.std.specs.Prelude.{[], List, length, true, ℕ, ◌≡◌, ◌≤◌};
+ghost use Rattle.dis_records.specs.Datum.{Datum};
+ghost use Rattle.dis_records.specs.declared.datum.FixedDatum.{FixedDatum};
+ghost use Rattle.exercise_model.specs.Recording.{PlainRecording};
+ghost use Rattle.exercise_review.specs.declared.filter.Filter.{Filter};
+ghost use Rattle.siman_logs.specs.Log.{log_lines, log_spelled};
+ghost use Rattle.siman_logs.specs.Records.{fixed_logged, id_logged, variable_logged};
+ghost use Rattle.siman_texts.specs.Keys.{has_no_key_twice};
+ghost use Rattle.siman_texts.specs.Line.{Line};
+ghost use Rattle.siman_texts.specs.Spelled.{line_json, line_text};
+ghost use Rattle.siman_texts.specs.declared.spelling.Spelling.TheVariants.{Json, Text};
+
+use siman_logs::{filters_take_away, json_says_the_same, log_keys_come_once};
+
+/// A filter adds no line to a log.
+pub fn grows_by_no_filter()
+    ensures { (r : PlainRecording) (filters : List Filter) → length (log_lines r filters) ≤ length (log_lines r []) }
+{
+    filters_take_away();
+}
+
+/// A program that reads a log in JSON reads the lines that a person reads in its text.
+pub fn is_read_by_programs()
+    ensures { (r : PlainRecording) (filters : List Filter) → (lines : List Line)
+        × (log_spelled Text r filters ≡ flat_map line_text lines) × (log_spelled Json r filters ≡ flat_map line_json lines) }
+{
+    json_says_the_same();
+}
+
+/// Whoever reads the records of a log in JSON into a table loses no field: no line of a datum, or of an
+/// identifier that is asked for, has a key twice.
+pub fn names_each_datum_once()
+    ensures fixed { (entry : ℕ) (datum : FixedDatum) → has_no_key_twice (fixed_logged entry datum) ≡ true }
+    ensures variable { (entry : ℕ) (datum : Datum) → has_no_key_twice (variable_logged entry datum) ≡ true }
+    ensures asked { (name : List ℕ) (entry id : ℕ) → has_no_key_twice (id_logged name entry id) ≡ true }
+{
+    log_keys_come_once();
+}

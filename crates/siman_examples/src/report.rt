@@ -1,0 +1,64 @@
+//! Lines that are printed of a recording.
+
+ghost use Rattle.std.specs.List.{flat_map};
+ghost use Rattle.std.specs.Prelude.{Bool, IfOk, List, string_bytes, true, ℕ, ◌≡◌};
+ghost use Rattle.exercise_conflict.specs.declared.clash.Clash.{Clash};
+ghost use Rattle.exercise_model.specs.Conversion.{converted};
+ghost use Rattle.exercise_model.specs.Entry.{Entry};
+ghost use Rattle.exercise_model.specs.Recording.{PlainRecording};
+ghost use Rattle.exercise_model.specs.declared.form.Form.TheVariants.{First};
+ghost use Rattle.exercise_review.specs.Review.{TellsReview};
+ghost use Rattle.exercise_review.specs.declared.filter.Filter.{Filter};
+ghost use Rattle.exercise_review.specs.declared.told.OrderAt.{OrderAt};
+ghost use Rattle.siman_conflicts.specs.Lines.{clash_line};
+ghost use Rattle.siman_pdus.specs.declared.pdu.Pdu.{Pdu};
+ghost use Rattle.siman_reports.specs.EntryLines.{entry_line};
+ghost use Rattle.siman_reports.specs.Head.{head_line};
+ghost use Rattle.siman_reports.specs.Review.{kept_lines, order_line, review_line, review_lines};
+ghost use Rattle.siman_texts.specs.Keys.{has_no_key_twice};
+ghost use Rattle.siman_texts.specs.Spelled.{line_json};
+
+use exercise_model::{ExerciseLog, Recording};
+use exercise_review::{Filter, Review};
+use siman_conflicts::conflict_keys_come_once;
+use siman_reports::{
+    conversion_keeps_lines, json_says_the_same, keys_come_once, review_keys_come_once, review_text,
+};
+use siman_texts::Spelling;
+use std::alloc::{AllocError, Global};
+
+/// A review in JSON: it has a line for each line of the text, of the same fields, so a program that reads
+/// it misses nothing.
+pub fn says_in_json_what_the_text_says<L: ExerciseLog>(
+    alloc: Global,
+    log: &L,
+    explained: bool,
+    filters: &[Filter],
+    review: &Review,
+) -> Result<String, AllocError>
+    requires { TellsReview (L.recording log.now) review.now }
+    ensures { IfOk result (λ text. string_bytes text ≡ flat_map line_json (review_lines (L.recording log.now) explained filters.now)) }
+{
+    json_says_the_same();
+    review_text(alloc, Spelling::Json, log, explained, filters, review)
+}
+
+/// Whoever reads the lines in JSON into a table loses no field: no line of a PDU, of an entry, of a
+/// review or of what an entry contradicts has a key twice.
+pub fn names_each_field_once()
+    ensures pdus { (pdu : Pdu) → has_no_key_twice (head_line pdu) ≡ true }
+    ensures entries { (exercise index : ℕ) (entry : Entry) → has_no_key_twice (entry_line exercise index entry) ≡ true }
+    ensures reviews { (r : PlainRecording) (explained : Bool) (x : OrderAt) → (has_no_key_twice (review_line r explained) ≡ true) × (has_no_key_twice (order_line x) ≡ true) }
+    ensures clashes { (r : PlainRecording) (entry : ℕ) (clash : Clash) → has_no_key_twice (clash_line r entry clash) ≡ true }
+{
+    keys_come_once();
+    review_keys_come_once();
+    conflict_keys_come_once();
+}
+
+/// The lines of an archive under a filter are those of the recording that it was made from.
+pub fn says_the_same_of_the_archive(recording: &Recording)
+    ensures { recording.now.setting.form ≡ First → (filters : List Filter) → kept_lines (converted recording.now) filters ≡ kept_lines recording.now filters }
+{
+    conversion_keeps_lines();
+}

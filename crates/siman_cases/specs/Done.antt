@@ -4,7 +4,7 @@ use Rattle.std.specs.IoError.{error_kind}
 use Rattle.std.specs.declared.io.Error.{Error}
 use Rattle.std.specs.declared.io.ErrorKind.{ErrorKind}
 use Rattle.http_server.specs.declared.log.Log.{Log}
-use Rattle.siman_console.specs.Outside.{Stream, Found, Deed, Opens, Compares, Reads, Makes, Saves, Discards, LooksFor, Creates, Leaves}
+use Rattle.siman_console.specs.Outside.{Stream, Found, Deed, Opens, Compares, Reads, Makes, Saves, Discards, LooksFor, Lines, Creates, Leaves}
 use Rattle.siman_cases.specs.declared.done.Done.{Done}
 use Rattle.siman_cases.specs.declared.done.Done.TheVariants as done
 
@@ -29,6 +29,7 @@ deed_of done.Saved = Saves None (Ok tt)
 deed_of done.Discarded = Discards None
 deed_of (done.LookedFor name taken) = LooksFor (letters_of name) taken
 deed_of (done.Created name failed) = Creates (letters_of name) (found_of failed)
+deed_of (done.Lined stations had) = Lines stations had
 deed_of done.Left = Leaves None
 
 abbrev pub deeds_of : Log Done (Unit {0}) → List Deed

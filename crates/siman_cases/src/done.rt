@@ -2,6 +2,7 @@
 
 ghost use Rattle.std.specs.Prelude.{◌≡◌};
 ghost use Rattle.siman_cases.specs.Done.{letters_of, found_of, found_as};
+ghost use Rattle.siman_console.specs.Outside.{counted_by};
 
 use http_server::Log;
 use std::io;
@@ -21,6 +22,8 @@ pub(crate) enum Done {
     Discarded,
     LookedFor(Letters, bool),
     Created(Letters, Option<ErrorKind>),
+    /// Lines of so many stations were asked for, and how many were had.
+    Lined(usize, Result<usize, ErrorKind>),
     Left,
 }
 
@@ -42,5 +45,15 @@ pub(crate) fn failure<T>(answer: &io::Result<T>) -> Option<ErrorKind>
     match answer {
         Ok(_) => None,
         Err(error) => Some(error.kind()),
+    }
+}
+
+/// How many there are, or why there are none.
+pub(crate) fn number<T>(answer: &io::Result<Vec<T>>) -> Result<usize, ErrorKind>
+    ensures { result ≡ counted_by answer.now }
+{
+    match answer {
+        Ok(items) => Ok(items.len()),
+        Err(error) => Err(error.kind()),
     }
 }

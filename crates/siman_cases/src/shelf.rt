@@ -3,7 +3,7 @@
 ghost use Rattle.std.specs.Prelude.{◌≡◌, ◌∷◌, [], ◌++◌};
 ghost use Rattle.siman_cases.specs.Done.{deed_of, deeds_of};
 
-use crate::done::{Done, failure, letters};
+use crate::done::{Done, failure, letters, number};
 use http_server::Log;
 use siman_console::Outside;
 use siman_fixtures::{Calls, File, Given, Written, found, read_from, write_to};
@@ -97,6 +97,14 @@ impl<'a> Shelf<'a> {
             _ => Ok(write_to(self.alloc, self.makes)),
         }
     }
+
+    /// The lines of so many stations, where they can be had.
+    fn have_lines(&self, alloc: Global, stations: usize) -> io::Result<Vec<WireLine>> {
+        if self.line_fails == Some(0) {
+            return Err(io::Error::from(ErrorKind::Other));
+        }
+        Ok(lines_of(alloc, stations, self.line_fails)?)
+    }
 }
 
 impl<'a> Outside for Shelf<'a> {
@@ -171,9 +179,8 @@ impl<'a> Outside for Shelf<'a> {
     }
 
     fn lines(&mut self, alloc: Global, stations: usize) -> io::Result<Vec<WireLine>> {
-        if self.line_fails == Some(0) {
-            return Err(io::Error::from(ErrorKind::Other));
-        }
-        Ok(lines_of(alloc, stations, self.line_fails)?)
+        let answer = self.have_lines(alloc, stations);
+        self.note(Done::Lined(stations, number(&answer)));
+        answer
     }
 }

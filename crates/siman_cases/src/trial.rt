@@ -4,6 +4,8 @@ ghost use Rattle.std.specs.Prelude.{ℕ, List, Result, None};
 ghost use Rattle.std.specs.declared.io.ErrorKind.{ErrorKind};
 ghost use Rattle.siman_console.specs.Program.{EndsProgram};
 ghost use Rattle.siman_cases.specs.Done.{deeds_of, untold};
+ghost use Rattle.siman_lines.specs.AtLines.{Telling};
+ghost use Rattle.siman_trials.specs.declared.wire.WireLine.{WireLine};
 
 use crate::shelf::{Shelf, filled};
 use siman_agreement::compare_case;
@@ -49,7 +51,7 @@ struct Outcome<'a> {
 /// Runs the program on a case. What was done on the shelf is what the program does on some words, in
 /// that order, and nothing else.
 fn run_case(alloc: Global, case: &Case) -> Outcome<'_>
-    ensures { (words : Result (List (List ℕ)) ErrorKind) × EndsProgram words (deeds_of result.shelf.done) None (record { ended = result.ended; out = untold; errors = untold }) }
+    ensures { (told : Telling WireLine) × (words : Result (List (List ℕ)) ErrorKind) × EndsProgram told words (deeds_of result.shelf.done) None (record { ended = result.ended; out = untold; errors = untold }) }
 {
     let mut shelf = filled(alloc, &case.files, case.left.calls, case.at_line.fails_at);
     let mut out = write_to(alloc, case.out.calls);

@@ -5,7 +5,7 @@ use dis_records::Address;
 use exercise_recording::*;
 use siman_fixtures::{Calls, WELL, read_from, write_to};
 use std::alloc::Global;
-use std::io::ErrorKind;
+use std::io::{ErrorKind, Read};
 
 /// A piece of the first format, of exercise 1: station 2:3 with entity 7 stopped, which received a
 /// datagram of two bytes, sent one of one byte, and told that entity 7 runs.
@@ -64,13 +64,16 @@ fn added(alloc: Global, word: FormWord, pieces: &[&[u8]]) -> Option<Joining> {
     Some(joining)
 }
 
+/// Whether this is told of what was brought together, and this file written.
+fn is_file(alloc: Global, joint: &Joint, wanted: Joined, file: &[u8]) -> bool {
+    let mut out = Vec::new(alloc);
+    joint.told() == wanted && joint.write(&mut out).is_ok() && out.as_slice() == file
+}
+
 /// Whether pieces that were added are brought together as this file.
 fn is_joined(alloc: Global, joining: Joining, wanted: Joined, file: &[u8]) -> bool {
-    let mut out = Vec::new(alloc);
     match joining.end(alloc, file.len() as u64) {
-        Ok(joint) => {
-            joint.told() == wanted && joint.write(&mut out).is_ok() && out.as_slice() == file
-        }
+        Ok(joint) => is_file(alloc, &joint, wanted, file),
         Err(_) => false,
     }
 }
@@ -140,18 +143,41 @@ fn one_piece_of_the_first_form_gives_its_conversion(rt: HostRuntime) {
     assert!(rt; give(alloc, FormWord::Unsaid, &alone, wanted, &ALONE));
 }
 
-/// Whether a piece is not taken behind the simulator's, with this fault, and the manager's is then.
-fn is_refused(alloc: Global, piece: &[u8], fault: JoinFault) -> bool {
+/// A joining that took the simulator's piece.
+fn begun(alloc: Global) -> Option<Joining> {
     let first: [&[u8]; 1] = [&SIMULATOR];
-    let Some(mut joining) = added(alloc, FormWord::Unsaid, &first) else {
-        return false;
-    };
-    let refused = match joining.add(alloc, piece, 1000) {
+    added(alloc, FormWord::Unsaid, &first)
+}
+
+/// Whether what a reader has is not taken, with this fault.
+fn refuses<R: Read + Drop>(
+    alloc: Global,
+    joining: &mut Joining,
+    reader: R,
+    fault: JoinFault,
+) -> bool {
+    match joining.add(alloc, reader, 1000) {
         Ok(()) => false,
         Err(found) => found == fault,
-    };
-    let taken = joining.add(alloc, MANAGER.as_slice(), 1000).is_ok();
-    refused && taken && is_joined(alloc, joining, told_of(Form::Open), &JOINED)
+    }
+}
+
+/// Whether what a reader of the manager's piece has is taken behind the simulator's, and both are
+/// brought together.
+fn goes_on<R: Read + Drop>(alloc: Global, mut joining: Joining, reader: R) -> bool {
+    let taken = joining.add(alloc, reader, 1000).is_ok();
+    is_joined(alloc, joining, told_of(Form::Open), &JOINED) && taken
+}
+
+/// Whether a piece is not taken behind the simulator's, with this fault, and the manager's is then.
+fn is_refused(alloc: Global, piece: &[u8], fault: JoinFault) -> bool {
+    match begun(alloc) {
+        Some(mut joining) => {
+            let refused = refuses(alloc, &mut joining, piece, fault);
+            goes_on(alloc, joining, MANAGER.as_slice()) && refused
+        }
+        None => false,
+    }
 }
 
 #[test]
@@ -171,11 +197,8 @@ fn a_piece_that_is_refused_changes_nothing(rt: HostRuntime) {
 
 /// Whether pieces pass this limit where the file may have so many bytes.
 fn is_past(alloc: Global, pieces: &[&[u8]], limit: u64, fault: JoinFault) -> bool {
-    let Some(joining) = added(alloc, FormWord::Unsaid, pieces) else {
-        return false;
-    };
-    match joining.end(alloc, limit).err() {
-        Some(found) => found == fault,
+    match added(alloc, FormWord::Unsaid, pieces) {
+        Some(joining) => joining.end(alloc, limit).err() == Some(fault),
         None => false,
     }
 }
@@ -188,43 +211,49 @@ fn what_passes_a_limit_is_not_joined(rt: HostRuntime) {
     assert!(rt; is_past(alloc, &[], 95, JoinFault::Stations));
 }
 
-/// Whether a reader whose call of a number fails is told, and nothing has changed.
-fn is_unread(alloc: Global, fails_at: u64) -> bool {
-    let first: [&[u8]; 1] = [&SIMULATOR];
-    let Some(mut joining) = added(alloc, FormWord::Unsaid, &first) else {
-        return false;
-    };
-    let calls = Calls {
+/// Calls of which the one of a number fails, and each of the others gives ten bytes at most.
+fn failing(fails_at: u64) -> Calls {
+    Calls {
         most: 10,
         fails_at,
         kind: Some(ErrorKind::Other),
-    };
-    let refused = match joining.add(alloc, read_from(&MANAGER, calls), 1000) {
-        Ok(()) => false,
-        Err(found) => found == JoinFault::Recording(RecordingFault::Read),
-    };
-    let taken = joining.add(alloc, read_from(&MANAGER, WELL), 1000).is_ok();
-    refused && taken && is_joined(alloc, joining, told_of(Form::Open), &JOINED)
+    }
+}
+
+/// Whether a reader whose call of a number fails is told, and nothing has changed.
+fn is_unread(alloc: Global, fails_at: u64) -> bool {
+    match begun(alloc) {
+        Some(mut joining) => {
+            let reader = read_from(&MANAGER, failing(fails_at));
+            let fault = JoinFault::Recording(RecordingFault::Read);
+            let refused = refuses(alloc, &mut joining, reader, fault);
+            goes_on(alloc, joining, read_from(&MANAGER, WELL)) && refused
+        }
+        None => false,
+    }
+}
+
+/// Both pieces, brought together.
+fn both(alloc: Global) -> Option<Joint> {
+    let words: [&[u8]; 2] = [&SIMULATOR, &MANAGER];
+    match added(alloc, FormWord::Unsaid, &words) {
+        Some(joining) => joining.end(alloc, 1000).ok(),
+        None => None,
+    }
+}
+
+/// Whether a writer whose call of a number fails has a prefix of the file of what was brought together.
+fn is_prefix(alloc: Global, joint: &Joint, fails_at: u64) -> bool {
+    let mut out = write_to(alloc, failing(fails_at));
+    let failed = joint.write(&mut out).is_err();
+    let size = out.bytes.len();
+    failed && size <= JOINED.len() && out.bytes.as_slice() == &JOINED[..size]
 }
 
 /// Whether a writer whose call of a number fails has a prefix of the file.
 fn is_torn(alloc: Global, fails_at: u64) -> bool {
-    let words: [&[u8]; 2] = [&SIMULATOR, &MANAGER];
-    let calls = Calls {
-        most: 10,
-        fails_at,
-        kind: Some(ErrorKind::Other),
-    };
-    let mut out = write_to(alloc, calls);
-    match added(alloc, FormWord::Unsaid, &words) {
-        Some(joining) => match joining.end(alloc, 1000) {
-            Ok(joint) => {
-                let failed = joint.write(&mut out).is_err();
-                let size = out.bytes.len();
-                failed && size <= JOINED.len() && out.bytes.as_slice() == &JOINED[..size]
-            }
-            Err(_) => false,
-        },
+    match both(alloc) {
+        Some(joint) => is_prefix(alloc, &joint, fails_at),
         None => false,
     }
 }

@@ -8,11 +8,17 @@ mod applications;
 #[cfg(test)]
 mod certificates;
 #[cfg(test)]
+mod conflicts;
+#[cfg(test)]
+mod exercises;
+#[cfg(test)]
 mod faults;
 #[cfg(test)]
 mod joining;
 #[cfg(test)]
 mod lines;
+#[cfg(test)]
+mod losses;
 #[cfg(test)]
 mod managers;
 #[cfg(test)]

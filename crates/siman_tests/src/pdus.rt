@@ -2,7 +2,7 @@
 //! they say stands in the cases of `siman_cases`.
 
 use dis_records::Version;
-use siman_pdus::{Role, answers, decode, encode, request_id, role, view};
+use siman_pdus::{Pdu, Role, answers, decode, encode, request_id, role, view};
 use std::alloc::Global;
 
 /// Site, application and entity number.
@@ -96,21 +96,21 @@ fn an_answer_fits_its_request(rt: HostRuntime) {
     assert!(rt; is_answered(&removal(ENTITY), &removal(ENTITY)) == Some(false));
 }
 
-/// The removal of entity 7 in protocol version 6, with a status, as it is written.
-fn written(alloc: Global, status: u8) -> Option<Vec<u8>> {
-    let mut pdu = decode(alloc, &removal(ENTITY)).ok()?;
-    pdu.version = Version::V6;
-    pdu.status = status;
+/// Whether a PDU is written as these bytes.
+fn is_text(alloc: Global, pdu: &Pdu, bytes: &[u8]) -> bool {
     let mut out = Vec::new(alloc);
-    encode(&pdu, &mut out).ok()?;
-    Some(out)
+    encode(pdu, &mut out).is_ok() && out.as_slice() == bytes
 }
 
-/// Whether it is written as these bytes.
+/// Whether the removal of entity 7 in protocol version 6, with a status, is written as these bytes.
 fn is_written(alloc: Global, status: u8, bytes: &[u8]) -> bool {
-    match written(alloc, status) {
-        Some(out) => out.as_slice() == bytes,
-        None => false,
+    match decode(alloc, &removal(ENTITY)) {
+        Ok(mut pdu) => {
+            pdu.version = Version::V6;
+            pdu.status = status;
+            is_text(alloc, &pdu, bytes)
+        }
+        Err(_) => false,
     }
 }
 

@@ -1,68 +1,13 @@
-//! What became of the orders of one exercise: a recording of three stations, one of them the manager
-//! 1:1, in which a datagram was lost on its way there and back, and one request was never answered.
+//! What became of the orders of one exercise: of the recording with losses.
 
 ghost use Rattle.std.specs.Prelude.{◌≡◌, IfOk};
 
+use crate::losses::losses;
 use dis_records::EntityState;
 use exercise_findings::Findings;
 use exercise_model::ExerciseLog;
-use exercise_recording::RecordingView;
 use exercise_review::*;
 use std::alloc::{AllocError, Global};
-
-/// The recording: 30 entries of the stations 1:1, 2:3 and 2:4, where 2:4 begins with entity 8 running.
-pub(crate) const LOSSES: [u8; 1425] = [
-    0x44, 0x53, 0x52, 0x43, 0x30, 0x30, 0x30, 0x31, 1, 0, 3, 0, 1, 0, 1, 0, 0, 0, 2, 0, 3, 0, 0, 0,
-    2, 0, 4, 0, 1, 0, 8, 2, 1, 0, 0, 0, 0, 0, 0, 0, 0, 0, 0x64, 0, 0x1C, 7, 1, 0x0B, 5, 0, 0, 0, 0,
-    0, 0x1C, 0, 0, 0, 1, 0, 1, 0, 0, 0, 2, 0, 3, 0, 7, 0, 0, 0, 1, 2, 0, 1, 0, 0, 0, 0, 0, 0, 1,
-    0xF5, 0, 0x1C, 7, 1, 0x0B, 5, 0, 0, 0, 0, 0, 0x1C, 0, 0, 0, 1, 0, 1, 0, 0, 0, 2, 0, 3, 0, 7, 0,
-    0, 0, 1, 1, 0, 1, 0, 0, 0, 0, 0, 0, 1, 0xF5, 0, 0x20, 7, 1, 0x0F, 5, 0, 0, 0, 0, 0, 0x20, 0, 0,
-    0, 2, 0, 3, 0, 7, 0, 1, 0, 1, 0, 0, 0, 1, 0, 1, 0, 0, 0, 1, 2, 0, 0, 0, 0, 0, 0, 0, 0, 0, 0x66,
-    0, 0x20, 7, 1, 0x0F, 5, 0, 0, 0, 0, 0, 0x20, 0, 0, 0, 2, 0, 3, 0, 7, 0, 1, 0, 1, 0, 0, 0, 1, 0,
-    1, 0, 0, 0, 1, 1, 0, 0, 0, 0, 0, 0, 0, 0, 0, 0x67, 0, 0x1C, 7, 1, 0x0B, 5, 0, 0, 0, 0, 0, 0x1C,
-    0, 0, 0, 1, 0, 1, 0, 0, 0, 2, 0, 4, 0, 9, 0, 0, 0, 2, 1, 0, 0, 0, 0, 0, 0, 0, 0, 0, 0x71, 0,
-    0x1C, 7, 1, 0x0B, 5, 0, 0, 0, 0x14, 0, 0x1C, 0, 0, 0, 1, 0, 1, 0, 0, 0, 2, 0, 4, 0, 9, 0, 0, 0,
-    2, 2, 0, 2, 0, 0, 0, 0, 0, 0, 3, 0x92, 0, 0x1C, 7, 1, 0x0B, 5, 0, 0, 0, 0x14, 0, 0x1C, 0, 0, 0,
-    1, 0, 1, 0, 0, 0, 2, 0, 4, 0, 9, 0, 0, 0, 2, 1, 0, 2, 0, 0, 0, 0, 0, 0, 3, 0x92, 0, 0x20, 7, 1,
-    0x0F, 5, 0, 0, 0, 0, 0, 0x20, 0, 0, 0, 2, 0, 4, 0, 9, 0, 1, 0, 1, 0, 0, 0, 1, 0, 1, 0, 0, 0, 2,
-    2, 0, 0, 0, 0, 0, 0, 0, 0, 0, 0x73, 0, 0x20, 7, 1, 0x0F, 5, 0, 0, 0, 0, 0, 0x20, 0, 0, 0, 2, 0,
-    4, 0, 9, 0, 1, 0, 1, 0, 0, 0, 1, 0, 1, 0, 0, 0, 2, 1, 0, 0, 0, 0, 0, 0, 0, 0, 0, 0x78, 0, 0x2C,
-    7, 1, 0x0D, 5, 0, 0, 0, 0, 0, 0x2C, 0, 0, 0, 1, 0, 1, 0, 0, 0xFF, 0xFF, 0xFF, 0xFF, 0xFF, 0xFF,
-    0, 0, 0, 0, 0, 0, 0, 0, 0, 0, 0, 0, 0, 0, 0, 0, 0, 0, 0, 3, 2, 0, 1, 0, 0, 0, 0, 0, 0, 2, 9, 0,
-    0x2C, 7, 1, 0x0D, 5, 0, 0, 0, 0, 0, 0x2C, 0, 0, 0, 1, 0, 1, 0, 0, 0xFF, 0xFF, 0xFF, 0xFF, 0xFF,
-    0xFF, 0, 0, 0, 0, 0, 0, 0, 0, 0, 0, 0, 0, 0, 0, 0, 0, 0, 0, 0, 3, 2, 0, 2, 0, 0, 0, 0, 0, 0, 3,
-    0x9A, 0, 0x2C, 7, 1, 0x0D, 5, 0, 0, 0, 0, 0, 0x2C, 0, 0, 0, 1, 0, 1, 0, 0, 0xFF, 0xFF, 0xFF,
-    0xFF, 0xFF, 0xFF, 0, 0, 0, 0, 0, 0, 0, 0, 0, 0, 0, 0, 0, 0, 0, 0, 0, 0, 0, 3, 1, 0, 1, 0, 0, 0,
-    0, 0, 0, 2, 9, 0, 0x20, 7, 1, 0x0F, 5, 0, 0, 0, 0, 0, 0x20, 0, 0, 0, 2, 0, 3, 0, 0, 0, 1, 0, 1,
-    0, 0, 0, 3, 0, 1, 0, 0, 0, 3, 1, 0, 2, 0, 0, 0, 0, 0, 0, 3, 0x9A, 0, 0x20, 7, 1, 0x0F, 5, 0, 0,
-    0, 0, 0, 0x20, 0, 0, 0, 2, 0, 4, 0, 0, 0, 1, 0, 1, 0, 0, 0, 3, 0, 1, 0, 0, 0, 3, 2, 0, 0, 0, 0,
-    0, 0, 0, 0, 0, 0x7B, 0, 0x20, 7, 1, 0x0F, 5, 0, 0, 0, 0, 0, 0x20, 0, 0, 0, 2, 0, 3, 0, 0, 0, 1,
-    0, 1, 0, 0, 0, 3, 0, 1, 0, 0, 0, 3, 3, 0, 2, 0, 9, 2, 1, 0, 0, 0, 0, 0, 0, 0, 0, 0, 0x82, 0,
-    0x28, 7, 1, 0x0E, 5, 0, 0, 0, 0, 0, 0x28, 0, 0, 0, 1, 0, 1, 0, 0, 0, 2, 0, 3, 0, 5, 0, 0, 0, 0,
-    0, 0, 0, 0, 0, 0, 0, 0, 0, 0, 0, 4, 2, 0, 1, 0, 0, 0, 0, 0, 0, 2, 0x13, 0, 0x28, 7, 1, 0x0E, 5,
-    0, 0, 0, 0, 0, 0x28, 0, 0, 0, 1, 0, 1, 0, 0, 0, 2, 0, 3, 0, 5, 0, 0, 0, 0, 0, 0, 0, 0, 0, 0, 0,
-    0, 0, 0, 0, 4, 1, 0, 1, 0, 0, 0, 0, 0, 0, 2, 0x13, 0, 0x20, 7, 1, 0x0F, 5, 0, 0, 0, 0, 0, 0x20,
-    0, 0, 0, 2, 0, 3, 0, 5, 0, 1, 0, 1, 0, 0, 0, 4, 0, 2, 0, 0, 0, 4, 2, 0, 0, 0, 0, 0, 0, 0, 0, 0,
-    0x84, 0, 0x20, 7, 1, 0x0F, 5, 0, 0, 0, 0, 0, 0x20, 0, 0, 0, 2, 0, 3, 0, 5, 0, 1, 0, 1, 0, 0, 0,
-    4, 0, 2, 0, 0, 0, 4, 1, 0, 0, 0, 0, 0, 0, 0, 0, 0, 0x8C, 0, 0x2C, 7, 1, 0x12, 5, 0, 0, 0, 0, 0,
-    0x2C, 0, 0, 0, 1, 0, 1, 0, 0, 0, 2, 0, 4, 0, 0, 0, 0, 0, 5, 0, 0, 0, 0, 0, 0, 0, 1, 0, 0, 0, 0,
-    0, 0, 0, 0x0A, 2, 0, 2, 0, 0, 0, 0, 0, 0, 3, 0xAD, 0, 0x2C, 7, 1, 0x12, 5, 0, 0, 0, 0, 0, 0x2C,
-    0, 0, 0, 1, 0, 1, 0, 0, 0, 2, 0, 4, 0, 0, 0, 0, 0, 5, 0, 0, 0, 0, 0, 0, 0, 1, 0, 0, 0, 0, 0, 0,
-    0, 0x0A, 1, 0, 1, 0, 0, 0, 0, 0, 0, 2, 0x1E, 0, 0x38, 7, 1, 0x15, 5, 0, 0, 0, 0, 0, 0x38, 0, 0,
-    0, 2, 0, 3, 0, 7, 0xFF, 0xFF, 0xFF, 0xFF, 0xFF, 0xFF, 0, 0, 0, 2, 0, 0, 0, 0, 0, 0, 0, 0, 0, 0,
-    0, 1, 0, 0, 0, 5, 0, 0, 0, 0x28, 0x48, 0x45, 0x4C, 0x4C, 0x4F, 0, 0, 0, 2, 0, 0, 0, 0, 0, 0, 0,
-    0, 0, 0x8F, 0, 0x38, 7, 1, 0x15, 5, 0, 0, 0, 0, 0, 0x38, 0, 0, 0, 2, 0, 3, 0, 7, 0xFF, 0xFF,
-    0xFF, 0xFF, 0xFF, 0xFF, 0, 0, 0, 2, 0, 0, 0, 0, 0, 0, 0, 0, 0, 0, 0, 1, 0, 0, 0, 5, 0, 0, 0,
-    0x28, 0x48, 0x45, 0x4C, 0x4C, 0x4F, 0, 0, 0, 1, 0, 0, 0, 0, 0, 0, 0, 0, 0, 0x96, 0, 0x28, 7, 1,
-    0x0E, 5, 0, 0, 0, 0, 0, 0x28, 0, 0, 0, 1, 0, 1, 0, 0, 0, 2, 0, 3, 0, 7, 0, 0, 0, 0, 0, 0, 0, 0,
-    0, 0, 0, 0, 0, 0, 0, 6, 2, 0, 1, 0, 0, 0, 0, 0, 0, 2, 0x27, 0, 0x28, 7, 1, 0x0E, 5, 0, 0, 0, 0,
-    0, 0x28, 0, 0, 0, 1, 0, 1, 0, 0, 0, 2, 0, 3, 0, 7, 0, 0, 0, 0, 0, 0, 0, 0, 0, 0, 0, 0, 0, 0, 0,
-    6, 1, 0, 1, 0, 0, 0, 0, 0, 0, 2, 0x27, 0, 0x20, 7, 1, 0x0F, 5, 0, 0, 0, 0, 0, 0x20, 0, 0, 0, 2,
-    0, 3, 0, 7, 0, 1, 0, 1, 0, 0, 0, 4, 0, 1, 0, 0, 0, 6, 2, 0, 0, 0, 0, 0, 0, 0, 0, 0, 0x98, 0,
-    0x20, 7, 1, 0x0F, 5, 0, 0, 0, 0, 0, 0x20, 0, 0, 0, 2, 0, 3, 0, 7, 0, 1, 0, 1, 0, 0, 0, 4, 0, 1,
-    0, 0, 0, 6, 3, 0, 1, 0, 7, 1, 1, 0, 0, 0, 0, 0, 0, 0, 0, 0, 0xA0, 0, 0x1C, 7, 1, 0x0C, 5, 0, 0,
-    0, 0, 0, 0x1C, 0, 0, 0, 1, 0, 1, 0, 0, 0, 2, 0, 4, 0, 8, 0, 0, 0, 7, 0, 0, 0, 0, 0x1E,
-];
 
 /// What is found in a log, by stations and request identifiers.
 fn registered<'a, L: ExerciseLog>(alloc: Global, log: &'a L) -> Result<Register<'a, L>, AllocError>
@@ -72,12 +17,57 @@ fn registered<'a, L: ExerciseLog>(alloc: Global, log: &'a L) -> Result<Register<
     Register::of(alloc, findings)
 }
 
+/// What is asked of the recording, with the answer that is wanted.
+#[derive(Clone, Copy)]
+enum Question<'a> {
+    /// What became of which order at each station: [`ROWS`].
+    Rows,
+    /// In which stretches an entity of a station lived.
+    Lived(u16, u16, &'a [Stretch]),
+    /// What is told of the order of the manager 1:1 at an entry, at its parties.
+    Became(usize, &'a [Outcome]),
+    /// The site and the application of each party of the order at an entry.
+    Parties(usize, &'a [(u16, u16)]),
+}
+
+/// Whether the recording gives the answer that is wanted.
+fn is_answered(alloc: Global, question: Question<'_>) -> bool {
+    match losses(alloc) {
+        Some(log) => is_answered_in(alloc, &log, question),
+        None => false,
+    }
+}
+
+/// Whether a log gives it.
+fn is_answered_in<L: ExerciseLog>(alloc: Global, log: &L, question: Question<'_>) -> bool {
+    match registered(alloc, log) {
+        Ok(findings) => is_answered_by(alloc, &findings, question),
+        Err(_) => false,
+    }
+}
+
+/// Whether what is found in a log gives it.
+fn is_answered_by<L: ExerciseLog>(
+    alloc: Global,
+    findings: &Register<'_, L>,
+    question: Question<'_>,
+) -> bool {
+    match question {
+        Question::Rows => are_as_told(findings),
+        Question::Lived(station, entity, wanted) => {
+            has_lived(alloc, findings, station, entity, wanted)
+        }
+        Question::Became(entry, wanted) => has_become(alloc, findings, entry, wanted),
+        Question::Parties(entry, wanted) => are_parties(alloc, findings, entry, wanted),
+    }
+}
+
 /// What became of an order at a station: the entry at which the order first stands, the station's
 /// index, how often the order was sent, the entry of its change there, and its fate.
 type Row = (usize, u16, usize, Option<usize>, Fate);
 
 /// All orders at all of their parties, in the order in which they first stand.
-const ROWS: [Row; 8] = [
+static ROWS: [Row; 8] = [
     (0, 1, 1, Some(2), Fate::Done),
     (4, 2, 2, Some(7), Fate::Done),
     (9, 1, 1, Some(12), Fate::Done),
@@ -91,32 +81,37 @@ const ROWS: [Row; 8] = [
 /// Whether an order at a station is what a row says, if there is a row for it, and else is none.
 fn is_as_told<L: ExerciseLog>(findings: &Register<'_, L>, entry: usize, station: u16) -> bool {
     let row = ROWS.iter().find(|row| row.0 == entry && row.1 == station);
-    match (order_at(findings, entry), row) {
-        (Some(order), Some(&(_, _, sends, change, fate))) => {
-            is_party(findings, &order, station)
-                && order.maker == Some(0)
-                && order.sends(findings) == sends
-                && change_of_order(findings, &order, station) == change
-                && fate_of(findings, &order, Party::Station(station)) == fate
-        }
-        (Some(order), None) => !is_party(findings, &order, station),
-        (None, row) => row.is_none(),
+    match order_at(findings, entry) {
+        Some(order) => is_as_in(findings, &order, station, row),
+        None => row.is_none(),
     }
 }
 
-/// Whether all is as told at each entry, and past the last, and at each station.
-fn are_as_told(alloc: Global) -> bool {
-    let Ok(log) = RecordingView::over(alloc, &LOSSES) else {
-        return false;
-    };
-    let Ok(findings) = registered(alloc, &log) else {
-        return false;
-    };
-    for entry in 0..40 {
-        for station in 0..3 {
-            if !is_as_told(&findings, entry, station) {
-                return false;
-            }
+/// Whether an order at a station is what its row says, if there is one, and else not for that station.
+fn is_as_in<L: ExerciseLog>(
+    findings: &Register<'_, L>,
+    order: &Order<'_>,
+    station: u16,
+    row: Option<&Row>,
+) -> bool {
+    match row {
+        Some(&(_, _, sends, change, fate)) => {
+            is_party(findings, order, station)
+                && order.maker == Some(0)
+                && order.sends(findings) == sends
+                && change_of_order(findings, order, station) == change
+                && fate_of(findings, order, Party::Station(station)) == fate
+        }
+        None => !is_party(findings, order, station),
+    }
+}
+
+/// Whether all is as told at each of 40 entries, ten of them past the last, and at each of the three
+/// stations.
+fn are_as_told<L: ExerciseLog>(findings: &Register<'_, L>) -> bool {
+    for place in 0..120u16 {
+        if !is_as_told(findings, usize::from(place / 3), place % 3) {
+            return false;
         }
     }
     true
@@ -124,47 +119,53 @@ fn are_as_told(alloc: Global) -> bool {
 
 #[test]
 fn each_order_has_its_fate_at_each_of_its_parties(rt: HostRuntime) {
-    assert!(rt; are_as_told(rt.alloc()));
+    assert!(rt; is_answered(rt.alloc(), Question::Rows));
 }
 
-/// Whether an entity of a station lived so: each stretch's state, the entries of the changes that
-/// began and ended it.
-fn has_lived(
+/// Whether an entity of a station lived so.
+fn has_lived<L: ExerciseLog>(
     alloc: Global,
+    findings: &Register<'_, L>,
     station: u16,
     entity: u16,
-    wanted: &[(EntityState, Option<usize>, Option<usize>)],
+    wanted: &[Stretch],
 ) -> bool {
-    let Ok(log) = RecordingView::over(alloc, &LOSSES) else {
-        return false;
-    };
-    let Ok(findings) = registered(alloc, &log) else {
-        return false;
-    };
-    if usize::from(station) >= log.station_count() {
+    if usize::from(station) >= findings.log().station_count() {
         return false;
     }
-    let Ok(lives) = lives_of(alloc, &findings, station, entity) else {
-        return false;
-    };
-    lives.len() == wanted.len()
-        && lives.iter().zip(wanted.iter()).all(|(life, &(state, from, until))| *life
-            == Stretch { state, from, until })
+    match lives_of(alloc, findings, station, entity) {
+        Ok(lives) => lives.as_slice() == wanted,
+        Err(_) => false,
+    }
+}
+
+/// A stretch: its state, the entries of the changes that began and ended it.
+fn stretch(state: EntityState, from: Option<usize>, until: Option<usize>) -> Stretch {
+    Stretch { state, from, until }
 }
 
 #[test]
 fn each_entity_lived_as_long_as_the_changes_let_it(rt: HostRuntime) {
     use EntityState::{Running, Stopped};
     let seven = [
-        (Stopped, Some(2), Some(12)),
-        (Running, Some(12), Some(26)),
-        (Stopped, Some(26), None),
+        stretch(Stopped, Some(2), Some(12)),
+        stretch(Running, Some(12), Some(26)),
+        stretch(Stopped, Some(26), None),
     ];
-    let nine = [(Stopped, Some(7), Some(13)), (Running, Some(13), None)];
-    assert!(rt; has_lived(rt.alloc(), 1, 7, &seven));
-    assert!(rt; has_lived(rt.alloc(), 2, 8, &[(Running, None, None)]));
-    assert!(rt; has_lived(rt.alloc(), 2, 9, &nine));
-    assert!(rt; has_lived(rt.alloc(), 0, 7, &[]));
+    let eight = [stretch(Running, None, None)];
+    let nine = [
+        stretch(Stopped, Some(7), Some(13)),
+        stretch(Running, Some(13), None),
+    ];
+    let rows: [(u16, u16, &[Stretch]); 4] = [
+        (1, 7, &seven),
+        (2, 8, &eight),
+        (2, 9, &nine),
+        (0, 7, &[]),
+    ];
+    for (station, entity, wanted) in rows {
+        assert!(rt; is_answered(rt.alloc(), Question::Lived(station, entity, wanted)));
+    }
 }
 
 /// What is told of an order at a recorded station, where only the party had it: how often it was
@@ -205,30 +206,39 @@ fn replied(
     }
 }
 
-/// Whether an order is one of the manager 1:1, and just this is told of it at its parties.
-fn has_become(alloc: Global, entry: usize, wanted: &[Outcome]) -> bool {
-    let Ok(log) = RecordingView::over(alloc, &LOSSES) else {
-        return false;
-    };
-    let Ok(findings) = registered(alloc, &log) else {
-        return false;
-    };
-    let Some(order) = order_at(&findings, entry) else {
-        return false;
-    };
-    let Ok(outcomes) = outcomes_of(alloc, &findings, &order) else {
-        return false;
-    };
+/// Whether the order at an entry is one of the manager 1:1, and just this is told of it at its parties.
+fn has_become<L: ExerciseLog>(
+    alloc: Global,
+    findings: &Register<'_, L>,
+    entry: usize,
+    wanted: &[Outcome],
+) -> bool {
+    match order_at(findings, entry) {
+        Some(order) => is_managers(findings, &order) && are_told(alloc, findings, &order, wanted),
+        None => false,
+    }
+}
+
+/// Whether an order is one of the manager 1:1.
+fn is_managers<L: ExerciseLog>(findings: &Register<'_, L>, order: &Order<'_>) -> bool {
     let manager = Outsider {
         site: 1,
         application: 1,
     };
-    order.from(&findings) == manager
-        && outcomes.len() == wanted.len()
-        && outcomes
-            .iter()
-            .zip(wanted.iter())
-            .all(|(outcome, want)| *outcome == *want)
+    order.from(findings) == manager
+}
+
+/// Whether just this is told of an order at its parties.
+fn are_told<L: ExerciseLog>(
+    alloc: Global,
+    findings: &Register<'_, L>,
+    order: &Order<'_>,
+    wanted: &[Outcome],
+) -> bool {
+    match outcomes_of(alloc, findings, order) {
+        Ok(outcomes) => outcomes.as_slice() == wanted,
+        Err(_) => false,
+    }
 }
 
 #[test]
@@ -247,38 +257,68 @@ fn all_is_told_that_the_two_logs_have(rt: HostRuntime) {
         Some((19, 2)),
     );
     let stopped = replied(told(1, 1, 1, Some(25), Done), Able, 26, true, Some((27, 2)));
-    assert!(rt; has_become(rt.alloc(), 0, &[created]));
-    assert!(rt; has_become(rt.alloc(), 4, &[again]));
-    assert!(rt; has_become(rt.alloc(), 9, &[started, unheard]));
-    assert!(rt; has_become(rt.alloc(), 16, &[refused]));
-    assert!(rt; has_become(rt.alloc(), 20, &[told(2, 1, 1, Some(21), Unanswered)]));
-    assert!(rt; has_become(rt.alloc(), 24, &[stopped]));
-    assert!(rt; has_become(rt.alloc(), 29, &[told(2, 1, 0, None, Lost)]));
+    let unanswered = told(2, 1, 1, Some(21), Unanswered);
+    let lost = told(2, 1, 0, None, Lost);
+    let rows: [(usize, &[Outcome]); 7] = [
+        (0, &[created]),
+        (4, &[again]),
+        (9, &[started, unheard]),
+        (16, &[refused]),
+        (20, &[unanswered]),
+        (24, &[stopped]),
+        (29, &[lost]),
+    ];
+    for (entry, wanted) in rows {
+        assert!(rt; is_answered(rt.alloc(), Question::Became(entry, wanted)));
+    }
 }
 
-/// The site and the application of each party of an order.
-fn are_parties(alloc: Global, entry: usize, wanted: &[(u16, u16)]) -> bool {
-    let Ok(log) = RecordingView::over(alloc, &LOSSES) else {
-        return false;
-    };
-    let Ok(findings) = registered(alloc, &log) else {
-        return false;
-    };
-    let Some(order) = order_at(&findings, entry) else {
-        return false;
-    };
-    let Ok(parties) = parties_of(alloc, &findings, &order) else {
-        return false;
-    };
+/// Whether the order at an entry has parties of just these addresses.
+fn are_parties<L: ExerciseLog>(
+    alloc: Global,
+    findings: &Register<'_, L>,
+    entry: usize,
+    wanted: &[(u16, u16)],
+) -> bool {
+    match order_at(findings, entry) {
+        Some(order) => has_parties(alloc, findings, &order, wanted),
+        None => false,
+    }
+}
+
+/// Whether an order has parties of just these addresses.
+fn has_parties<L: ExerciseLog>(
+    alloc: Global,
+    findings: &Register<'_, L>,
+    order: &Order<'_>,
+    wanted: &[(u16, u16)],
+) -> bool {
+    match parties_of(alloc, findings, order) {
+        Ok(parties) => are_addresses(findings, &parties, wanted),
+        Err(_) => false,
+    }
+}
+
+/// Whether these are the addresses of parties.
+fn are_addresses<L: ExerciseLog>(
+    findings: &Register<'_, L>,
+    parties: &[Party],
+    wanted: &[(u16, u16)],
+) -> bool {
     parties.len() == wanted.len()
         && parties.iter().zip(wanted.iter()).all(|(party, &(site, application))| party.address(
-            &findings,
+            findings,
         ) == Outsider { site, application })
 }
 
 #[test]
 fn parties_stand_by_rising_addresses(rt: HostRuntime) {
-    assert!(rt; are_parties(rt.alloc(), 0, &[(2, 3)]));
-    assert!(rt; are_parties(rt.alloc(), 9, &[(2, 3), (2, 4)]));
-    assert!(rt; are_parties(rt.alloc(), 29, &[(2, 4)]));
+    let rows: [(usize, &[(u16, u16)]); 3] = [
+        (0, &[(2, 3)]),
+        (9, &[(2, 3), (2, 4)]),
+        (29, &[(2, 4)]),
+    ];
+    for (entry, wanted) in rows {
+        assert!(rt; is_answered(rt.alloc(), Question::Parties(entry, wanted)));
+    }
 }

@@ -1,24 +1,26 @@
 //! What is told of a whole recording: the counts, the orders at their parties, the stretches of lives,
 //! and what filters keep of them.
 
-use crate::reviews::LOSSES;
+use crate::losses::losses;
 use dis_records::{EntityId, EntityState};
 use exercise_findings::Findings;
-use exercise_recording::RecordingView;
+use exercise_model::ExerciseLog;
 use exercise_review::*;
 use std::alloc::Global;
 
-/// What is told of the recording, if there is memory.
-fn losses(alloc: Global) -> Option<Review> {
-    let Ok(log) = RecordingView::over(alloc, &LOSSES) else {
-        return None;
-    };
-    let Ok(findings) = Findings::of(alloc, &log) else {
-        return None;
-    };
-    match review_of(alloc, findings) {
-        Ok(review) => Some(review),
+/// What is told of a log, if there is memory.
+fn reviewed<L: ExerciseLog>(alloc: Global, log: &L) -> Option<Review> {
+    match Findings::of(alloc, log) {
+        Ok(findings) => review_of(alloc, findings).ok(),
         Err(_) => None,
+    }
+}
+
+/// What is told of the recording with losses, if there is memory.
+fn review(alloc: Global) -> Option<Review> {
+    match losses(alloc) {
+        Some(log) => reviewed(alloc, &log),
+        None => None,
     }
 }
 
@@ -77,19 +79,19 @@ fn stations() -> [StationCounts; 3] {
     ]
 }
 
-fn are_counted(alloc: Global) -> bool {
-    let Some(review) = losses(alloc) else {
-        return false;
-    };
+/// Whether a review counts the orders and the stations of the recording.
+fn has_counts(review: &Review) -> bool {
     review.orders == 7
         && review.others == 0
         && review.fates == counts(4, 1, 1, 1, 1)
-        && review.stations.len() == 3
-        && review
-            .stations
-            .iter()
-            .zip(stations().iter())
-            .all(|(one, other)| *one == *other)
+        && review.stations.as_slice() == stations().as_slice()
+}
+
+fn are_counted(alloc: Global) -> bool {
+    match review(alloc) {
+        Some(review) => has_counts(&review),
+        None => false,
+    }
 }
 
 #[test]
@@ -112,11 +114,9 @@ fn are_rows(orders: &[OrderAt], wanted: &[Row]) -> bool {
         })
 }
 
-fn are_told(alloc: Global) -> bool {
+/// Whether these are the orders of the recording at their parties.
+fn are_told_orders(orders: &[OrderAt]) -> bool {
     use Fate::{Done, Lost, Refused, Unanswered, Unheard};
-    let Some(review) = losses(alloc) else {
-        return false;
-    };
     let rows = [
         (0, 1, at(2, 3), Done),
         (4, 2, at(2, 4), Done),
@@ -127,7 +127,14 @@ fn are_told(alloc: Global) -> bool {
         (24, 6, at(2, 3), Done),
         (29, 7, at(2, 4), Lost),
     ];
-    are_rows(&review.told, &rows)
+    are_rows(orders, &rows)
+}
+
+fn are_told(alloc: Global) -> bool {
+    match review(alloc) {
+        Some(review) => are_told_orders(&review.told),
+        None => false,
+    }
 }
 
 #[test]
@@ -160,11 +167,9 @@ fn span(
     }
 }
 
-fn have_lived(alloc: Global) -> bool {
+/// Whether these are the stretches of the recording.
+fn are_spans(spans: &[Span]) -> bool {
     use EntityState::{Running, Stopped};
-    let Some(review) = losses(alloc) else {
-        return false;
-    };
     let wanted = [
         span(3, 7, Stopped, Some((2, 501, 1)), Some((12, 521))),
         span(3, 7, Running, Some((12, 521, 3)), Some((26, 551))),
@@ -173,12 +178,14 @@ fn have_lived(alloc: Global) -> bool {
         span(4, 9, Stopped, Some((7, 914, 2)), Some((13, 922))),
         span(4, 9, Running, Some((13, 922, 3)), None),
     ];
-    review.spans.len() == wanted.len()
-        && review
-            .spans
-            .iter()
-            .zip(wanted.iter())
-            .all(|(one, other)| *one == *other)
+    spans == wanted.as_slice()
+}
+
+fn have_lived(alloc: Global) -> bool {
+    match review(alloc) {
+        Some(review) => are_spans(&review.spans),
+        None => false,
+    }
 }
 
 #[test]
@@ -186,28 +193,22 @@ fn stretches_stand_by_station_entity_and_time(rt: HostRuntime) {
     assert!(rt; have_lived(rt.alloc()));
 }
 
-/// How many stations, orders and stretches of the recording filters keep.
+/// How many stations, orders and stretches of a review filters keep.
+fn kept_of(review: &Review, filters: &[Filter]) -> (usize, usize, usize) {
+    let (stations, orders, spans) = (&review.stations, &review.told, &review.spans);
+    (
+        stations.iter().filter(|it| keeps(filters, *it)).count(),
+        orders.iter().filter(|it| keeps(filters, *it)).count(),
+        spans.iter().filter(|it| keeps(filters, *it)).count(),
+    )
+}
+
+/// How many of them of the recording filters keep.
 fn kept(alloc: Global, filters: &[Filter]) -> Option<(usize, usize, usize)> {
-    let Some(review) = losses(alloc) else {
-        return None;
-    };
-    Some((
-        review
-            .stations
-            .iter()
-            .filter(|station| keeps(filters, *station))
-            .count(),
-        review
-            .told
-            .iter()
-            .filter(|order| keeps(filters, *order))
-            .count(),
-        review
-            .spans
-            .iter()
-            .filter(|span| keeps(filters, *span))
-            .count(),
-    ))
+    match review(alloc) {
+        Some(review) => Some(kept_of(&review, filters)),
+        None => None,
+    }
 }
 
 #[test]
@@ -223,10 +224,15 @@ fn filters_of_one_key_are_alternatives_and_of_several_hold_together(rt: HostRunt
         Filter::Fate(Fate::Lost),
     ];
     let both = [Filter::Station(at(2, 3)), Filter::Fate(Fate::Done)];
-    assert!(rt; kept(rt.alloc(), &[]) == Some((3, 8, 6)));
-    assert!(rt; kept(rt.alloc(), &losses) == Some((0, 3, 0)));
-    assert!(rt; kept(rt.alloc(), &[Filter::Station(at(2, 4))]) == Some((1, 4, 3)));
-    assert!(rt; kept(rt.alloc(), &[Filter::Entity(eight)]) == Some((0, 3, 1)));
-    assert!(rt; kept(rt.alloc(), &[Filter::Request(at(1, 1), 3)]) == Some((0, 2, 2)));
-    assert!(rt; kept(rt.alloc(), &both) == Some((0, 3, 0)));
+    let rows: [(&[Filter], (usize, usize, usize)); 6] = [
+        (&[], (3, 8, 6)),
+        (&losses, (0, 3, 0)),
+        (&[Filter::Station(at(2, 4))], (1, 4, 3)),
+        (&[Filter::Entity(eight)], (0, 3, 1)),
+        (&[Filter::Request(at(1, 1), 3)], (0, 2, 2)),
+        (&both, (0, 3, 0)),
+    ];
+    for (filters, wanted) in rows {
+        assert!(rt; kept(rt.alloc(), filters) == Some(wanted));
+    }
 }

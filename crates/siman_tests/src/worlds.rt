@@ -8,21 +8,26 @@ use siman_scripts::{Act, Move, WorldStation};
 use siman_worlds::{MoveFault, WorldFault, run_world};
 use std::alloc::Global;
 
+/// A station at 1:1.
+fn world_station(alloc: Global, tries: u32) -> Option<WorldStation> {
+    let address = Address::new(1, 1)?;
+    let station = Station::new(address, Vec::new(alloc))?;
+    Some(WorldStation {
+        station,
+        first_id: 1,
+        tries,
+        wait: 10,
+        fixed: Vec::new(alloc),
+        variable: Vec::new(alloc),
+        actions: Vec::new(alloc),
+    })
+}
+
 /// So many equal stations at 1:1.
 fn stations(alloc: Global, count: usize, tries: u32) -> Option<Vec<WorldStation>> {
     let mut stations = Vec::new(alloc);
     for _ in 0..count {
-        let station = Station::new(Address::new(1, 1)?, Vec::new(alloc))?;
-        let station = WorldStation {
-            station,
-            first_id: 1,
-            tries,
-            wait: 10,
-            fixed: Vec::new(alloc),
-            variable: Vec::new(alloc),
-            actions: Vec::new(alloc),
-        };
-        stations.push(station).ok()?;
+        stations.push(world_station(alloc, tries)?).ok()?;
     }
     Some(stations)
 }

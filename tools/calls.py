@@ -25,6 +25,7 @@ NO_LIBRARIES = {
     "siman_fixtures",
     "siman_hostile",
     "siman_refusals",
+    "siman_examples",
     "siman_tests",
     "siman_trials",
 }

@@ -21,6 +21,10 @@ for name in *; do
         last=$(row "$tests" "$@")
         continue
     fi
+    if [ "$name" = siman_examples ]; then
+        uses=$(row "uses of the laws, \`$name\`" "$@")
+        continue
+    fi
     if [ "$name" = siman_cases ]; then
         cases="the program of the cases, \`$name\`: $(cat "$name"/data/*.cases | grep -c '^case ') of them, in $(cat "$name"/data/*.cases | wc -l) lines"
         tried=$(row "$cases" "$@")
@@ -40,4 +44,4 @@ for name in *; do
     src=$((src + $1)) specs=$((specs + $2)) proofs=$((proofs + $3)) edits=$((edits + $4))
 done
 row 'in all' "$src" "$specs" "$proofs" "$edits"
-printf '%s\n' "$tried" "$hostile" "$shared" "$last"
+printf '%s\n' "$tried" "$hostile" "$shared" "$last" "$uses"

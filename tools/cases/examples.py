@@ -38,6 +38,48 @@ state 2:4:8 running from=- to=- since=- until=- by=- request=-
 state 2:4:9 stopped from=7 to=13 since=914 until=922 by=1:1 request=2
 state 2:4:9 running from=13 to=- since=922 until=- by=1:1 request=3
 """
+# What log says of it.
+LOSSES_LOG = b"""\
+entry 0 1:1 sent clock=100 create-entity version=7 time=00:00.000000/relative status=0 from=1:1:0 to=2:3:7 request=1 receipts=1 order=0
+entry 1 2:3 received clock=501 create-entity version=7 time=00:00.000000/relative status=0 from=1:1:0 to=2:3:7 request=1 source=0
+entry 2 2:3 sent clock=501 acknowledge version=7 time=00:00.000000/relative status=0 from=2:3:7 to=1:1:0 flag=1(create-entity) response=1(able) request=1 receipts=1 answers=1
+change 2 entity=2:3:7 to=stopped by=1:1 request=1
+entry 3 1:1 received clock=102 acknowledge version=7 time=00:00.000000/relative status=0 from=2:3:7 to=1:1:0 flag=1(create-entity) response=1(able) request=1 source=2
+entry 4 1:1 sent clock=103 create-entity version=7 time=00:00.000000/relative status=0 from=1:1:0 to=2:4:9 request=2 receipts=0 order=4
+entry 5 1:1 sent clock=113 create-entity version=7 time=00:00.000016/relative status=0 from=1:1:0 to=2:4:9 request=2 receipts=1 order=4
+entry 6 2:4 received clock=914 create-entity version=7 time=00:00.000016/relative status=0 from=1:1:0 to=2:4:9 request=2 source=5
+entry 7 2:4 sent clock=914 acknowledge version=7 time=00:00.000000/relative status=0 from=2:4:9 to=1:1:0 flag=1(create-entity) response=1(able) request=2 receipts=1 answers=6
+change 7 entity=2:4:9 to=stopped by=1:1 request=2
+entry 8 1:1 received clock=115 acknowledge version=7 time=00:00.000000/relative status=0 from=2:4:9 to=1:1:0 flag=1(create-entity) response=1(able) request=2 source=7
+entry 9 1:1 sent clock=120 start-resume version=7 time=00:00.000000/relative status=0 from=1:1:0 to=65535:65535:65535 real=0/0 sim=0/0 request=3 receipts=2 order=9
+entry 10 2:3 received clock=521 start-resume version=7 time=00:00.000000/relative status=0 from=1:1:0 to=65535:65535:65535 real=0/0 sim=0/0 request=3 source=9
+entry 11 2:4 received clock=922 start-resume version=7 time=00:00.000000/relative status=0 from=1:1:0 to=65535:65535:65535 real=0/0 sim=0/0 request=3 source=9
+entry 12 2:3 sent clock=521 acknowledge version=7 time=00:00.000000/relative status=0 from=2:3:0 to=1:1:0 flag=3(start-resume) response=1(able) request=3 receipts=1 answers=10
+change 12 entity=2:3:65535 to=running by=1:1 request=3
+entry 13 2:4 sent clock=922 acknowledge version=7 time=00:00.000000/relative status=0 from=2:4:0 to=1:1:0 flag=3(start-resume) response=1(able) request=3 receipts=0 answers=11
+change 13 entity=2:4:65535 to=running by=1:1 request=3
+entry 14 1:1 received clock=123 acknowledge version=7 time=00:00.000000/relative status=0 from=2:3:0 to=1:1:0 flag=3(start-resume) response=1(able) request=3 source=12
+entry 15 2:4 told entity=2:4:9 state=running
+entry 16 1:1 sent clock=130 stop-freeze version=7 time=00:00.000000/relative status=0 from=1:1:0 to=2:3:5 real=0/0 reason=0(other) behaviour=0 request=4 receipts=1 order=16
+entry 17 2:3 received clock=531 stop-freeze version=7 time=00:00.000000/relative status=0 from=1:1:0 to=2:3:5 real=0/0 reason=0(other) behaviour=0 request=4 source=16
+entry 18 2:3 sent clock=531 acknowledge version=7 time=00:00.000000/relative status=0 from=2:3:5 to=1:1:0 flag=4(stop-freeze) response=2(unable) request=4 receipts=1 answers=17
+entry 19 1:1 received clock=132 acknowledge version=7 time=00:00.000000/relative status=0 from=2:3:5 to=1:1:0 flag=4(stop-freeze) response=2(unable) request=4 source=18
+entry 20 1:1 sent clock=140 data-query version=7 time=00:00.000000/relative status=0 from=1:1:0 to=2:4:0 request=5 interval=0 receipts=1 order=20
+fixed 20 10
+entry 21 2:4 received clock=941 data-query version=7 time=00:00.000000/relative status=0 from=1:1:0 to=2:4:0 request=5 interval=0 source=20
+fixed 21 10
+entry 22 2:3 sent clock=542 event-report version=7 time=00:00.000000/relative status=0 from=2:3:7 to=65535:65535:65535 event=2 receipts=1
+variable 22 5 40 48454c4c4f text=HELLO
+entry 23 1:1 received clock=143 event-report version=7 time=00:00.000000/relative status=0 from=2:3:7 to=65535:65535:65535 event=2 source=22
+variable 23 5 40 48454c4c4f text=HELLO
+entry 24 1:1 sent clock=150 stop-freeze version=7 time=00:00.000000/relative status=0 from=1:1:0 to=2:3:7 real=0/0 reason=0(other) behaviour=0 request=6 receipts=1 order=24
+entry 25 2:3 received clock=551 stop-freeze version=7 time=00:00.000000/relative status=0 from=1:1:0 to=2:3:7 real=0/0 reason=0(other) behaviour=0 request=6 source=24
+entry 26 2:3 sent clock=551 acknowledge version=7 time=00:00.000000/relative status=0 from=2:3:7 to=1:1:0 flag=4(stop-freeze) response=1(able) request=6 receipts=1 answers=25
+change 26 entity=2:3:7 to=stopped by=1:1 request=6
+entry 27 1:1 received clock=152 acknowledge version=7 time=00:00.000000/relative status=0 from=2:3:7 to=1:1:0 flag=4(stop-freeze) response=1(able) request=6 source=26
+entry 28 2:3 told entity=2:3:7 state=stopped
+entry 29 1:1 sent clock=160 remove-entity version=7 time=00:00.000000/relative status=0 from=1:1:0 to=2:4:8 request=7 receipts=0 order=29
+"""
 OPEN_ORDER = (
     b"order 0 from=9:9 request=1 create-entity to=2:3:7 at=2:3 sends=- receipts=1 got=0 said=able answer=1 "
     b"heard=- news=- took=- change=1 fate=unknown\n"

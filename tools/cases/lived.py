@@ -7,7 +7,9 @@ from collections import namedtuple
 from cases import texts
 from pages import ABSENT, ACKNOWLEDGE, CREATE, STOPPED, Recording, Station
 
-ROUNDS, TURNS = 4, 64
+ROUNDS, TURNS, MOST_STRANGERS = 4, 64, 64
+LONGEST = 8192
+STRANGER = b"stranger"  # in the place of a datagram from elsewhere
 # A station orders that an entity be created at a station, or at all; a station tells the state of an entity.
 Create = namedtuple("Create", "station target entity")
 Tell = namedtuple("Tell", "station entity")
@@ -44,6 +46,8 @@ class Exchanges:
         self.orders = [0] * count
         self.there = [set() for _ in range(count)]
         self.entries = []
+        self.busy = [False] * count
+        self.dropped = self.strangers = 0
 
     def recording(self):
         return texts.recording_text(Recording(1, self.stations, self.entries))
@@ -76,14 +80,47 @@ class Exchanges:
         values = {"flag": 1, "response": 1, "request": int.from_bytes(datagram[24:28], "big")}
         self.send(station, texts.pdu(ACKNOWLEDGE, (*station_at(station), entity), origin, **values))
 
+    def intrude(self, count):
+        """So many datagrams from elsewhere come to each socket."""
+        for coming in self.coming:
+            coming.extend([STRANGER] * count)
+
+    def receive(self, coming):
+        """The next datagram that came from a peer; none where there is none, or where 64 strangers were passed over."""
+        for _ in range(MOST_STRANGERS):
+            if not coming:
+                return None
+            datagram = coming.pop(0)
+            if datagram is not STRANGER:
+                return datagram
+            self.strangers += 1
+        return None
+
+    def serve_one(self, station):
+        """At most 64 receives of a station, up to the first that finds nothing; whether something may be left."""
+        met, came = self.strangers, 0
+        while came < TURNS:
+            datagram = self.receive(self.coming[station])
+            if datagram is None:
+                break
+            came += 1
+            if len(datagram) > LONGEST:
+                self.dropped += 1
+            else:
+                self.take(station, datagram)
+        return came > 0 or self.strangers > met
+
     def serve(self):
-        """Four rounds, in each of which each station in turn takes what came, at most 64 datagrams."""
+        """Four rounds, in each of which each station in turn is served."""
         for _ in range(ROUNDS):
-            for station, coming in enumerate(self.coming):
-                turn = coming[:TURNS]
-                del coming[:TURNS]
-                for datagram in turn:
-                    self.take(station, datagram)
+            for station in range(len(self.coming)):
+                self.busy[station] = self.serve_one(station)
+
+    def line(self):
+        """The line of live."""
+        counts = b"live records=%d" % len(self.entries)
+        left = (sum(self.busy), self.dropped, self.strangers)
+        return (counts + b" busy=%d dropped=%d strangers=%d" % left if any(left) else counts) + b"\n"
 
     def over_lines(self, moves):
         """The recording of moves at lines."""

@@ -35,13 +35,18 @@ def try_stations(trials):
 
 
 def try_rounds(trials):
-    """So many stations hear of an order to all and of each other's answers: more than 64 in one round, of the last."""
-    for count in (41, 70):
+    """So many stations hear of an order to all and of each other's answers: more than 64 in one round, of the last; of
+    131 and more some station still takes answers in the last round, and of 200 each has some left."""
+    for count in (41, 70, 130, 131, 200):
         moves = [Create(count - 1, (0xFFFF, 0xFFFF), 7)]
-        # The others each receive the order, send an answer, and receive those of the others; the first gets them all.
-        line = b"live records=%d\n" % (1 + 2 * (count - 1) + (count - 1) ** 2)
+        exchanges = Exchanges(count)
+        lived = exchanges.over_lines(moves)
+        line = exchanges.line()
+        if count < 131:
+            # The others each receive the order, send an answer, and receive those of the others; the first gets them all.
+            trials.state(f"the line of {count}", b"live records=%d\n" % (1 + 2 * (count - 1) + (count - 1) ** 2), line)
         words = ["live", trials.file(script_of(count, moves)), f"round.{count}.dsrc"]
-        makes(trials, words, line, Exchanges(count).over_lines(moves))
+        makes(trials, words, line, lived)
 
 
 def try_moves(trials):

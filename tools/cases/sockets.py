@@ -1,5 +1,6 @@
 """The sockets of `live`: where they are bound, how many there are, that none waits, that what comes from elsewhere is not
-heard, and calls of them that fail."""
+heard, what is too long, and calls of them that fail."""
+import ctypes
 import os
 import socket
 import subprocess
@@ -20,6 +21,7 @@ NO_WAITING = 0o4000  # O_NONBLOCK among the flags of a descriptor
 TWO = [Station(1, 1, []), Station(2, 3, [])]
 FAILING = TOP / "tools" / "failing_calls.py"
 NO_FILTER = 125
+LEND = 438  # the number of pidfd_getfd, which is the same on each machine
 # The first exchange of the worked script, and what its manager sends if nothing ever comes.
 ORDER = texts.pdu(11, (1, 1, 0), (2, 3, 7), request=1)
 ABLE = texts.pdu(15, (2, 3, 7), (1, 1, 0), flag=1, response=1, request=1)
@@ -74,6 +76,30 @@ def intrude(process, count):
     return len(places)
 
 
+def borrowed(process):
+    """The sockets of a program, in the order in which it made them, each as one of this script's own; none where the
+    system does not lend them."""
+    library, owner = ctypes.CDLL(None, use_errno=True), os.pidfd_open(process.pid)
+    try:
+        folder = f"/proc/{process.pid}/fd"
+        numbers = sorted(int(number) for number in os.listdir(folder) if os.readlink(f"{folder}/{number}").startswith("socket:["))
+        lent = [library.syscall(LEND, owner, number, 0) for number in numbers]
+        return [socket.socket(fileno=number) for number in lent if number >= 0]
+    finally:
+        os.close(owner)
+
+
+def speak(process, sizes):
+    """Sends datagrams of these sizes from the socket of the first station to that of the second; how many sockets spoke."""
+    lent = borrowed(process)
+    if len(lent) == 2:
+        for size in sizes:
+            lent[0].sendto(bytes(size), lent[1].getsockname())
+    for own in lent:
+        own.close()
+    return len(lent)
+
+
 def look(trials, script, name, sees=bound):
     """What is seen of `live` while it waits for a reader of its file, which is a pipe; its outcome; and what it wrote."""
     pipe = trials.folder / name
@@ -119,20 +145,50 @@ def try_bound(trials):
 
 def try_strangers(trials):
     """What comes from elsewhere is not heard, also where it is more than one receive passes over, as long as the four
-    rounds are enough: a receive passes over 64, and the last round but one has to find what was sent."""
+    rounds are enough: a receive passes over 64, and the last round but one has to find what was sent. It is counted."""
     if not os.path.exists("/proc/self/net/udp"):
         trials.skipped.append("datagrams from elsewhere: no /proc/self/net/udp")
         return
     moves = [Create(0, station_at(1), 7)]
-    script, lived = trials.file(script_of(2, moves)), Exchanges(2).over_lines(moves)
+    script = trials.file(script_of(2, moves))
     for count in (1, 63, 64, 65, 129):
+        exchanges = Exchanges(2)
+        exchanges.intrude(count)
+        lived = exchanges.over_lines(moves)
 
-        def tried(count=count):
+        def tried(count=count, lived=lived, line=exchanges.line()):
             seen, came, wrote = look(trials, script, f"strangers.{count}", lambda process: intrude(process, count))
             return [
                 Verdict(f"the sockets to which {count} strangers came", (2,), seen),
-                Verdict(f"live among {count} strangers", (Outcome(0, b"live records=4\n", b""),), came),
+                Verdict(f"live among {count} strangers", (Outcome(0, line, b""),), came),
                 Verdict(f"what live wrote among {count} strangers", (True,), wrote == lived),
+            ]
+
+        trials.tasks.append(tried)
+
+
+def try_long(trials):
+    """Of what a station sends, more than 8192 bytes are dropped by another and counted, and no fewer."""
+    if not os.path.exists("/proc/self/net/udp") or not hasattr(os, "pidfd_open"):
+        trials.skipped.append("datagrams that are too long: no sockets are lent")
+        return
+    moves = [Create(0, station_at(1), 7)]
+    script = trials.file(script_of(2, moves))
+    for sizes in ([8192], [8193], [9000, 8193, 8192, 20000]):
+        exchanges = Exchanges(2)
+        exchanges.coming[1].extend(bytes(size) for size in sizes)
+        lived = exchanges.over_lines(moves)
+
+        def tried(sizes=sizes, lived=lived, line=exchanges.line()):
+            name = "long." + ".".join(str(size) for size in sizes)
+            seen, came, wrote = look(trials, script, name, lambda process: speak(process, sizes))
+            if seen == 0:
+                trials.skipped.append("datagrams that are too long: no sockets are lent")
+                return []
+            return [
+                Verdict(f"the sockets that were lent to send {sizes}", (2,), seen),
+                Verdict(f"live where {sizes} bytes come", (Outcome(0, line, b""),), came),
+                Verdict(f"what live wrote where {sizes} bytes come", (True,), wrote == lived),
             ]
 
         trials.tasks.append(tried)
@@ -181,4 +237,5 @@ def try_calls(trials):
 def try_all(trials, _):
     try_bound(trials)
     try_strangers(trials)
+    try_long(trials)
     try_calls(trials)

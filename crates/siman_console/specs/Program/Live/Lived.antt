@@ -73,7 +73,7 @@ Records {L} told w moves old new file entries =
     let after : AtLines L = record { stations = new; recorder = last } in
     Performs told moves before after entries))
 
--- WHAT STANDS IN THE FILE: the text of a recording with this setting and so many entries; or, after a fault, the beginning of the text of one, with some entries whole and at most one more. The entries that are whole are a run in the order of the file, where each datagram that was received and is not other was sent before.
+-- WHAT STANDS IN THE FILE: the text of a recording with this setting and so many entries; or, after a fault, a beginning of the text of one, with some entries and at most one more. The entries, without that one, are a run in the order of the file, where each datagram that was received and is not other was sent before.
 abbrev pub IsRecorded : SettingData → (entries : Result ℕ Fault) → (file : Stream) → Type 0
 IsRecorded w (Ok n) file =
     (es : List Entry) × (n ≡ length es) × AreRun w es × IsRecording (record { setting = w; entries = es })

@@ -1,0 +1,55 @@
+# Completion of siman's words for bash. Made by tools/manual.py from the program's table of commands: not to be changed by hand.
+
+# Those of these words that begin as the current one. Bash looks at what stands behind the last = or : of a word.
+_siman_words() {
+    local word
+    for word in $1; do
+        if [[ $word == "$current"* ]]; then COMPREPLY+=("${word#"${current%"${current##*[=:]}"}"}"); fi
+    done
+    if [[ ${#COMPREPLY[@]} == 1 && ${COMPREPLY[0]} == *= ]]; then compopt -o nospace; fi
+}
+
+# Files that end so, and folders; all files where there are none.
+_siman_files() {
+    local files
+    mapfile -t files < <(compgen -f -X "!*.$1" -- "$current" && compgen -d -- "$current")
+    if ((${#files[@]} == 0)); then mapfile -t files < <(compgen -f -- "$current"); fi
+    if ((${#files[@]} > 0)); then
+        COMPREPLY+=("${files[@]}")
+        compopt -o filenames
+    fi
+}
+
+_siman() {
+    local current words
+    read -r -a words <<<"${COMP_LINE:0:COMP_POINT}."
+    current=${words[-1]%.}
+    COMPREPLY=()
+    if ((${#words[@]} == 2)); then
+        _siman_words 'pdu pdus show check audit world live convert mend join review log help --help --version'
+        return
+    fi
+    case ${words[1]}:$((${#words[@]} - 3)) in
+        help:0) _siman_words 'pdu pdus show check audit world live convert mend join review log help' ;;
+        show:0) _siman_files dsrc ;;
+        check:0) _siman_files dsrc ;;
+        check:1) _siman_files dsct ;;
+        audit:0) _siman_files dsrc ;;
+        audit:1) _siman_files dsct ;;
+        world:0) _siman_files script ;;
+        world:1) _siman_files dsrc ;;
+        live:0) _siman_files script ;;
+        live:1) _siman_files dsrc ;;
+        convert:0) _siman_files dsrc ;;
+        convert:1) _siman_files dsrc ;;
+        mend:0) _siman_files dsrc ;;
+        mend:1) _siman_files dsrc ;;
+        join:*) _siman_files dsrc; _siman_words 'form=open form=closed' ;;
+        review:0) _siman_files dsrc ;;
+        review:*) _siman_words 'station= entity= request= fate=done fate=answered fate=refused fate=pending fate=unheard fate=unanswered fate=lost fate=unknown fate=nobody --json' ;;
+        log:0) _siman_files dsrc ;;
+        log:*) _siman_words 'station= entity= request= kind=create-entity kind=remove-entity kind=start-resume kind=stop-freeze kind=acknowledge kind=action-request kind=action-response kind=data-query kind=set-data kind=data kind=event-report kind=comment kind=told kind=other --json' ;;
+    esac
+}
+
+complete -F _siman siman

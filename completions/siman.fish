@@ -1,0 +1,64 @@
+# Completion of siman's words for fish. Made by tools/manual.py from the program's table of commands: not to be changed by hand.
+
+# Whether the current word stands at this place, and the first one, if one is given, is this command.
+function __siman_at
+    set -l words (commandline -opc)
+    test (count $words) -eq $argv[1]; and begin
+        test (count $argv) -eq 1; or test $words[2] = $argv[2]
+    end
+end
+
+# Whether it stands at this place or behind it, and the first one is this command.
+function __siman_behind
+    set -l words (commandline -opc)
+    test (count $words) -ge $argv[1]; and test $words[2] = $argv[2]
+end
+
+# Files that end so, and folders; all files where there are none.
+function __siman_files
+    set -l current (commandline -ct)
+    set -l files $current*.$argv[1]
+    if test (count $files) -eq 0
+        __fish_complete_path $current
+    else
+        set -a files $current*/
+        printf '%s\n' $files
+    end
+end
+
+complete -c siman -f
+complete -c siman -n '__siman_at 1' -l help -s h -d 'Print help'
+complete -c siman -n '__siman_at 1' -l version -s V -d 'Print version'
+complete -c siman -n '__siman_at 1' -a help -d 'Print the help, or that of a command'
+complete -c siman -n '__siman_at 2 help' -a 'pdu pdus show check audit world live convert mend join review log'
+complete -c siman -n '__siman_at 1' -a pdu -d 'Shows the PDU of a datagram'
+complete -c siman -n '__siman_at 1' -a pdus -d 'Shows the PDUs of many datagrams, whose hex texts are read from standard input, one a line'
+complete -c siman -n '__siman_at 1' -a show -d 'Shows a recording, a line for each entry'
+complete -c siman -n '__siman_at 2 show' -a '(__siman_files dsrc)'
+complete -c siman -n '__siman_at 1' -a check -d 'Checks whether a certificate explains a recording, and reports what it says'
+complete -c siman -n '__siman_at 2 check' -a '(__siman_files dsrc)'
+complete -c siman -n '__siman_at 3 check' -a '(__siman_files dsct)'
+complete -c siman -n '__siman_at 1' -a audit -d 'Searches a recording for an order that explains it, and writes its certificate'
+complete -c siman -n '__siman_at 2 audit' -a '(__siman_files dsrc)'
+complete -c siman -n '__siman_at 3 audit' -a '(__siman_files dsct)'
+complete -c siman -n '__siman_at 1' -a world -d 'Runs the exercise that a script describes, and writes its recording'
+complete -c siman -n '__siman_at 2 world' -a '(__siman_files script)'
+complete -c siman -n '__siman_at 3 world' -a '(__siman_files dsrc)'
+complete -c siman -n '__siman_at 1' -a live -d 'Makes the moves of a script over UDP sockets of the loopback, one a station, and writes their recording'
+complete -c siman -n '__siman_at 2 live' -a '(__siman_files script)'
+complete -c siman -n '__siman_at 3 live' -a '(__siman_files dsrc)'
+complete -c siman -n '__siman_at 1' -a convert -d 'Carries a recording of the first format over to the second, closed'
+complete -c siman -n '__siman_at 2 convert' -a '(__siman_files dsrc)'
+complete -c siman -n '__siman_at 3 convert' -a '(__siman_files dsrc)'
+complete -c siman -n '__siman_at 1' -a mend -d 'Keeps the entries of a torn recording that stand whole, and writes them with an end'
+complete -c siman -n '__siman_at 2 mend' -a '(__siman_files dsrc)'
+complete -c siman -n '__siman_at 3 mend' -a '(__siman_files dsrc)'
+complete -c siman -n '__siman_at 1' -a join -d 'Joins the recordings of one exercise that several recorders made'
+complete -c siman -n '__siman_behind 2 join' -a '(__siman_files dsrc)'
+complete -c siman -n '__siman_behind 2 join' -a 'form=open form=closed'
+complete -c siman -n '__siman_at 1' -a review -d 'Tells what became of each order of a recording, and how each entity lived'
+complete -c siman -n '__siman_at 2 review' -a '(__siman_files dsrc)'
+complete -c siman -n '__siman_behind 3 review' -a 'station= entity= request= fate=done fate=answered fate=refused fate=pending fate=unheard fate=unanswered fate=lost fate=unknown fate=nobody --json'
+complete -c siman -n '__siman_at 1' -a log -d 'Tells what happened at each entry of a recording, in names, with every datum and what goes with it'
+complete -c siman -n '__siman_at 2 log' -a '(__siman_files dsrc)'
+complete -c siman -n '__siman_behind 3 log' -a 'station= entity= request= kind=create-entity kind=remove-entity kind=start-resume kind=stop-freeze kind=acknowledge kind=action-request kind=action-response kind=data-query kind=set-data kind=data kind=event-report kind=comment kind=told kind=other --json'

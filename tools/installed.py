@@ -1,0 +1,230 @@
+#!/usr/bin/env python3
+"""Tries what siman is installed with: tools/install, tools/uninstall, tools/package, the manual and the completions.
+
+    python3 tools/installed.py
+
+Everything happens in temporary folders: nothing is installed on this machine. The completions are tried in each shell
+as somebody types: a line, a tab, and what the line is then. What cannot be tried, since a shell, lintian or the built
+program is not here, is told as skipped. The last line is `N tried, M wrong`, with status 1 where something is wrong. It
+is no part of the gate.
+"""
+import os
+import pty
+import re
+import select
+import shutil
+import subprocess
+import sys
+import tempfile
+import time
+from pathlib import Path
+
+TOP = Path(__file__).resolve().parent.parent
+PROGRAM = TOP / "crates" / "siman" / "out" / "siman"
+PATIENCE = 15  # seconds for an answer of a shell
+PROMPT = "READY"
+PLACES = {
+    "bin/siman": 0o755,
+    "share/man/man1/siman.1": 0o644,
+    "share/bash-completion/completions/siman": 0o644,
+    "share/zsh/site-functions/_siman": 0o644,
+    "share/fish/vendor_completions.d/siman.fish": 0o644,
+}
+IN_PACKAGE = {
+    "bin/siman",
+    "share/man/man1/siman.1.gz",
+    "share/bash-completion/completions/siman",
+    "share/zsh/vendor-completions/_siman",
+    "share/fish/vendor_completions.d/siman.fish",
+    "share/doc/siman/changelog.gz",
+    "share/doc/siman/copyright",
+}
+FILES = ("exercise.dsrc", "exercise.dsct", "exercise.script", "notes.txt")
+# What is typed before the tab, and the words of the line behind it.
+TYPED = {
+    "siman che": "siman check",
+    "siman pd": "siman pdu",
+    "siman --ver": "siman --version",
+    "siman help men": "siman help mend",
+    "siman show ": "siman show exercise.dsrc",
+    "siman check exercise.dsrc ": "siman check exercise.dsrc exercise.dsct",
+    "siman world ex": "siman world exercise.script",
+    "siman live exercise.script ": "siman live exercise.script exercise.dsrc",
+    "siman review exercise.dsrc fate=unh": "siman review exercise.dsrc fate=unheard",
+    "siman review exercise.dsrc fate=lost sta": "siman review exercise.dsrc fate=lost station=",
+    "siman log exercise.dsrc kind=ev": "siman log exercise.dsrc kind=event-report",
+    "siman log exercise.dsrc --j": "siman log exercise.dsrc --json",
+    "siman join exercise.dsrc exer": "siman join exercise.dsrc exercise.dsrc",
+    "siman join a.dsrc b.dsrc form=o": "siman join a.dsrc b.dsrc form=open",
+    "siman pdu ": "siman pdu",
+}
+COMPLETIONS = TOP / "completions"
+SHELLS = {
+    "bash": (["bash", "--norc", "--noprofile", "-i"], [f"source {COMPLETIONS}/siman.bash"]),
+    "zsh": (
+        ["zsh", "-f", "-i"],
+        [f"fpath=({COMPLETIONS} $fpath); autoload -Uz compinit; compinit -u -D; bindkey -e; setopt NO_BEEP"],
+    ),
+    "fish": (
+        ["fish", "--no-config", "-i"],
+        [f"source {COMPLETIONS}/siman.fish; function fish_prompt; echo -n '{PROMPT}> '; end"],
+    ),
+}
+
+
+class Typist:
+    """Somebody who types into a shell at a terminal of its own."""
+
+    def __init__(self, words, folder):
+        self.process, self.terminal = pty.fork()
+        if self.process == 0:
+            os.chdir(folder)
+            rest = {key: os.environ[key] for key in ("PATH",) if key in os.environ}
+            os.execvpe(words[0], words, {**rest, "TERM": "dumb", "HOME": folder, "PS1": f"{PROMPT}> ", "LC_ALL": "C.UTF-8"})
+
+    def type(self, text):
+        os.write(self.terminal, text.encode())
+
+    def read(self, wanted=None):
+        """What the shell shows until `wanted` is there, or until it is silent for a while."""
+        came, until = "", time.monotonic() + PATIENCE
+        while time.monotonic() < until and not (wanted and re.search(wanted, came)):
+            if not select.select([self.terminal], [], [], PATIENCE if wanted else 0.5)[0]:
+                break
+            try:
+                came += os.read(self.terminal, 65536).decode("utf-8", "replace")
+            except OSError:
+                break
+        return came
+
+    def end(self):
+        os.close(self.terminal)
+        os.waitpid(self.process, 0)
+
+
+class Tries:
+    """What was tried, and what of it was wrong, which is told as it comes."""
+
+    def __init__(self):
+        self.tried = self.wrong = 0
+
+    def expect(self, told, expected, came):
+        self.tried += 1
+        if expected != came:
+            self.wrong += 1
+            print(f"wrong: {told}: expected {expected!r}; came {came!r}")
+
+
+def completed(shell, folder):
+    """Of each line that is typed the words that it has behind a tab: printed by the shell itself, as it takes them."""
+    words, begin = SHELLS[shell]
+    typist = Typist(words, folder)
+    typist.read()
+    for line in begin:
+        typist.type(f"{line}\r")
+        typist.read()
+    for number, typed in enumerate(TYPED):
+        typist.type(f"{typed}\t")
+        typist.read()
+        # to the begin of the line: what the shell then prints are the words of the line
+        typist.type(f"\x01printf '[%s]' {number} \x05; echo '(end)'\r")
+        came = typist.read(rf"\[{number}\][^\n]*\(end\)")
+        found = re.search(rf"\[{number}\]((?:\[[^\]]*\])*)\(end\)", came)
+        yield typed, " ".join(re.findall(r"\[([^\]]*)\]", found[1])) if found else came
+    typist.end()
+
+
+def try_completions(tries, folder):
+    for name in FILES:
+        (folder / name).touch()
+    for shell in SHELLS:
+        if not shutil.which(shell):
+            print(f"skipped: {shell} is not here")
+            continue
+        for typed, came in completed(shell, str(folder)):
+            tries.expect(f"{shell}: {typed!r} and a tab", TYPED[typed], came)
+
+
+def run(*words, **environment):
+    """The status of a tool and its lines."""
+    done = subprocess.run(
+        list(map(str, words)), env={**os.environ, **environment}, stdin=subprocess.DEVNULL, capture_output=True, text=True
+    )  # fmt: skip
+    return done.returncode, done.stdout.splitlines(), done.stderr.splitlines()
+
+
+def files_below(folder):
+    return {str(path.relative_to(folder)): path.stat().st_mode & 0o777 for path in folder.rglob("*") if path.is_file()}
+
+
+def try_installing(tries, folder):
+    install, uninstall = TOP / "tools" / "install", TOP / "tools" / "uninstall"
+    for prefix in ("/usr/local", "/opt/a folder"):
+        base = folder / "root"
+        places = sorted(f"{base}{prefix}/{place}" for place in PLACES)
+        for again in ("", ", again"):
+            status, lines, _ = run(install, DESTDIR=str(base), PREFIX=prefix)
+            tries.expect(f"install under {prefix}{again}", (0, places), (status, sorted(lines)))
+        tries.expect(f"what stands under {prefix}", PLACES, files_below(Path(f"{base}{prefix}")))
+        _, lines, _ = run(f"{base}{prefix}/bin/siman", "--version")
+        tries.expect(f"the program under {prefix}", run(PROGRAM, "--version")[1], lines)
+        status, lines, _ = run(uninstall, DESTDIR=str(base), PREFIX=prefix)
+        tries.expect(f"uninstall under {prefix}", (0, places), (status, sorted(lines)))
+        tries.expect(f"what then stands under {prefix}", {}, files_below(base))
+        tries.expect(f"uninstall under {prefix}, again", (0, [], []), run(uninstall, DESTDIR=str(base), PREFIX=prefix))
+    for told, given in {"a PREFIX": {"PREFIX": "usr"}, "a DESTDIR": {"DESTDIR": "root"}}.items():
+        refusal = ["install: PREFIX and DESTDIR have to be absolute paths"]
+        tries.expect(f"{told} that is not absolute", (2, [], refusal), run(install, **given))
+    tries.expect("a word that install does not know", 2, run(install, "--remove")[0])
+
+
+def try_package(tries, folder):
+    package = TOP / "tools" / "package"
+    made = []
+    for name in ("one", "other"):
+        status, lines, _ = run(package, folder / name)
+        tries.expect("package", (0, 1), (status, len(lines)))
+        made.append(Path(lines[0]).read_bytes() if lines else b"")
+    tries.expect("the package made again", made[0], made[1])
+    run("dpkg-deb", "-x", lines[0], folder / "unpacked")
+    tries.expect("what is in the package", IN_PACKAGE, set(files_below(folder / "unpacked" / "usr")))
+    _, told, _ = run(folder / "unpacked" / "usr" / "bin" / "siman", "--version")
+    tries.expect("the program in the package", run(PROGRAM, "--version")[1], told)
+    if shutil.which("lintian"):
+        tries.expect("lintian", (0, []), run("lintian", "--allow-root", "--fail-on", "warning", lines[0])[:2])
+    else:
+        print("skipped: lintian is not here")
+
+
+def try_manual(tries):
+    for width in ("60", "80", "120"):
+        words = ("man", "--warnings", "-E", "UTF-8", "-l", "-Tutf8", "-Z", TOP / "docs" / "siman.1")
+        status, _, told = run(*words, MANROFFSEQ="", MANWIDTH=width, LC_ALL="C.UTF-8")
+        tries.expect(f"the manual, {width} columns wide", (0, []), (status, told))
+
+
+def main():
+    tries = Tries()
+    with tempfile.TemporaryDirectory() as folder:
+        parts = [Path(folder, name) for name in ("shells", "install", "package")]
+        for part in parts:
+            part.mkdir()
+        try_completions(tries, parts[0])
+        if shutil.which("man"):
+            try_manual(tries)
+        else:
+            print("skipped: man is not here")
+        if os.access(PROGRAM, os.X_OK):
+            try_installing(tries, parts[1])
+            if shutil.which("dpkg-deb") and shutil.which("dpkg-shlibdeps") and shutil.which("strip"):
+                try_package(tries, parts[2])
+            else:
+                print("skipped: what tools/package needs is not here")
+        else:
+            print("skipped: install and package, as there is no built program")
+    print(f"{tries.tried} tried, {tries.wrong} wrong")
+    return 1 if tries.wrong else 0
+
+
+if __name__ == "__main__":
+    sys.exit(main())

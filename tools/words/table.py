@@ -1,0 +1,94 @@
+"""The commands of the program, read from their table in siman_words, and from the table of the README."""
+import ast
+import re
+from pathlib import Path
+from typing import NamedTuple
+
+import commands
+
+TOP = Path(__file__).resolve().parent.parent.parent
+STRING = r'"(?:[^"\\]|\\.)*"'
+# The words of a key whose values have names, and where the code names them.
+NAMED = {
+    "fate": ("crates/exercise_review/src/fate.rt", r'Fate::\w+ => "([a-z-]+)"', []),
+    "kind": ("crates/dis_records/src/kind.rt", r'Kind::\w+ => "([a-z-]+)"', ["told", "other"]),
+}
+
+
+class Word(NamedTuple):
+    """A word that a command takes: its name, whether it may stand more than once, and what it is."""
+
+    name: str
+    is_repeated: bool
+    about: str
+
+
+class Command(NamedTuple):
+    """A command: its name, its usage, what it does, what it answers, an example, its words, and the words with a key,
+    or with dashes, that may stand behind those.
+    """
+
+    name: str
+    usage: str
+    about: str
+    answer: str
+    example: str
+    words: list
+    choices: list
+
+
+class Program(NamedTuple):
+    version: str
+    about: str
+    statuses: list
+    trial: str
+    commands: list
+
+
+def string(text):
+    """What a string of the code says, which may be broken over lines."""
+    return ast.literal_eval(f'"""{text[1:-1]}"""')
+
+
+def constant(text, name):
+    return string(re.search(rf"const {name}: &str =\s*({STRING})", text)[1])
+
+
+def answers():
+    """What each command answers, by its name, as the README's table says; and the whole program, under no name."""
+    section = (TOP / "README.md").read_text(encoding="utf-8").partition("## The commands")[2].partition("\n## ")[0]
+    rows = re.findall(r"^\| `\./siman ?([a-z]*)[^`]*` \| (.*) \| [^|]* \|$", section, flags=re.M)
+    return {name: text.replace(r"\|", "|") for name, text in rows}
+
+
+def values_of(key):
+    """The names that the value of a key may have; none where it is a number or an address."""
+    if key not in NAMED:
+        return []
+    path, form, further = NAMED[key]
+    return re.findall(form, (TOP / path).read_text(encoding="utf-8")) + further
+
+
+def choices_of(usage, words):
+    """The words that may stand behind the others: those of the usage in brackets, and those that a filter may be."""
+    behind = [choice for part in re.findall(r"\[([^\]]+)\]", usage) for choice in part.split("|")]
+    keys = [key for word in words if word.name == "FILTER" for key in re.findall(r"\b[a-z]+=[A-Z:/]+", word.about)]
+    return keys + [choice for choice in behind if not choice.startswith("FILTER")]
+
+
+def program():
+    """The program, as its table of commands says."""
+    text = commands.TABLE.read_text(encoding="utf-8")
+    rows = re.split(r"^    Row \{$", text.partition("const ROWS")[2].partition("\n];")[0], flags=re.M)[1:]
+    usages = [usage.replace(r"\|", "|") for usage in commands.rows_of_program()]
+    answer, found = answers(), []
+    for row, usage in zip(rows, usages, strict=True):
+        head, _, tail = row.partition("words:")
+        name, about, example = (string(re.search(rf"{key}: ({STRING})", head)[1]) for key in ("name", "about", "example"))
+        parts = re.findall(rf"name: ({STRING}),\s*often: Often::(\w+),\s*about: ({STRING})", tail)
+        words = [Word(string(word), often != "Once", string(what)) for word, often, what in parts]
+        example = example.removeprefix("Example:").strip()
+        found.append(Command(name, usage, about, answer[name], example, words, choices_of(usage, words)))
+    statuses, _, trial = constant(text, "STATUSES").partition("\n\nExamples:\n")
+    told = [line.split(maxsplit=1) for line in statuses.splitlines()[1:]]
+    return Program(constant(text, "VERSION"), constant(text, "ABOUT"), told, trial.strip(), found)

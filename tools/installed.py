@@ -22,7 +22,6 @@ from pathlib import Path
 TOP = Path(__file__).resolve().parent.parent
 PROGRAM = TOP / "crates" / "siman" / "out" / "siman"
 PATIENCE = 15  # seconds for an answer of a shell
-PROMPT = "READY"
 PLACES = {
     "bin/siman": 0o755,
     "share/man/man1/siman.1": 0o644,
@@ -67,7 +66,7 @@ SHELLS = {
     ),
     "fish": (
         ["fish", "--no-config", "-i"],
-        [f"source {COMPLETIONS}/siman.fish; function fish_prompt; echo -n '{PROMPT}> '; end"],
+        [f"source {COMPLETIONS}/siman.fish; function fish_prompt; echo -n '> '; end"],
     ),
 }
 
@@ -79,8 +78,8 @@ class Typist:
         self.process, self.terminal = pty.fork()
         if self.process == 0:
             os.chdir(folder)
-            rest = {key: os.environ[key] for key in ("PATH",) if key in os.environ}
-            os.execvpe(words[0], words, {**rest, "TERM": "dumb", "HOME": folder, "PS1": f"{PROMPT}> ", "LC_ALL": "C.UTF-8"})
+            told = {"PATH": os.environ["PATH"], "HOME": folder, "TERM": "dumb", "PS1": "> ", "LC_ALL": "C.UTF-8"}
+            os.execvpe(words[0], words, told)
 
     def type(self, text):
         os.write(self.terminal, text.encode())
@@ -147,9 +146,8 @@ def try_completions(tries, folder):
 
 def run(*words, **environment):
     """The status of a tool and its lines."""
-    done = subprocess.run(
-        list(map(str, words)), env={**os.environ, **environment}, stdin=subprocess.DEVNULL, capture_output=True, text=True
-    )  # fmt: skip
+    environment = {**os.environ, **environment}
+    done = subprocess.run(list(map(str, words)), env=environment, stdin=subprocess.DEVNULL, capture_output=True, text=True)
     return done.returncode, done.stdout.splitlines(), done.stderr.splitlines()
 
 

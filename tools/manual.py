@@ -45,23 +45,23 @@ def words_of(text):
     return " ".join(text.split())
 
 
-def told_by_help(path, command=None):
-    """What the help of the program says, as words."""
-    words = [str(path.resolve()), "help", *([command] if command else [])]
-    return words_of(subprocess.run(words, check=True, capture_output=True, text=True).stdout)
+def help_of(path, *command):
+    """The help of a built program, or that of one of its commands."""
+    words = [str(path.resolve()), "help", *command]
+    return subprocess.run(words, check=True, capture_output=True, text=True).stdout
 
 
 def wrong_help(program, path):
     """Where the help of a built program does not say what the tables say."""
-    whole = told_by_help(path)
+    whole = help_of(path)
     for text in [program.about, *(text for _, text in program.statuses)]:
-        if words_of(text) not in whole:
+        if words_of(text) not in words_of(whole):
             yield f"the help does not say: {text}"
-    listed = re.findall(r"^  ([a-z]+) ", subprocess.run([str(path.resolve()), "help"], capture_output=True, text=True).stdout, re.M)
+    listed = re.findall(r"^  ([a-z]+) ", whole.partition("Commands:\n")[2].partition("\n\n")[0], re.M)
     if listed != [*(command.name for command in program.commands), "help"]:
         yield f"the help lists {' '.join(listed)}"
     for command in program.commands:
-        told = told_by_help(path, command.name)
+        told = words_of(help_of(path, command.name))
         for text in [command.about, command.example, *(word.about for word in command.words)]:
             if words_of(text) not in told:
                 yield f"the help of {command.name} does not say: {text}"

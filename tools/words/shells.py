@@ -7,146 +7,74 @@ ENDS = {
     "SVG": "svg",
 }  # fmt: skip
 OPTIONS = {"--help": "Print help", "--version": "Print version"}
+HELP = "Print the help, or that of a command"
 
-
-def places_of(command):
-    """The words of a command by their places: those at one place, and those from a place on."""
-    names = [word.name for word in command.words]
-    first = next((k for k, word in enumerate(command.words) if word.is_repeated), len(names))
-    return names[:first], names[first:]
-
-
-def ends_of(names):
-    """How the files end that may stand at a place, each once."""
-    return list(dict.fromkeys(ENDS[name] for name in names if name in ENDS))
-
-
-def offered(command, values_of):
-    """The words that are offered behind those that have their places: whole ones, and keys that a value follows."""
-    found = []
-    for choice in command.choices:
-        key, _, value = choice.partition("=")
-        if not value or value == value.lower():
-            found.append(choice)
-        else:
-            found += [f"{key}={name}" for name in values_of(key)] or [f"{key}="]
-    return found
-
-
-def quoted(text):
-    return "'" + text.replace("'", "'\\''") + "'"
-
-
-def bash(program, values_of):
-    cases = []
-    for command in program.commands:
-        fixed, behind = places_of(command)
-        lines = [f"{command.name}:{place}) _siman_files {end} ;;" for place, name in enumerate(fixed) for end in ends_of([name])]
-        rest = [f"_siman_files {end}" for end in ends_of(behind)]
-        if offered(command, values_of):
-            rest.append(f"_siman_words {quoted(' '.join(offered(command, values_of)))}")
-        if rest:
-            lines.append(f"{command.name}:*) {'; '.join(rest)} ;;")
-        cases += lines
-    names = " ".join([*(command.name for command in program.commands), "help"])
-    return f"""\
-# Completion of siman's words for bash. {MADE}
+BASH = """\
+# Completion of siman's words for bash. @MADE@
 
 # Those of these words that begin as the current one. Bash looks at what stands behind the last = or : of a word.
-_siman_words() {{
+_siman_words() {
     local word
     for word in $1; do
-        if [[ $word == "$current"* ]]; then COMPREPLY+=("${{word#"${{current%"${{current##*[=:]}}"}}"}}"); fi
+        if [[ $word == "$current"* ]]; then COMPREPLY+=("${word#"${current%"${current##*[=:]}"}"}"); fi
     done
-    if [[ ${{#COMPREPLY[@]}} == 1 && ${{COMPREPLY[0]}} == *= ]]; then compopt -o nospace; fi
-}}
+    if [[ ${#COMPREPLY[@]} == 1 && ${COMPREPLY[0]} == *= ]]; then compopt -o nospace; fi
+}
 
 # Files that end so, and folders; all files where there are none.
-_siman_files() {{
+_siman_files() {
     local files
     mapfile -t files < <(compgen -f -X "!*.$1" -- "$current" && compgen -d -- "$current")
-    if ((${{#files[@]}} == 0)); then mapfile -t files < <(compgen -f -- "$current"); fi
-    if ((${{#files[@]}} > 0)); then
-        COMPREPLY+=("${{files[@]}}")
+    if ((${#files[@]} == 0)); then mapfile -t files < <(compgen -f -- "$current"); fi
+    if ((${#files[@]} > 0)); then
+        COMPREPLY+=("${files[@]}")
         compopt -o filenames
     fi
-}}
+}
 
-_siman() {{
+_siman() {
     local current words
-    read -r -a words <<<"${{COMP_LINE:0:COMP_POINT}}."
-    current=${{words[-1]%.}}
+    read -r -a words <<<"${COMP_LINE:0:COMP_POINT}."
+    current=${words[-1]%.}
     COMPREPLY=()
-    if ((${{#words[@]}} == 2)); then
-        _siman_words '{names} {" ".join(OPTIONS)}'
+    if ((${#words[@]} == 2)); then
+        _siman_words '@NAMES@ @OPTIONS@'
         return
     fi
-    case ${{words[1]}}:$((${{#words[@]}} - 3)) in
-        help:0) _siman_words '{names}' ;;
-        {(chr(10) + "        ").join(cases)}
+    case ${words[1]}:$((${#words[@]} - 3)) in
+        help:0) _siman_words '@NAMES@' ;;
+        @CASES@
     esac
-}}
+}
 
 complete -F _siman siman
 """
 
-
-def zsh(program, values_of):
-    cases = []
-    for command in program.commands:
-        fixed, behind = places_of(command)
-        for place, name in enumerate(fixed):
-            cases += [f"{command.name}:{place}) _files -g '*.{end}' ;;" for end in ends_of([name])]
-        rest = [f"_files -g '*.{end}'" for end in ends_of(behind)]
-        words = offered(command, values_of)
-        rest += [f"compadd -S '' -- {' '.join(keys)}" for keys in [[it for it in words if it.endswith("=")]] if keys]
-        rest += [f"compadd -- {' '.join(whole)}" for whole in [[it for it in words if not it.endswith("=")]] if whole]
-        if rest:
-            cases.append(f"{command.name}:*) {'; '.join(rest)} ;;")
-    told = [quoted(f"{command.name}:{command.about}") for command in program.commands]
-    options = [quoted(f"{name}:{about}") for name, about in OPTIONS.items()]
-    return f"""\
+ZSH = """\
 #compdef siman
-# Completion of siman's words for zsh. {MADE}
+# Completion of siman's words for zsh. @MADE@
 
-_siman() {{
+_siman() {
     local -a commands options
     commands=(
-        {(chr(10) + "        ").join(told)}
-        'help:Print the help, or that of a command'
+        @COMMANDS@
     )
-    options=({" ".join(options)})
+    options=(@OPTIONS@)
     if ((CURRENT == 2)); then
         _describe -t commands command commands -- options
         return
     fi
     case $words[2]:$((CURRENT - 3)) in
         help:0) _describe -t commands command commands ;;
-        {(chr(10) + "        ").join(cases)}
+        @CASES@
     esac
-}}
+}
 
 _siman "$@"
 """
 
-
-def fish(program, values_of):
-    lines = []
-    for command in program.commands:
-        fixed, behind = places_of(command)
-        lines.append(f"complete -c siman -n '__siman_at 1' -a {command.name} -d {quoted(command.about)}")
-        for place, name in enumerate(fixed):
-            for end in ends_of([name]):
-                at = f"'__siman_at {place + 2} {command.name}'"
-                lines.append(f"complete -c siman -n {at} -a '(__siman_files {end})'")
-        behind_at = f"'__siman_behind {len(fixed) + 2} {command.name}'"
-        lines += [f"complete -c siman -n {behind_at} -a '(__siman_files {end})'" for end in ends_of(behind)]
-        words = offered(command, values_of)
-        if words:
-            lines.append(f"complete -c siman -n {behind_at} -a '{' '.join(words)}'")
-    names = " ".join(command.name for command in program.commands)
-    return f"""\
-# Completion of siman's words for fish. {MADE}
+FISH = """\
+# Completion of siman's words for fish. @MADE@
 
 # Whether the current word stands at this place, and the first one, if one is given, is this command.
 function __siman_at
@@ -177,7 +105,100 @@ end
 complete -c siman -f
 complete -c siman -n '__siman_at 1' -l help -s h -d 'Print help'
 complete -c siman -n '__siman_at 1' -l version -s V -d 'Print version'
-complete -c siman -n '__siman_at 1' -a help -d 'Print the help, or that of a command'
-complete -c siman -n '__siman_at 2 help' -a '{names}'
-{chr(10).join(lines)}
+complete -c siman -n '__siman_at 1' -a help -d '@HELP@'
+complete -c siman -n '__siman_at 2 help' -a '@NAMES@'
+@CASES@
 """
+
+
+def filled(template, parts):
+    for name, text in {"MADE": MADE, "HELP": HELP, **parts}.items():
+        template = template.replace(f"@{name}@", text)
+    return template
+
+
+def places_of(command):
+    """The words of a command by their places: those at one place, and those from a place on."""
+    names = [word.name for word in command.words]
+    first = next((k for k, word in enumerate(command.words) if word.is_repeated), len(names))
+    return names[:first], names[first:]
+
+
+def ends_of(names):
+    """How the files end that may stand at a place, each once."""
+    return list(dict.fromkeys(ENDS[name] for name in names if name in ENDS))
+
+
+def offered(command, values_of):
+    """The words that are offered behind those that have their places: whole ones, and keys that a value follows."""
+    found = []
+    for choice in command.choices:
+        key, _, value = choice.partition("=")
+        if not value or value == value.lower():
+            found.append(choice)
+        else:
+            found += [f"{key}={name}" for name in values_of(key)] or [f"{key}="]
+    return found
+
+
+def quoted(text):
+    return "'" + text.replace("'", "'\\''") + "'"
+
+
+def names_of(program):
+    return [*(command.name for command in program.commands), "help"]
+
+
+def cases_of(program, values_of, files, words):
+    """The cases of a shell: `files` is how it offers those that end so, and `words` how it offers words, if any."""
+    cases = []
+    for command in program.commands:
+        fixed, behind = places_of(command)
+        cases += [f"{command.name}:{k}) {files(end)} ;;" for k, name in enumerate(fixed) for end in ends_of([name])]
+        rest = [*map(files, ends_of(behind)), *words(offered(command, values_of))]
+        if rest:
+            cases.append(f"{command.name}:*) {'; '.join(rest)} ;;")
+    return "\n        ".join(cases)
+
+
+def bash(program, values_of):
+    def words(offered_words):
+        return [f"_siman_words {quoted(' '.join(offered_words))}"] if offered_words else []
+
+    cases = cases_of(program, values_of, "_siman_files {}".format, words)
+    return filled(BASH, {"NAMES": " ".join(names_of(program)), "OPTIONS": " ".join(OPTIONS), "CASES": cases})
+
+
+def zsh(program, values_of):
+    def words(offered_words):
+        keys = [word for word in offered_words if word.endswith("=")]
+        whole = [word for word in offered_words if not word.endswith("=")]
+        behind_keys = [f"compadd -S '' -- {' '.join(keys)}"] if keys else []
+        return behind_keys + ([f"compadd -- {' '.join(whole)}"] if whole else [])
+
+    told = {command.name: command.about for command in program.commands} | {"help": HELP}
+    described = [quoted(f"{name}:{about}") for name, about in told.items()]
+    options = [quoted(f"{name}:{about}") for name, about in OPTIONS.items()]
+    cases = cases_of(program, values_of, "_files -g '*.{}'".format, words)
+    parts = {"COMMANDS": "\n        ".join(described), "OPTIONS": " ".join(options), "CASES": cases}
+    return filled(ZSH, parts)
+
+
+def fish_lines(command, values_of):
+    """The lines of a command: its name, the words at one place, and those behind."""
+    fixed, behind = places_of(command)
+    at, name = "complete -c siman -n", command.name
+    yield f"{at} '__siman_at 1' -a {name} -d {quoted(command.about)}"
+    for place, word in enumerate(fixed, start=2):
+        for end in ends_of([word]):
+            yield f"{at} '__siman_at {place} {name}' -a '(__siman_files {end})'"
+    for end in ends_of(behind):
+        yield f"{at} '__siman_behind {len(fixed) + 2} {name}' -a '(__siman_files {end})'"
+    if offered(command, values_of):
+        words = " ".join(offered(command, values_of))
+        yield f"{at} '__siman_behind {len(fixed) + 2} {name}' -a '{words}'"
+
+
+def fish(program, values_of):
+    lines = [line for command in program.commands for line in fish_lines(command, values_of)]
+    return filled(FISH, {"NAMES": " ".join(names_of(program)[:-1]), "CASES": "\n".join(lines)})

@@ -84,7 +84,8 @@ def program():
     answer, found = answers(), []
     for row, usage in zip(rows, usages, strict=True):
         head, _, tail = row.partition("words:")
-        name, about, example = (string(re.search(rf"{key}: ({STRING})", head)[1]) for key in ("name", "about", "example"))
+        keys = ("name", "about", "example")
+        name, about, example = (string(re.search(rf"{key}: ({STRING})", head)[1]) for key in keys)
         parts = re.findall(rf"name: ({STRING}),\s*often: Often::(\w+),\s*about: ({STRING})", tail)
         words = [Word(string(word), often != "Once", string(what)) for word, often, what in parts]
         example = example.removeprefix("Example:").strip()

@@ -1,0 +1,121 @@
+#!/usr/bin/env python3
+"""Compares the exercises of examples/ with what the built program says of them.
+
+    python3 tools/exercises.py [EXERCISE ..] [--program PROGRAM]
+    python3 tools/exercises.py --write
+
+An exercise is a folder of examples/ with a script, a recorder or two machines, and with the report and the review of
+its recording. The recording is made anew in a temporary folder; then `audit` has to find an order, and what `check` and
+`review` print has to be report.txt and review.txt. Both are compared, too, with what tools/pages computes of the
+recording, which knows nothing of the program. --write makes both files anew, of what tools/pages computes.
+
+The last line is `N tried, M wrong`, with status 1 where something is wrong. It is no part of the gate.
+"""
+import argparse
+import os
+import socket
+import subprocess
+import sys
+import tempfile
+from pathlib import Path
+
+sys.dont_write_bytecode = True
+
+import pages
+
+TOP = Path(__file__).resolve().parent.parent
+EXAMPLES = TOP / "examples"
+LONGEST = 60  # seconds for a program
+
+
+def arguments():
+    form = argparse.RawDescriptionHelpFormatter
+    parser = argparse.ArgumentParser(description=__doc__, formatter_class=form)
+    parser.add_argument("exercises", nargs="*", metavar="EXERCISE", help="folders of examples/; all if none is given")
+    default = TOP / "crates" / "siman" / "out" / "siman"
+    parser.add_argument("--program", type=Path, default=default, help="crates/siman/out/siman if not given")
+    parser.add_argument("--write", action="store_true", help="makes report.txt and review.txt anew")
+    given = parser.parse_args()
+    if not os.access(given.program, os.X_OK):
+        parser.error(f"there is no program {given.program}: ./siman --build builds it")
+    given.program = given.program.resolve()
+    return given
+
+
+def run(*words):
+    """What a program prints that ends well; what it says where it does not."""
+    done = subprocess.run(list(map(str, words)), capture_output=True, timeout=LONGEST, stdin=subprocess.DEVNULL)
+    return done.stdout if done.returncode == 0 else done.stdout + done.stderr + f"status {done.returncode}\n".encode()
+
+
+def free_address():
+    """An address of the loopback that nobody uses."""
+    with socket.socket(socket.AF_INET, socket.SOCK_DGRAM) as it:
+        it.bind(("127.0.0.1", 0))
+        return f"127.0.0.1:{it.getsockname()[1]}"
+
+
+def piece_of_machines(machine, folder):
+    """The pieces of two machines, once both have ended."""
+    names, addresses = [folder / "control.dsrc", folder / "simulator.dsrc"], [free_address(), free_address()]
+    words = [sys.executable, machine, "simulator", names[1], *reversed(addresses)]
+    with subprocess.Popen(list(map(str, words)), stdout=subprocess.PIPE) as simulator:
+        simulator.stdout.readline()
+        run(sys.executable, machine, "control", names[0], *addresses)
+        simulator.wait(LONGEST)
+    return names
+
+
+def made_recording(program, exercise, folder):
+    """The recording of an exercise, made anew, and the lines that its making has to print with those that it prints."""
+    recording, script = folder / "exercise.dsrc", exercise / "exercise.script"
+    if script.is_file():
+        line = run(program, "world", script, recording)
+        counted = pages.read_recording(recording.read_bytes()).entries
+        sent = sum(entry.kind == pages.SENT for entry in counted)
+        return recording, [("world", f"world records={len(counted)} sent={sent}\n".encode(), line)]
+    if (exercise / "recorder.py").is_file():
+        return recording, [("its recorder", b"", run(sys.executable, exercise / "recorder.py", recording))]
+    compared, names = [], piece_of_machines(exercise / "machine.py", folder)
+    for name in names:
+        order = run(program, "audit", name, folder / "piece.dsct")
+        compared.append((f"audit of {name.name}", pages.answer_to_audit(name.read_bytes()).out, order))
+    line, text = pages.answer_to_join([(name.name, name.read_bytes()) for name in names], "closed")
+    compared.append(("join", line.out, run(program, "join", *names, recording, "form=closed")))
+    compared.append(("what join writes", text, recording.read_bytes()))
+    return recording, compared
+
+
+def compared_texts(program, exercise, folder, is_written):
+    """Of an exercise what is compared: a name, what it should be and what it is."""
+    recording, compared = made_recording(program, exercise, folder)
+    certificate, text = folder / "exercise.dsct", recording.read_bytes()
+    compared.append(("audit", pages.answer_to_audit(text).out, run(program, "audit", recording, certificate)))
+    report = pages.answer_to_check(text, certificate.read_bytes()).out, run(program, "check", recording, certificate)
+    review = pages.answer_to_review(text).out, run(program, "review", recording)
+    for name, (computed, printed) in {"report.txt": report, "review.txt": review}.items():
+        if is_written:
+            (exercise / name).write_bytes(computed)
+        stands = (exercise / name).read_bytes()
+        compared.append((f"{name} as the pages have it", stands, computed))
+        compared.append((f"{name} as the program has it", stands, printed))
+    return compared
+
+
+def main():
+    given = arguments()
+    names = given.exercises or sorted(path.name for path in EXAMPLES.iterdir() if (path / "review.txt").is_file())
+    tried = wrong = 0
+    for name in names:
+        with tempfile.TemporaryDirectory() as folder:
+            for told, expected, came in compared_texts(given.program, EXAMPLES / name, Path(folder), given.write):
+                tried += 1
+                if expected != came:
+                    wrong += 1
+                    print(f"wrong: {name}: {told}: expected {expected!r}; came {came!r}")
+    print(f"{tried} tried, {wrong} wrong")
+    return 1 if wrong or not tried else 0
+
+
+if __name__ == "__main__":
+    sys.exit(main())

@@ -1,13 +1,15 @@
 #!/usr/bin/env python3
 """Tries what siman is installed with: tools/install, tools/uninstall, tools/package, the manual and the completions.
 
-    python3 tools/installed.py
+    python3 tools/installed.py [--root FOLDER]
 
 Everything happens in temporary folders: nothing is installed on this machine. The completions are tried in each shell
-as somebody types: a line, a tab, and what the line is then. What cannot be tried, since a shell, lintian or the built
-program is not here, is told as skipped. The last line is `N tried, M wrong`, with status 1 where something is wrong. It
-is no part of the gate.
+as somebody types: a line, a tab, and what the line is then. With --root the package is installed in the Debian system
+that stands in FOLDER, as `debootstrap --variant=minbase bookworm FOLDER` makes one, used, and purged; that takes the
+rights of root. What cannot be tried, since a shell, lintian or the built program is not here, is told as skipped. The
+last line is `N tried, M wrong`, with status 1 where something is wrong. It is no part of the gate.
 """
+import argparse
 import os
 import pty
 import re
@@ -194,6 +196,21 @@ def try_package(tries, folder):
         print("skipped: lintian is not here")
 
 
+def try_in_root(tries, root, folder):
+    """The package in a system that has nothing but what Debian always has."""
+    _, lines, _ = run(TOP / "tools" / "package", folder)
+    shutil.copy(lines[0], root / "siman.deb")
+    before = set(files_below(root / "usr"))
+    tries.expect("dpkg -i in a root", 0, run("chroot", root, "dpkg", "-i", "/siman.deb")[0])
+    tries.expect("dpkg -V in a root", (0, [], []), run("chroot", root, "dpkg", "-V", "siman"))
+    tries.expect("the program in a root", run(PROGRAM, "--help"), run("chroot", root, "siman", "--help"))
+    come = set(files_below(root / "usr")) - before
+    tries.expect("what the package brings in a root", IN_PACKAGE, come)
+    tries.expect("dpkg --purge in a root", 0, run("chroot", root, "dpkg", "--purge", "siman")[0])
+    tries.expect("what then stands in a root", before, set(files_below(root / "usr")))
+    (root / "siman.deb").unlink()
+
+
 def try_manual(tries):
     for width in ("60", "80", "120"):
         words = ("man", "--warnings", "-E", "UTF-8", "-l", "-Tutf8", "-Z", TOP / "docs" / "siman.1")
@@ -201,8 +218,15 @@ def try_manual(tries):
         tries.expect(f"the manual, {width} columns wide", (0, []), (status, told))
 
 
+def arguments():
+    form = argparse.RawDescriptionHelpFormatter
+    parser = argparse.ArgumentParser(description=__doc__, formatter_class=form)
+    parser.add_argument("--root", type=Path, metavar="FOLDER", help="a Debian system, in which the package is tried")
+    return parser.parse_args()
+
+
 def main():
-    tries = Tries()
+    given, tries = arguments(), Tries()
     with tempfile.TemporaryDirectory() as folder:
         parts = [Path(folder, name) for name in ("shells", "install", "package")]
         for part in parts:
@@ -216,6 +240,8 @@ def main():
             try_installing(tries, parts[1])
             if shutil.which("dpkg-deb") and shutil.which("dpkg-shlibdeps") and shutil.which("strip"):
                 try_package(tries, parts[2])
+                if given.root:
+                    try_in_root(tries, given.root.resolve(), parts[2])
             else:
                 print("skipped: what tools/package needs is not here")
         else:

@@ -70,10 +70,8 @@ def made_recording(program, exercise, folder):
     """The recording of an exercise, made anew, and the lines that its making has to print with those that it prints."""
     recording, script = folder / "exercise.dsrc", exercise / "exercise.script"
     if script.is_file():
-        line = run(program, "world", script, recording)
-        counted = pages.read_recording(recording.read_bytes()).entries
-        sent = sum(entry.kind == pages.SENT for entry in counted)
-        return recording, [("world", f"world records={len(counted)} sent={sent}\n".encode(), line)]
+        line, (told, text) = run(program, "world", script, recording), pages.answer_to_world(script.read_bytes())
+        return recording, [("world", told.out, line), ("what world writes", text, recording.read_bytes())]
     if (exercise / "recorder.py").is_file():
         return recording, [("its recorder", b"", run(sys.executable, exercise / "recorder.py", recording))]
     compared, names = [], piece_of_machines(exercise / "machine.py", folder)

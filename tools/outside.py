@@ -3,7 +3,8 @@
 
 It runs every command on good and bad words, input and files, with streams that are full, closed or not read, and with
 memory refused at each allocation in turn, and compares the exit status and both streams with what the pages README.md,
-docs/TEXTS.md, docs/FORMATS.md, docs/LAYOUTS.md, docs/PROFILE.md, docs/MODEL.md, docs/LINES.md and docs/SCRIPTS.md say.
+docs/TEXTS.md, docs/FORMATS.md, docs/LAYOUTS.md, docs/PROFILE.md, docs/MODEL.md, docs/LINES.md, docs/SCRIPTS.md,
+docs/ORDERS.md and docs/APPLICATION.md say.
 What they say is computed in pages/, which knows nothing of the program; the cases stand in cases/. The scripts of examples/ and
 tools/ that write recordings are tried with it. It is no part of the gate.
 

@@ -1,5 +1,6 @@
 """Scripts that are run, and the files of the recordings that they make."""
 import os
+import random
 import re
 
 import pages
@@ -8,18 +9,9 @@ from cases.trials import UNWRITTEN, Case, Verdict, told
 from pages import Outcome
 
 HEAD = b"exercise 1\nstation 1:1\nstation 2:3\n"
-
-
-class Ran:
-    """A world that ran, or one of which a move or the stations were refused."""
-
-    def __eq__(self, came):
-        ran = came.status == 0 and re.fullmatch(rb"world records=\d+ sent=\d+\n", came.out) and came.errors == b""
-        stopped = came.status == 2 and came.out == b"" and re.fullmatch(rb"world: [a-z-]+( at move \d+)?\n", came.errors)
-        return bool(ran or stopped)
-
-    def __repr__(self):
-        return "the line of a world, or why it stopped"
+MADE_UP = 400
+ENTITIES, IDENTIFIERS = (0, 1, 2, 7, 7, 7, 65533, 65534, 65535), (0, 1, 2, 3, 4294967295)
+ORDERS = ("create", "create", "start", "stop", "remove", "do", "query", "set")
 
 
 def after(trials, words, accepted, name, is_right, **more):
@@ -107,13 +99,71 @@ class Closed:
         return "the text of a trial, or why its world stopped"
 
 
+def try_world(trials, text, name):
+    """A script, the line or the fault that it comes to, and its recording to the byte."""
+    answer, recording = pages.answer_to_world(text)
+    after(trials, ["world", trials.file(text), name], (answer,), name, lambda left: left == recording)
+    return answer
+
+
 def try_changed(trials):
     for number, lines in enumerate(changed_scripts()):
         text = b"".join(lines)
-        fault = pages.script_fault(text)
-        refused = pages.fault(f"script: {fault}")
-        trials.expect(["world", trials.file(text), f"changed.{number}.dsrc"], refused if fault else Ran())
-        trials.expect([], refused if fault else Closed(), given=text)
+        answer = try_world(trials, text, f"changed.{number}.dsrc")
+        trials.expect([], Closed() if answer.status == 0 else answer, given=text)
+
+
+def setting_lines(chance, stations):
+    """The exercise, its stations, and what these open with, hold and know."""
+    yield f"exercise {chance.randrange(256)}"
+    for station in stations:
+        first, tries, wait = chance.choice((1, 9, 4294967290)), chance.randint(1, 3), chance.choice((0, 5, 10))
+        yield f"station {station}" + chance.choice(("", f" first={first} tries={tries} wait={wait}"))
+    for station in stations:
+        for entity in sorted(chance.sample((1, 2, 7, 65533), chance.randrange(3))):
+            yield f"opening {station} {entity} {chance.choice(('stopped', 'running'))}"
+        yield f"fixed {station} {chance.choice(IDENTIFIERS)} {chance.randrange(9)}"
+        yield f"action {station} {chance.choice(IDENTIFIERS)}"
+
+
+def move_line(chance, stations, sent):
+    """A move that may follow where so many datagrams were sent."""
+    names = ("at", "tell", "tick", "order", "order", *(("deliver",) * 4 if sent else ()))
+    name = chance.choice(names)
+    station, other = chance.choice(stations), chance.choice([*stations, "65535:65535", "2:65535", "9:9"])
+    if name == "at":
+        return f"at {chance.choice((0, 3, 10, 20, 40, 2**31, 2**64 - 1))}"
+    if name == "deliver":
+        return f"deliver {chance.randrange(sent + (chance.random() < 0.03))} {station}"
+    if name == "tell":
+        return f"tell {station} {chance.choice((1, 2, 7, 65533))}"
+    if name == "tick":
+        return f"tick {station}"
+    order = chance.choice(ORDERS)
+    numbers = {"do": 1, "query": chance.randint(1, 4), "set": 2}.get(order, 0)
+    values = "".join(f" {chance.choice(IDENTIFIERS)}" for _ in range(numbers))
+    return f"{order} {station} {other}:{chance.choice(ENTITIES)}{values}"
+
+
+def made_up_script(chance):
+    """A script whose moves are of every kind, and mostly can be made."""
+    stations = sorted(chance.sample(["1:1", "1:2", "2:3", "2:4", "65534:65534"], chance.randint(1, 4)))
+    lines, world = list(setting_lines(chance, stations)), pages.World()
+    for line in lines:
+        world.take_line(line)
+    try:
+        for _ in range(chance.randint(5, 60)):
+            lines.append(move_line(chance, stations, len(world.sent)))
+            world.take_line(lines[-1])
+    except pages.Stopped:
+        pass  # the last move cannot be made
+    return "".join(f"{line}\n" for line in lines).encode()
+
+
+def try_made_up(trials):
+    chance = random.Random(1278)
+    for number in range(MADE_UP):
+        try_world(trials, made_up_script(chance), f"made-up.{number}.dsrc")
 
 
 def try_trials(trials):
@@ -137,5 +187,6 @@ def try_all(trials, _):
     try_worked(trials)
     try_faults(trials)
     try_changed(trials)
+    try_made_up(trials)
     try_trials(trials)
     try_unwritable(trials)

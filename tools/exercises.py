@@ -102,7 +102,8 @@ def compared_texts(program, exercise, folder, is_written):
 
 def main():
     given = arguments()
-    names = given.exercises or sorted(path.name for path in EXAMPLES.iterdir() if (path / "review.txt").is_file())
+    makers = ("exercise.script", "recorder.py", "machine.py")
+    names = given.exercises or sorted({path.parent.name for maker in makers for path in EXAMPLES.glob(f"*/{maker}")})
     tried = wrong = 0
     for name in names:
         with tempfile.TemporaryDirectory() as folder:

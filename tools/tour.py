@@ -8,10 +8,11 @@ in a copy of the repository's tree with the built program, and what each prints,
 error, is compared with the lines that stand below it. A line `..` stands for lines that are left out, one or more, and
 ` ..` at the end of a line for the rest of it. The README is taken as a newcomer would, in a fresh copy; in the copy of
 any other page the files of examples/ are made. A link has to lead to a file of the tree, and to a heading where it
-names one. A block without `$ `, and a link to another site, are not looked at.
+names one; and a source that the text names, as `laws.rt` or `tools/tour.py`, has to be there, with the folders before
+its name. A block without `$ `, and a link to another site, are not looked at.
 
-Each command and link that is wrong is told with its page and line; the last line is `N tried, M wrong`, with status 1
-where something is. Nothing is written outside of temporary copies.
+Each command, link and name that is wrong is told with its page and line; the last line is `N tried, M wrong`, with
+status 1 where something is. Nothing is written outside of temporary copies.
 """
 import argparse
 import itertools
@@ -27,6 +28,9 @@ from typing import NamedTuple
 TOP = Path(__file__).resolve().parent.parent
 PROGRAM = Path("crates", "siman", "out", "siman")
 LONGEST = 60  # seconds for a command
+# A source that a page names. A name in capitals stands for many.
+SOURCE = r"`([\w./-]+\.(?:rt|antt|py|sh|c|cases|edit|md|txt))`"
+FOR_MANY = {"NAME", "CRATE", "PAGE"}
 
 
 class Command(NamedTuple):
@@ -188,6 +192,15 @@ def links_of(page):
                 yield number, target
 
 
+def sources_of(page):
+    """The sources that a page names, with their lines."""
+    for number, line, block in blocks_and_text(page):
+        if not block:
+            for name in re.findall(SOURCE, line):
+                if not FOR_MANY & set(re.split(r"\W", name)):
+                    yield number, name
+
+
 def headings_of(page):
     """The names under which links reach the headings of a page: as GitHub makes them."""
     names, seen = set(), {}
@@ -220,19 +233,27 @@ def wrong_links(top, files, name, links):
             yield Wrong(name, line, why)
 
 
+def wrong_sources(files, name, sources):
+    """Those sources that a page names and that are not there."""
+    paths = [f"/{file}" for file in files]
+    for line, source in sources:
+        if not any(path.endswith(f"/{source}") for path in paths):
+            yield Wrong(name, line, f"there is no file {source}")
+
+
 def tour_of(pages, given, files, tree):
-    """Of each page how many commands and links were tried, and those that are wrong."""
+    """Of each page how many commands, links and names were tried, and those that are wrong."""
     copy_tree(given.top, files, given.program, tree)
     made = make_examples(tree)
     for name in pages:
         page = (given.top / name).read_text(encoding="utf-8")
-        commands, links = commands_of(page), list(links_of(page))
-        wrong = list(wrong_links(given.top, set(files), name, links))
+        commands, links, sources = commands_of(page), list(links_of(page)), list(sources_of(page))
+        wrong = [*wrong_links(given.top, set(files), name, links), *wrong_sources(files, name, sources)]
         if commands:
             with tempfile.TemporaryDirectory() as folder:
                 copy_for_page(tree, files if name == Path("README.md") else [*files, *made], Path(folder))
                 wrong.extend(wrong_commands(name, commands, folder))
-        yield len(commands) + len(links), sorted(wrong)
+        yield len(commands) + len(links) + len(sources), sorted(wrong)
 
 
 def main():

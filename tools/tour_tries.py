@@ -15,7 +15,7 @@ PROGRAM = "#!/bin/sh\nprintf 'one 1\\ntwo\\nthree\\nfour\\n'\n"
 WRAPPER = '#!/bin/sh\nexec "$(dirname "$0")/crates/siman/out/siman"\n'
 TRUE = """# A page
 
-See [the other](docs/OTHER.md#a-part-of-it), [this](#a-page) and `[no](link)`.
+See [the other](docs/OTHER.md#a-part-of-it), [this](#a-page), `[no](link)`, `docs/OTHER.md` and `specs/NAME.antt`.
 
 ```
 $ ./siman
@@ -52,6 +52,7 @@ LIES = [
     ("cat file |", "cat absent |", "README.md:18: `cat absent | tail -1`: it prints `cat: absent: No such file or .."),
     ("docs/OTHER.md#", "docs/NONE.md#", "README.md:3: the link docs/NONE.md#a-part-of-it leads to no file"),
     ("#a-part-of-it", "#none", "README.md:3: the link docs/OTHER.md#none leads to no heading of docs/OTHER.md"),
+    ("`docs/OTHER.md`", "`other/OTHER.md`", "README.md:3: there is no file other/OTHER.md"),
     ("(#a-page)", "(#another)", "README.md:3: the link #another leads to no heading of README.md"),
     ("./siman | head -1", "cat examples/made", "README.md:15: `cat examples/made`: it prints `cat: examples/made: No .."),
 ]  # fmt: skip
@@ -86,10 +87,10 @@ def is_told(expected, came):
 
 
 def main():
-    tries = [(TRUE, ["8 tried, 0 wrong"], 0)]
+    tries = [(TRUE, ["9 tried, 0 wrong"], 0)]
     for old, new, told in LIES:
         assert TRUE.count(old) == 1, old
-        tries.append((TRUE.replace(old, new), [told, "8 tried, 1 wrong"], 1))
+        tries.append((TRUE.replace(old, new), [told, "9 tried, 1 wrong"], 1))
     tries.append(("# Nothing\n", ["1 tried, 0 wrong"], 0))
     wrong = 0
     for page, expected, status in tries:

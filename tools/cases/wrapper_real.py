@@ -28,6 +28,13 @@ REVIEWED = (
     "order 29 from=1:1 request=7 remove-entity to=2:4:8 at=2:4 sends=1 receipts=0 got=- said=- answer=- heard=- news=- "
     "took=- change=- fate=lost\n"
 )
+LOGGED = (
+    "entry 11 2:4 received clock=922 start-resume version=7 time=00:00.000000/relative status=0 from=1:1:0 "
+    "to=65535:65535:65535 real=0/0 sim=0/0 request=3 source=9\n"
+    "entry 13 2:4 sent clock=922 acknowledge version=7 time=00:00.000000/relative status=0 from=2:4:0 to=1:1:0 "
+    "flag=3(start-resume) response=1(able) request=3 receipts=0 answers=11\n"
+    "change 13 entity=2:4:65535 to=running by=1:1 request=3\n"
+)
 NO = "no step=3 cause=13 wrong-state\n"
 REAL = (
     (["pdu", HEX], None, LINE, "", 0),
@@ -38,6 +45,7 @@ REAL = (
     (["check", "examples/logs_joined_wrong_state.dsrc", "examples/logs_joined.dsct"], None, NO, "", 1),
     (["review", "examples/losses.dsrc", "fate=lost"], None, REVIEWED, "", 0),
     (["review", "examples/missing.dsrc", "--json"], None, "", "file: examples/missing.dsrc\n", 2),
+    (["log", "examples/losses.dsrc", "request=1:1/3", "station=2:4"], None, LOGGED, "", 0),
     (["show", "examples/missing.dsrc"], None, "", "file: examples/missing.dsrc\n", 2),
     ([], "examples/lost_copied_swapped.script", TRIAL, "", 0),
     (["--help"], None, "Shows Simulation Management PDUs", "", 0),

@@ -85,32 +85,16 @@ def changed_scripts():
             yield [*lines[:place], line.replace(old, new), *lines[place + 1 :]]
 
 
-class Closed:
-    """A world that ran, and is explained; or one of which a move or the stations were refused."""
-
-    def __eq__(self, came):
-        told = rb"world records=(\d+) sent=\d+\nexplained steps=\1\nyes records=\1 others=0\n"
-        lines = rb"(answer \d+ request \d+\n)*(known \d+ change \d+\n)*(entity [\d:]+ (stopped|running)\n)*"
-        closed = came.status == 0 and re.fullmatch(told + lines, came.out) and came.errors == b""
-        stopped = came.status == 2 and came.out == b"" and re.fullmatch(rb"world: [a-z-]+( at move \d+)?\n", came.errors)
-        return bool(closed or stopped)
-
-    def __repr__(self):
-        return "the text of a trial, or why its world stopped"
-
-
-def try_world(trials, text, name):
-    """A script, the line or the fault that it comes to, and its recording to the byte."""
+def try_script(trials, text, name):
+    """A script: the line or the fault that it comes to, and its recording to the byte; then its trial."""
     answer, recording = pages.answer_to_world(text)
     after(trials, ["world", trials.file(text), name], (answer,), name, lambda left: left == recording)
-    return answer
+    trials.expect([], pages.answer_to_trial(text), given=text)
 
 
 def try_changed(trials):
     for number, lines in enumerate(changed_scripts()):
-        text = b"".join(lines)
-        answer = try_world(trials, text, f"changed.{number}.dsrc")
-        trials.expect([], Closed() if answer.status == 0 else answer, given=text)
+        try_script(trials, b"".join(lines), f"changed.{number}.dsrc")
 
 
 def setting_lines(chance, stations):
@@ -163,7 +147,7 @@ def made_up_script(chance):
 def try_made_up(trials):
     chance = random.Random(1278)
     for number in range(MADE_UP):
-        try_world(trials, made_up_script(chance), f"made-up.{number}.dsrc")
+        try_script(trials, made_up_script(chance), f"made-up.{number}.dsrc")
 
 
 def try_trials(trials):

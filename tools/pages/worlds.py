@@ -1,4 +1,6 @@
-"""What `world` answers to a script, and the recording that it makes, by SCRIPTS.md, ORDERS.md and APPLICATION.md."""
+"""What `world` answers to a script, and the recording that it makes, by SCRIPTS.md, ORDERS.md and APPLICATION.md; and
+what a script into `siman` comes to, by TEXTS.md.
+"""
 import struct
 from collections import Counter
 
@@ -6,8 +8,8 @@ from .datagrams import (
     ABLE, ACKNOWLEDGE, ACTION_REQUEST, ACTION_RESPONSE, CREATE, DATA, DATA_QUERY, FLAGS, LONGEST_DATAGRAM, REMOVE,
     REQUESTS, SET_DATA, START, STOP, UNABLE, Outcome, decoded, fault, number,
 )  # fmt: skip
-from .files import ENTITIES, RECEIVED, RUNNING, SENT, STATES, STOPPED, TOLD
-from .histories import is_open, request_of, same_order
+from .files import ENTITIES, RECEIVED, RUNNING, SENT, STATES, STOPPED, TOLD, read_recording
+from .histories import Course, go_on, is_open, request_of, same_order
 from .reviews import addresses, is_answer_to, settles
 from .scripts import read_line, script_fault
 
@@ -215,3 +217,14 @@ def answer_to_world(script):
         except Stopped as why:
             return fault(f"world: {why} at move {moves}"), None
     return Outcome(0, f"world records={len(world.entries)} sent={len(world.sent)}\n".encode(), b""), world.text()
+
+
+def answer_to_trial(script):
+    """What is answered to a script on standard input."""
+    answer, recording = answer_to_world(script)
+    if recording is None:
+        return answer
+    course = Course(read_recording(recording))
+    while go_on(course):
+        pass
+    return Outcome(0, answer.out + f"explained steps={len(course.taken)}\n{course.report()}".encode(), b"")

@@ -1,11 +1,13 @@
 """The page of the manual, siman(1), in the language of man."""
 import re
+import textwrap
 
 HEAD = r'.\" Made by tools/manual.py from the table of commands and that of the README: not to be changed by hand.'
 FORMATS = """\
 .TP
 .B .dsrc
-A recording: the log of each station, what it sent and received, and which states it told.
+A recording: the log of each station, with what it sent and received, and which
+states it told.
 .TP
 .B .dsct
 A certificate: an order of the entries of a recording.
@@ -24,9 +26,10 @@ def plain(text):
     return text.replace("\\", r"\e").replace("-", r"\-").replace("'", r"\(aq").replace("`", r"\(ga")
 
 
-def line(text):
-    """A line of text, which must not begin as a request does."""
-    return rf"\&{text}" if text.startswith(".") else text
+def lines(text):
+    """A text in lines, none of which may begin as a request does."""
+    broken = textwrap.wrap(text, 80, break_long_words=False, break_on_hyphens=False)
+    return "\n".join(rf"\&{line}" if line.startswith(".") else line for line in broken)
 
 
 def prose(text):
@@ -36,7 +39,7 @@ def prose(text):
     text = re.sub(r"\*([^*]+)\*", r"\1", text)
     parts = re.split(r"`([^`]+)`", text)
     told = "".join(rf"\fB{plain(part)}\fR" if k % 2 else plain(part) for k, part in enumerate(parts))
-    return line(told.strip()) + ("" if told.rstrip().endswith(".") else ".")
+    return lines(told.strip() + ("" if told.rstrip().endswith(".") else "."))
 
 
 def usage_of(usage):
@@ -53,21 +56,20 @@ def paragraph(tag, text):
 def command_text(command):
     """What the page says of a command."""
     words = "\n".join(paragraph(rf"\fI{word.name}\fR", prose(word.about)) for word in command.words)
-    lines = [paragraph(usage_of(command.usage), prose(command.about))]
-    lines += [".IP", prose(f"The answer is {command.answer}")]
-    return "\n".join([*lines, *([".RS", words, ".RE"] if words else [])])
+    parts = [paragraph(usage_of(command.usage), prose(command.about)), ".IP", prose(f"The answer is {command.answer}")]
+    return "\n".join([*parts, *([".RS", words, ".RE"] if words else [])])
 
 
 def page(program, values_of):
     """The whole page; `values_of` tells which names the value of a key may have."""
     keys = {choice.partition("=")[0] for command in program.commands for choice in command.choices if "=" in choice}
     names = [
-        paragraph(rf"\fB{key}=\fR", line(", ".join(plain(value) for value in values_of(key))))
+        paragraph(rf"\fB{key}=\fR", lines(", ".join(plain(value) for value in values_of(key))))
         for key in sorted(keys) if values_of(key)
     ]  # fmt: skip
     examples = [program.trial, *(command.example for command in program.commands)]
     parts = {
-        "NAME": r"siman \- runs, records, shows and judges exercises of networked training simulators",
+        "NAME": r"siman \- runs, shows and judges exercises of training simulators",
         "SYNOPSIS": "\n.br\n".join(usage_of(command.usage) for command in program.commands)
         + "\n.br\n\\fBsiman\\fR < \\fISCRIPT\\fR\n.br\n\\fBsiman help\\fR [\\fICOMMAND\\fR]",
         "DESCRIPTION": "\n.PP\n".join(prose(text.strip()) for text in program.about.split(". ")),
@@ -75,13 +77,13 @@ def page(program, values_of):
         "OPTIONS": "\n".join([
             paragraph(r"\fB\-h\fR, \fB\-\-help\fR, \fBhelp\fR [\fICOMMAND\fR]", "Prints help, and ends."),
             paragraph(r"\fB\-V\fR, \fB\-\-version\fR", "Prints the version, and ends."),
-            paragraph(r"\fB\-\-json\fR", "As the last word of a view: the lines are told in JSON, one object a line."),
+            paragraph(r"\fB\-\-json\fR", "As the last word of a view: each line is an object of JSON."),
         ]),
         "NAMES": "Values that words with a key may have:\n" + "\n".join(names),
         "FILES": FORMATS,
         "EXIT STATUS": "\n".join(paragraph(rf"\fB{status}\fR", prose(text)) for status, text in program.statuses),
         "EXAMPLES": ".EX\n" + "\n".join(map(plain, examples)) + "\n.EE",
-        "STANDARDS": r"IEEE Std 1278.1\-2012, Distributed Interactive Simulation, Application Protocols.",
+        "STANDARDS": lines(r"IEEE Std 1278.1\-2012, Distributed Interactive Simulation, Application Protocols."),
     }  # fmt: skip
     head = f'{HEAD}\n.TH SIMAN 1 "" "siman {program.version}" "User Commands"\n.nh\n.ad l\n'
     return head + "\n".join(f".SH {name}\n{text}" for name, text in parts.items()) + "\n"

@@ -13,6 +13,8 @@ from .histories import Course, go_on, is_open, request_of, same_order
 from .reviews import addresses, is_answer_to, settles
 from .scripts import read_line, script_fault
 
+__all__ = ["Stopped", "World", "answer_to_trial", "answer_to_world"]
+
 ALL, ANY_NUMBER, MOST_ENTITIES = 0xFFFF, 0xFFFE, 4096
 COMPLETE, REJECTED = 4, 5
 ORDERS = {

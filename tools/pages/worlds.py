@@ -40,8 +40,8 @@ class Order:
         self.words, self.pdu, self.last, self.sends, self.is_settled = words, pdu, now, 1, False
 
     def is_due(self, now, station):
-        is_late = now >= self.last and now - self.last >= station.wait
-        return not self.is_settled and is_late and self.sends < station.tries
+        """Whether it is to be sent again; where the clock was set back it counts as just sent."""
+        return not self.is_settled and max(now - self.last, 0) >= station.wait and self.sends < station.tries
 
 
 class Station:

@@ -15,9 +15,9 @@ use std::alloc::AllocError;
 fn put_quoted(json: &mut String, value: &Value<'_>) -> Result<(), AllocError>
     ensures { OnOk result (string_bytes json.new ≡ string_bytes json.old ++ quoted (value_text (value_of value.now))) }
 {
-    json.push_str("\"")?;
+    json.push('"')?;
     put_value(json, value)?;
-    json.push_str("\"")
+    json.push('"')
 }
 
 /// A word as a string, or null where there is none.
@@ -27,9 +27,9 @@ fn put_name(json: &mut String, name: Option<&str>) -> Result<(), AllocError>
     match name {
         None => json.push_str("null"),
         Some(name) => {
-            json.push_str("\"")?;
+            json.push('"')?;
             json.push_str(name)?;
-            json.push_str("\"")
+            json.push('"')
         }
     }
 }
@@ -38,9 +38,9 @@ fn put_name(json: &mut String, name: Option<&str>) -> Result<(), AllocError>
 fn put_phrase(json: &mut String, phrase: &str) -> Result<(), AllocError>
     ensures { OnOk result (string_bytes json.new ≡ string_bytes json.old ++ quoted (escaped phrase.now)) }
 {
-    json.push_str("\"")?;
+    json.push('"')?;
     put_escaped(json, phrase)?;
-    json.push_str("\"")
+    json.push('"')
 }
 
 /// Characters, `"` and `\` behind a `\`.
@@ -68,9 +68,9 @@ fn put_character(json: &mut String, character: char) -> Result<(), AllocError>
 fn put_address_string(json: &mut String, address: Address) -> Result<(), AllocError>
     ensures { OnOk result (string_bytes json.new ≡ string_bytes json.old ++ quoted (address_text address)) }
 {
-    json.push_str("\"")?;
+    json.push('"')?;
     put_address(json, address)?;
-    json.push_str("\"")
+    json.push('"')
 }
 
 /// Addresses as a list of strings.
@@ -80,10 +80,10 @@ fn put_ring(json: &mut String, ring: &[Address]) -> Result<(), AllocError>
     match ring.split_first() {
         None => json.push_str("[]"),
         Some((first, further)) => {
-            json.push_str("[")?;
+            json.push('[')?;
             put_address_string(json, *first)?;
             put_further(json, further)?;
-            json.push_str("]")
+            json.push(']')
         }
     }
 }
@@ -93,7 +93,7 @@ fn put_further(json: &mut String, ring: &[Address]) -> Result<(), AllocError>
     ensures { OnOk result (string_bytes json.new ≡ string_bytes json.old ++ flat_map further_json ring.now) }
 {
     for address in ring {
-        json.push_str(",")?;
+        json.push(',')?;
         put_address_string(json, *address)?;
     }
     Ok(())

@@ -52,7 +52,7 @@ pub fn put_opening(
         Spelling::Json => {
             text.push_str("{\"line\":\"")?;
             text.push_str(name)?;
-            text.push_str("\"")?;
+            text.push('"')?;
             match opening {
                 None => Ok(()),
                 Some(field) => put_member(text, field),
@@ -81,7 +81,7 @@ pub fn put_field(text: &mut String, spelling: Spelling, field: &Field<'_>) -> Re
 {
     match spelling {
         Spelling::Text => {
-            text.push_str(" ")?;
+            text.push(' ')?;
             put_as_text(text, field)
         }
         Spelling::Json => put_member(text, field),
@@ -93,7 +93,7 @@ pub fn put_end(text: &mut String, spelling: Spelling) -> Result<(), AllocError>
     ensures { OnOk result (string_bytes text.new ≡ string_bytes text.old ++ end_spelled spelling) }
 {
     match spelling {
-        Spelling::Text => text.push_str("\n"),
+        Spelling::Text => text.push('\n'),
         Spelling::Json => text.push_str("}\n"),
     }
 }

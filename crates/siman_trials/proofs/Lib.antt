@@ -1,3 +1,4 @@
 pub mod Handed
 pub mod Posts
 pub mod Ends
+pub mod Moves

@@ -1,1 +1,3 @@
 pub mod Recorded
+pub mod Moves
+pub mod Ended

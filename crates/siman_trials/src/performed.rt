@@ -3,6 +3,7 @@
 ghost use Rattle.std.specs.Prelude.{◌≡◌};
 ghost use Rattle.siman_lines.specs.AtLines.{Telling, AtLines, Follows};
 ghost use Rattle.siman_lines.specs.KeptAtLine.{Keeps};
+ghost use Rattle.siman_trials.specs.Moves.{ActsAt, MoveEnds, MovesEnd};
 
 use exercise_recording::RecordingWriter;
 use siman_lines::{AtLineFault, Line, StationAtLine, order_at, repeat_at, serve_rounds, tell_at};
@@ -25,7 +26,18 @@ pub enum Halt {
     AtLine(AtLineFault),
 }
 
-/// A station does an act at its line; the lines deliver.
+impl From<AtLineFault> for Halt {
+    ghost use Rattle.std.specs.Prelude.{◌≡◌};
+    ghost use Rattle.siman_trials.specs.declared.performed.Halt.TheVariants.{AtLine};
+
+    ghost from_gives = { λ fault halt. halt ≡ AtLine fault };
+
+    fn from(fault: AtLineFault) -> Halt {
+        Halt::AtLine(fault)
+    }
+}
+
+/// A station does an act at its line. Of a delivery nothing is done: the lines deliver.
 fn act_at<L: Line + Drop, W: Write>(
     alloc: Global,
     station: &mut StationAtLine<L>,
@@ -33,6 +45,8 @@ fn act_at<L: Line + Drop, W: Write>(
     now: u64,
     act: Act,
 ) -> Result<(), AtLineFault>
+    ensures does { let told : Telling L = record { received = L.received; sent = L.sent; failures = L.failures; strangers = L.strangers } in
+        ActsAt told now act result station.old recorder.old station.new recorder.new }
     ensures index { station.new.index ≡ station.old.index }
     ensures keeps { Keeps station.old.index station.old.node recorder.old (L.sent station.old.line) station.new.node recorder.new (L.sent station.new.line) }
 {
@@ -51,6 +65,10 @@ fn make_move<L: Line + Drop, W: Write>(
     recorder: &mut RecordingWriter<'_, W>,
     step: Move,
 ) -> Result<(), Halt>
+    ensures ends { let told : Telling L = record { received = L.received; sent = L.sent; failures = L.failures; strangers = L.strangers } in
+        let old : AtLines L = record { stations = stations.old.items; recorder = recorder.old } in
+        let new : AtLines L = record { stations = stations.new.items; recorder = recorder.new } in
+        MoveEnds told step old new result }
     ensures follows { let told : Telling L = record { received = L.received; sent = L.sent; failures = L.failures; strangers = L.strangers } in
         let old : AtLines L = record { stations = stations.old.items; recorder = recorder.old } in
         let new : AtLines L = record { stations = stations.new.items; recorder = recorder.new } in
@@ -61,13 +79,9 @@ fn make_move<L: Line + Drop, W: Write>(
     if number >= stations.len() {
         return Err(Halt::NoSuchStation);
     }
-    if let Err(fault) = act_at(alloc, &mut stations[number], recorder, now, act) {
-        return Err(Halt::AtLine(fault));
-    }
-    match serve_rounds(alloc, stations, recorder, now, ROUNDS, TURNS) {
-        Ok(()) => Ok(()),
-        Err(fault) => Err(Halt::AtLine(fault)),
-    }
+    act_at(alloc, &mut stations[number], recorder, now, act)?;
+    serve_rounds(alloc, stations, recorder, now, ROUNDS, TURNS)?;
+    Ok(())
 }
 
 /// Makes moves in their order, up to the first that fails. A Command issues its order, a Tick repeats
@@ -79,6 +93,10 @@ pub fn make_moves<L: Line + Drop, W: Write>(
     recorder: &mut RecordingWriter<'_, W>,
     moves: Vec<Move>,
 ) -> Result<(), Halt>
+    ensures ends { let told : Telling L = record { received = L.received; sent = L.sent; failures = L.failures; strangers = L.strangers } in
+        let old : AtLines L = record { stations = stations.old.items; recorder = recorder.old } in
+        let new : AtLines L = record { stations = stations.new.items; recorder = recorder.new } in
+        MovesEnd told moves.items old new result }
     // What comes of them is what comes of calls at these stations, with a fault too.
     ensures follows { let told : Telling L = record { received = L.received; sent = L.sent; failures = L.failures; strangers = L.strangers } in
         let old : AtLines L = record { stations = stations.old.items; recorder = recorder.old } in
@@ -86,7 +104,10 @@ pub fn make_moves<L: Line + Drop, W: Write>(
         Follows told old new }
 {
     for step in moves {
-        make_move(alloc, stations, recorder, step)?;
+        match make_move(alloc, stations, recorder, step) {
+            Ok(()) => {}
+            Err(halt) => return Err(halt),
+        }
     }
     Ok(())
 }

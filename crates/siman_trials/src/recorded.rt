@@ -4,10 +4,11 @@ ghost use Rattle.std.specs.Prelude.{◌≡◌, ℕ, List, Option};
 ghost use Rattle.exercise_model.specs.Recording.{opened};
 ghost use Rattle.exercise_model.specs.Setting.{SettingData, IsSetting};
 ghost use Rattle.exercise_recording.specs.Writer.{Starts};
-ghost use Rattle.siman_lines.specs.AtLines.{Telling, AreFresh};
+ghost use Rattle.siman_lines.specs.AtLines.{Telling, AtLines, AreFresh};
 ghost use Rattle.siman_worlds.specs.Holds.{AreNewNodes};
 ghost use Rattle.siman_worlds.specs.World.{WorldData, setting_of};
 ghost use Rattle.siman_trials.specs.Recorded.{Leaves, AreUnused};
+ghost use Rattle.siman_trials.specs.Ended.{Performs, Records, StandsAndRecords, ComesToEnd};
 
 use crate::performed::{Halt, make_moves};
 use exercise_model::Recording;
@@ -31,6 +32,17 @@ pub enum ExerciseFault {
     Record(WriterFault),
 }
 
+impl From<Halt> for ExerciseFault {
+    ghost use Rattle.std.specs.Prelude.{◌≡◌};
+    ghost use Rattle.siman_trials.specs.declared.recorded.ExerciseFault.TheVariants as faults;
+
+    ghost from_gives = { λ halt fault. fault ≡ faults.Move halt };
+
+    fn from(halt: Halt) -> ExerciseFault {
+        ExerciseFault::Move(halt)
+    }
+}
+
 /// The recording of an exercise.
 #[derive(Drop)]
 pub struct Recorded<W: Drop> {
@@ -48,14 +60,16 @@ fn end_moves<L: Line + Drop, W: Write>(
     recorder: &mut RecordingWriter<'_, W>,
     moves: Vec<Move>,
 ) -> Result<(), ExerciseFault>
-    ensures { let told : Telling L = record { received = L.received; sent = L.sent; failures = L.failures; strangers = L.strangers } in
+    ensures performs { let told : Telling L = record { received = L.received; sent = L.sent; failures = L.failures; strangers = L.strangers } in
+        let old : AtLines L = record { stations = stations.old.items; recorder = recorder.old } in
+        let new : AtLines L = record { stations = stations.new.items; recorder = recorder.new } in
+        Performs told moves.items old new result }
+    ensures leaves { let told : Telling L = record { received = L.received; sent = L.sent; failures = L.failures; strangers = L.strangers } in
         (before : Option (List ℕ)) (w : SettingData) → AreFresh told w stations.old.items → Starts before w recorder.old
         → Leaves w before recorder.new.contents result }
 {
     lines_make_a_run::<L>();
-    if let Err(fault) = make_moves(alloc, stations, recorder, moves) {
-        return Err(ExerciseFault::Move(fault));
-    }
+    make_moves(alloc, stations, recorder, moves)?;
     match recorder.finish() {
         Ok(()) => Ok(()),
         Err(fault) => Err(ExerciseFault::Record(fault)),
@@ -70,7 +84,9 @@ fn record_at_lines<L: Line + Drop, W: Write + Drop>(
     moves: Vec<Move>,
     file: W,
 ) -> Recorded<W>
-    ensures { let told : Telling L = record { received = L.received; sent = L.sent; failures = L.failures; strangers = L.strangers } in
+    ensures records { let told : Telling L = record { received = L.received; sent = L.sent; failures = L.failures; strangers = L.strangers } in
+        Records told head.now.setting moves.items stations.items (W.contents file) (W.contents result.file) result.ended }
+    ensures leaves { let told : Telling L = record { received = L.received; sent = L.sent; failures = L.failures; strangers = L.strangers } in
         (IsSetting head.now.setting → AreFresh told head.now.setting stations.items)
         → Leaves head.now.setting (W.contents file) (W.contents result.file) result.ended }
 {
@@ -104,7 +120,9 @@ fn record_begun<L: Line + Drop, W: Write + Drop>(
     moves: Vec<Move>,
     file: W,
 ) -> Recorded<W>
-    ensures { (w : WorldData) → begun.recording ≡ opened (setting_of w) → AreNewNodes w.exercise w.stations begun.nodes.items → AreUnused L.sent lines.items
+    ensures comes { let told : Telling L = record { received = L.received; sent = L.sent; failures = L.failures; strangers = L.strangers } in
+        StandsAndRecords told begun.recording.setting begun.nodes.items lines.items moves.items (W.contents file) (W.contents result.file) result.ended }
+    ensures leaves { (w : WorldData) → begun.recording ≡ opened (setting_of w) → AreNewNodes w.exercise w.stations begun.nodes.items → AreUnused L.sent lines.items
         → Leaves (setting_of w) (W.contents file) (W.contents result.file) result.ended }
 {
     let Beginning { recording, nodes } = begun;
@@ -126,6 +144,10 @@ fn record_begun<L: Line + Drop, W: Write + Drop>(
 /// entries, in the order of the file, are a run that explains it. That asks for no more than that each
 /// datagram received was sent before. After a fault nothing stands in the file, or the beginning of
 /// such a recording, of whose entries the same is so.
+///
+/// World tells that the stations are none of a world, Lines that there are not as many lines, Move the
+/// first move that was not made, by the fault at its line, and Record that the head or the end was not
+/// written; World and Lines tell want of memory, too. With no fault all moves were made.
 pub fn record_exercise<L: Line + Drop, W: Write + Drop>(
     alloc: Global,
     exercise: u8,
@@ -135,7 +157,10 @@ pub fn record_exercise<L: Line + Drop, W: Write + Drop>(
     file: W,
 ) -> Recorded<W>
     requires unused { AreUnused L.sent lines.items }
-    ensures { let w : WorldData = record { exercise = exercise; stations = stations.items } in
+    ensures comes { let told : Telling L = record { received = L.received; sent = L.sent; failures = L.failures; strangers = L.strangers } in
+        let w : WorldData = record { exercise = exercise; stations = stations.items } in
+        ComesToEnd told w lines.items moves.items (W.contents file) (W.contents result.file) result.ended }
+    ensures leaves { let w : WorldData = record { exercise = exercise; stations = stations.items } in
         Leaves (setting_of w) (W.contents file) (W.contents result.file) result.ended }
 {
     match begin_world(alloc, exercise, stations) {

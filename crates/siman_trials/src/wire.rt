@@ -1,5 +1,7 @@
 //! A network in memory: what one line is handed comes on each other, whole, once and in order.
 
+ghost use Rattle.std.specs.Prelude.{◌≡◌, IfOk, length};
+
 use http_server::Log;
 use siman_lines::{Line, LineFault};
 use std::alloc::{AllocError, Global};
@@ -39,7 +41,9 @@ pub fn lines_of(
     alloc: Global,
     count: usize,
     fails_at: Option<u64>,
-) -> Result<Vec<WireLine>, AllocError> {
+) -> Result<Vec<WireLine>, AllocError>
+    ensures { IfOk result (λ lines. length lines.items ≡ count) }
+{
     let wire = Rc::new(
         alloc,
         RefCell::new(Wire {

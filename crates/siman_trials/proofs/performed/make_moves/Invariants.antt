@@ -1,7 +1,10 @@
+use Rattle.std.proofs.Common.{length}
 use Rattle.siman_lines.specs.AtLines.{Telling, AtLines, Follows}
+use Rattle.siman_lines.specs.Steps.{Each}
+use Rattle.siman_trials.specs.Moves.{MakesAt}
 use Rattle.siman_trials.proofs.performed.make_moves.Given as goal
 
--- what came of the moves so far
+-- the moves so far were made
 abbrev pub invariant-loop-step : goal.invariant-loop-step
 invariant-loop-step g l =
     let told : Telling g.row.L.Denot = record {
@@ -12,4 +15,4 @@ invariant-loop-step g l =
     } in
     let old : AtLines g.row.L.Denot = record { stations = l.fn.stations.items; recorder = l.fn.recorder } in
     let new : AtLines g.row.L.Denot = record { stations = l.stations.items; recorder = l.recorder } in
-    Follows told old new
+    Each (MakesAt told l.fn.moves.items) (length l.yielded) old new × Follows told old new

@@ -34,7 +34,7 @@ def words_of(program, command, folder, name):
 
 def measured(words, out, given):
     """The status, and the seconds and MiB of one run."""
-    status, seconds, memory = run(words, out, given.seconds)
+    status, seconds, memory, _ = run(words, out, given.seconds)
     return status, (seconds, memory)
 
 

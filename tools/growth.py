@@ -1,5 +1,5 @@
 #!/usr/bin/env python3
-"""Times `siman check` and `siman audit` on recordings of growing size, of each kind of tools/kinds.py.
+"""Times `siman check`, `audit` and `review` on recordings of growing size, of each kind of tools/kinds.py.
 
 Beside them stand the plain sum of a recording's bytes and a plain program of the same work without proofs
 (tools/plain/plain.rs), which is built where there is a rustc; where there is none, its columns are left out. Where the
@@ -7,15 +7,17 @@ plain program is there, the two have to answer the same bytes.
 
 For each kind and size it prints the seconds of processor time in the program itself (user time, the least of the runs),
 the peak memory in MiB, and how each grows: the exponent from the size before, so 1.0 is in step with the entries and
-2.0 with their square; and last how many times the plain program's time and memory check and audit take. Memory below
-some 16 MiB is not seen: so much this script has itself; and times of a few milliseconds are rough. A command that takes
+2.0 with their square; and last how many times the plain program's time and memory check and audit take, and how many
+times the time of audit review takes, with system time too. Memory below some 16 MiB is not seen: so much this script has itself; and times of a few milliseconds are rough. A command that takes
 longer than --seconds is not timed at the sizes above. The built program is taken as it is: `./siman --build` proves
 and builds it first. It is no part of the gate.
 
-With --judge, `check` and `audit` may grow with an exponent of 1.4 at most, in time and in memory, from the first size
-that takes 0.02 seconds or 32 MiB to the last, two doublings further at least: what lies nearer says little. They may
-take 5 times what the plain program takes, where that is there and takes 0.05 seconds, and no longer than --seconds.
-What is more is told on standard error, and the status is 1.
+With --judge, `check`, `audit` and `review` may grow with an exponent of 1.4 at most, in time and in memory, from the
+first size that takes 0.02 seconds or 32 MiB to the last, two doublings further at least: what lies nearer says little.
+`check` and `audit` may take 5 times what the plain program takes, where that is there and takes 0.05 seconds, `review`
+2.5 times what `audit` takes of the same file in the same run, where that is 0.2 seconds; and none longer than
+--seconds. What is more is told on standard error, and the status is 1. A review of more lines than it may have is
+refused with status 2, and is not timed.
 """
 import argparse
 import math
@@ -38,7 +40,8 @@ MOST = {"large": 15}
 # the plain program's time, from so many seconds on.
 MOST_GROWTH, LEAST_JUDGED, LEAST_DOUBLINGS = 1.4, (0.02, 32), 2
 MOST_TIMES, LEAST_PLAIN = 5, 0.05
-JUDGED = ("check", "audit")
+MOST_REVIEW, LEAST_AUDIT = 2.5, 0.2
+JUDGED = ("check", "audit", "review")
 
 
 def find_rustc():
@@ -66,7 +69,7 @@ class Slow(Exception):
 
 
 def run(words, out, seconds):
-    """Runs a command, its output into a file: its status, user seconds, and peak memory in MiB."""
+    """Runs a command, its output into a file: its status, user seconds, peak memory in MiB, and seconds with system time."""
     with open(out, "wb") as file:
         process = subprocess.Popen(words, stdout=file)
         signal.signal(signal.SIGALRM, lambda *_: process.kill())
@@ -78,13 +81,13 @@ def run(words, out, seconds):
     process.returncode = os.waitstatus_to_exitcode(status)
     if process.returncode == -signal.SIGKILL:
         raise Slow
-    return process.returncode, used.ru_utime, used.ru_maxrss / 1024
+    return process.returncode, used.ru_utime, used.ru_maxrss / 1024, used.ru_utime + used.ru_stime
 
 
 def timed(words, out, given):
-    """The least of some runs: the status, the seconds and the memory."""
+    """The least of some runs: the status, the seconds, the memory, and the seconds with system time."""
     runs = [run(words, out, given.seconds) for _ in range(given.runs)]
-    return runs[0][0], min(used[1] for used in runs), min(used[2] for used in runs)
+    return runs[0][0], *(min(used[place] for used in runs) for place in (1, 2, 3))
 
 
 def exponent(now, before, doublings, least=0.005):
@@ -110,9 +113,15 @@ def excesses(name, seen):
             if found > MOST_GROWTH:
                 yield f"the {what} of {name} grows by {found:.2f} from 2^{rows[0][0]} to 2^{rows[-1][0]}"
     for power, taken in seen:
-        own, (plain, _) = taken.get(name, (0, 0))[0], taken.get("plain " + name, (0, 0))
+        own, plain = taken.get(name, (0,))[0], taken.get("plain " + name, (0,))[0]
         if plain >= LEAST_PLAIN and own > MOST_TIMES * plain:
             yield f"{name} takes {own / plain:.1f} times the plain program's time at 2^{power}"
+
+
+def times_of_audit(taken):
+    """How many times the time of audit review takes, or None where that is too small to tell."""
+    own, audit = taken.get("review", (0, 0, 0))[2], taken.get("audit", (0, 0, 0))[2]
+    return own / audit if own > 0 and audit >= LEAST_AUDIT else None
 
 
 def judge(kind, seen, given, slow):
@@ -120,6 +129,10 @@ def judge(kind, seen, given, slow):
     told = [f"{name} takes more than {given.seconds} seconds" for name in JUDGED if name in slow]
     for name in JUDGED:
         told += excesses(name, seen)
+    for power, taken in seen:
+        times = times_of_audit(taken)
+        if times is not None and times > MOST_REVIEW:
+            told.append(f"review takes {times:.1f} times the time of audit at 2^{power}")
     for line in told:
         print(f"growth: {kind}: {line}", file=sys.stderr)
     given.wrong += len(told)
@@ -132,6 +145,7 @@ def commands_of(plain, folder, given):
     commands = {
         "check": [str(given.program), "check", *files],
         "audit": [str(given.program), "audit", files[0], found["check"]],
+        "review": [str(given.program), "review", files[0]],
     }
     if plain:
         commands["sum"] = [str(plain), "sum", files[0]]
@@ -161,9 +175,10 @@ def measure(kind, power, plain, folder, given, slow):
         if name in slow:
             continue
         try:
-            status, seconds, memory = timed(words, out, given)
-            taken[name] = (seconds, memory)
-            if status != 0:
+            status, *used = timed(words, out, given)
+            if status == 0:
+                taken[name] = used
+            else:
                 print(f"growth: {kind} 2^{power}: {name} ended with status {status}", file=sys.stderr)
         except Slow:
             slow.add(name)
@@ -177,7 +192,7 @@ def measure(kind, power, plain, folder, given, slow):
 def line_of(kind, power, taken, before, step, columns):
     parts = [f"{kind:10} {'2^' + str(power):>5}"]
     for name in columns:
-        seconds, memory = taken.get(name, (None, None))
+        seconds, memory = taken.get(name, (None, None))[:2]
         last = before.get(name, (None, None))
         if seconds is None:
             parts.append(f"{'-':>8} {'':3} {'':6} {'':3}")
@@ -190,12 +205,14 @@ def line_of(kind, power, taken, before, step, columns):
             parts.append(f"{own[0] / other[0]:6.2f} {own[1] / other[1]:5.2f}")
         else:
             parts.append(f"{'':12}")
+    times = times_of_audit(taken)
+    parts.append("" if times is None else f"{times:6.2f}")
     return " |".join(parts).rstrip()
 
 
 def print_head(columns):
     head = [f"{'kind':10} {'size':>5}"] + [f"{name:>11} {'MiB':>11}" for name in columns]
-    print(" |".join(head + [f"{'check, times':12}", f"{'audit, times':12}"]).rstrip(), flush=True)
+    print(" |".join(head + [f"{'check, times':12}", f"{'audit, times':12}", "review, of audit"]).rstrip(), flush=True)
 
 
 def words_given():

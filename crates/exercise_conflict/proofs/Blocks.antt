@@ -156,7 +156,7 @@ received_alone w h b p cause is = rows (may_be_heard w p) (is_recorded w p) (was
     rows true true false is = is
     rows true true true is = absurd (cc)
 
-event_cause_own : (r : PlainRecording) (h : History) (j : ℕ) (v : Event) (cause : Cause) → log_at (station_of v) h ≡ log_before r (station_of v) j
+pub event_cause_own : (r : PlainRecording) (h : History) (j : ℕ) (v : Event) (cause : Cause) → log_at (station_of v) h ≡ log_before r (station_of v) j
     → cause_of r.setting h v ≡ Some cause → event_own_cause r j v ≡ Some cause
 unfolding cause_of
 event_cause_own r h j (Send s b) cause logs is =

@@ -12,7 +12,7 @@ use Rattle.siman_pdus.specs.Answers.{is_answer_to}
 use Rattle.dis_records.specs.declared.entity_state.EntityState.{EntityState}
 use Rattle.exercise_model.specs.declared.acknowledge.AcknowledgeKey.{AcknowledgeKey}
 use Rattle.exercise_model.specs.declared.cause.Cause.{Cause}
-use Rattle.exercise_model.specs.declared.cause.Cause.TheVariants.{ReusedIdentifier, WrongAnswer, ChangedAnswer, Impossible, Stranger, NeverSent, WrongState}
+use Rattle.exercise_model.specs.declared.cause.Cause.TheVariants.{WrongSender, ReusedIdentifier, NoRequest, WrongAnswer, ChangedAnswer, Impossible, Stranger, NeverSent, WrongState}
 use Rattle.exercise_model.specs.Entry.{Entry, Sent, Received, Told}
 use Rattle.exercise_model.specs.Recording.{PlainRecording}
 use Rattle.exercise_model.specs.Setting.{is_recorded, may_be_heard}
@@ -136,7 +136,9 @@ off false c is e = absurd (cc)
 
 -- a cause against what a station sends, and never one of a datagram that is received or of a state that is told
 abbrev pub is_sent_cause : Cause → Bool
+is_sent_cause WrongSender = true
 is_sent_cause ReusedIdentifier = true
+is_sent_cause NoRequest = true
 is_sent_cause WrongAnswer = true
 is_sent_cause ChangedAnswer = true
 is_sent_cause Impossible = true
@@ -252,7 +254,7 @@ answer_no_request roles.Notice e = absurd (cc)
 answer_no_request roles.Outside e = absurd (cc)
 
 -- what an entry of station s brings for the answer p
-brought : PlainRecording → ℕ → Pdu → ℕ → Option Pdu
+pub brought : PlainRecording → ℕ → Pdu → ℕ → Option Pdu
 brought r s p j = option_and_then (request_brought r.setting.exercise (station_at r s).address p) (own_event r s j)
 
 some_or : (o q : Option Pdu) → is_some o ≡ true → option_or o q ≡ o
@@ -275,7 +277,7 @@ request_more r s n p =
     or_none (Some x) = refl
 
 -- the request that is taken up is what its entry brings
-by_entry : (r : PlainRecording) (s : ℕ) (p : Pdu) (n : ℕ)
+pub by_entry : (r : PlainRecording) (s : ℕ) (p : Pdu) (n : ℕ)
     → request_taken_up r.setting.exercise (station_at r s).address p (log_before r s n) ≡ option_and_then (brought r s p) (entry_taken_up r s p n)
 unfolding entry_taken_up first_below request_taken_up brought
 by_entry r s p zero = ap (request_taken_up r.setting.exercise (station_at r s).address p) (log_before-none r s)

@@ -1,6 +1,7 @@
 -- What is missing by an entry, and that each run of a wider recording has it.
-use Rattle.std.proofs.Common.{◌≡◌, ⊎_elim, ℕ, zero, suc, ◌<◌, ◌≤◌, List, ◌∷◌, ◌++◌, length, cond, Bool, Option, Some, None, true, false, refl, sym, ap, ◌∙◌, subst, arith, append_assoc}
-use Rattle.std.specs.Prelude.{slice_get, is_none, option_map, option_and_then, if◌then◌else◌}
+use Rattle.std.proofs.Common.{◌≡◌, ⊎_elim, ℕ, zero, suc, ◌<◌, ◌≤◌, List, [], ◌∷◌, ◌++◌, length, cond, Bool, Option, Some, None, true, false, refl, sym, ap, ◌∙◌, subst, arith, append_assoc}
+use Rattle.std.specs.List.{list_any}
+use Rattle.std.specs.Prelude.{slice_get, slice_index_or, is_none, is_some, ◌||◌, option_map, option_and_then, if◌then◌else◌}
 use Rattle.std.specs.Option.{option_map_or, option_or}
 use Rattle.std.proofs.lemmas.List.Folds.{list_any_at}
 use Rattle.std.proofs.lemmas.Bool.{cases_lt, eq-eqb}
@@ -21,7 +22,7 @@ use Rattle.exercise_model.proofs.Offered.{explained_holds, log_at-append, log_be
 use Rattle.exercise_findings.specs.Source.{sends_here, first_send, source_of_pdu, source_of}
 use Rattle.exercise_findings.proofs.Offered.{bytes_same, source_here}
 use Rattle.exercise_review.specs.declared.missing.Missing.{Missing}
-use Rattle.exercise_review.specs.Missing.{is_first_receipt, missing_from, missing_pdu, missing_entry, missing_at}
+use Rattle.exercise_review.specs.Missing.{is_first_receipt, place_of, missing_from, missing_pdu, missing_entry, missing_at}
 use Rattle.exercise_conflict.specs.Wider.{anything, IsWider}
 use Rattle.exercise_conflict.specs.Needed.{HasSend, IsNeeded}
 use Rattle.exercise_conflict.proofs.Places.{later_place, own_here, in_log}
@@ -36,6 +37,8 @@ pub record IsLacking (r : PlainRecording) (i : ℕ) (m : Missing) : Type 0 where
   pub meant : meaning r.setting.exercise bytes ≡ Some pdu
   pub sender : sender_of r pdu ≡ Some m.sender
   pub unsent : source_of r i ≡ None
+  pub first : is_first_receipt r i bytes ≡ true
+  pub place : m.after ≡ place_of r m.sender pdu
 
 pub lacking : (r : PlainRecording) (i : ℕ) (m : Missing) → missing_at r i ≡ Some m → IsLacking r i m
 unfolding missing_at
@@ -48,10 +51,10 @@ lacking r i m is =
       ] refl
     ] refl is
   where
-    of_sender : source_of r i ≡ None → (s stamp : ℕ) (b : List ℕ) → slice_get r.entries i ≡ Some (Received s stamp b) → (p : Pdu)
+    of_sender : source_of r i ≡ None → (s stamp : ℕ) (b : List ℕ) → is_first_receipt r i b ≡ true → slice_get r.entries i ≡ Some (Received s stamp b) → (p : Pdu)
         → meaning r.setting.exercise b ≡ Some p → (o : Option ℕ) → sender_of r p ≡ o → option_map (missing_from r p) o ≡ Some m → IsLacking r i m
-    of_sender unsent s stamp b at p meant None sender e = absurd (cc)
-    of_sender unsent s stamp b at p meant (Some t) sender e = record {
+    of_sender unsent s stamp b first at p meant None sender e = absurd (cc)
+    of_sender unsent s stamp b first at p meant (Some t) sender e = record {
       station = s;
       stamp = stamp;
       bytes = b;
@@ -60,21 +63,26 @@ lacking r i m is =
       meant = meant;
       sender = sender ∙ ap (λ (x : Missing). Some x.sender) (same_Some (missing_from r p t) m e);
       unsent = unsent;
+      first = first;
+      place =
+          let same = same_Some (missing_from r p t) m e in
+          sym (ap (λ (x : Missing). x.after) same) ∙ ap (λ k. place_of r k p) (ap (λ (x : Missing). x.sender) same);
     }
 
-    of_pdu : source_of r i ≡ None → (s stamp : ℕ) (b : List ℕ) → slice_get r.entries i ≡ Some (Received s stamp b) → (o : Option Pdu)
+    of_pdu : source_of r i ≡ None → (s stamp : ℕ) (b : List ℕ) → is_first_receipt r i b ≡ true → slice_get r.entries i ≡ Some (Received s stamp b) → (o : Option Pdu)
         → meaning r.setting.exercise b ≡ o → option_and_then (missing_pdu r) o ≡ Some m → IsLacking r i m
-    of_pdu unsent s stamp b at None meant e = absurd (cc)
-    of_pdu unsent s stamp b at (Some p) meant e = of_sender unsent s stamp b at p meant (sender_of r p) refl e
+    of_pdu unsent s stamp b first at None meant e = absurd (cc)
+    of_pdu unsent s stamp b first at (Some p) meant e = of_sender unsent s stamp b first at p meant (sender_of r p) refl e
 
     of_entry : source_of r i ≡ None → (e : Entry) → slice_get r.entries i ≡ Some e → missing_entry r i e ≡ Some m → IsLacking r i m
     of_entry unsent (Sent s stamp b) at e = absurd (cc)
     of_entry unsent (Told s n y) at e = absurd (cc)
     of_entry unsent (Received s stamp b) at e =
-        elim (is_first_receipt r i b) as (λ t. (if t then option_and_then (missing_pdu r) (meaning r.setting.exercise b) else None) ≡ Some m → IsLacking r i m) [
-          | false ↦ λ e. absurd (cc)
-          | true ↦ λ e. of_pdu unsent s stamp b at (meaning r.setting.exercise b) refl e
-        ] e
+        elim (is_first_receipt r i b) as (λ t. is_first_receipt r i b ≡ t → (if t then option_and_then (missing_pdu r) (meaning r.setting.exercise b) else None) ≡ Some m
+        → IsLacking r i m) [
+          | false ↦ λ _ e. absurd (cc)
+          | true ↦ λ first e. of_pdu unsent s stamp b first at (meaning r.setting.exercise b) refl e
+        ] refl e
 
 -- ---- its sender has no such send
 
@@ -138,6 +146,34 @@ unfolding sender_of is_recorded
 recorded_where_found r p t found =
     let first = first_found (λ s. is_from (station_at r s).address p) (length r.setting.stations) t found in
     list_any_at (λ (o : StationData). is_from o.address p) r.setting.stations t nowhere first.below first.passes
+
+-- a station that passes
+any_place : (test : StationData → Bool) (ss : List StationData) → list_any test ss ≡ true → (i : ℕ) × (i < length ss) × (test (slice_index_or ss i nowhere) ≡ true)
+any_place test [] some = absurd (cc)
+any_place test (s ∷ ss) some =
+    elim (test s) as (λ b. test s ≡ b → (b || list_any test ss) ≡ true → (i : ℕ) × (i < length (s ∷ ss)) × (test (slice_index_or (s ∷ ss) i nowhere) ≡ true)) [
+      | true ↦ λ here _. (0, omega arith, here)
+      | false ↦ λ _ there. let rest = any_place test ss there in (suc rest.0, omega (arith, rest.1), rest.2)
+    ] refl some
+
+-- a PDU comes from a recorded station exactly where there is a sender
+pub recorded_sender : (r : PlainRecording) (p : Pdu) → is_some (sender_of r p) ≡ is_recorded r.setting p
+unfolding sender_of is_recorded
+recorded_sender r p =
+    let test : ℕ → Bool = λ t. is_from (station_at r t).address p in
+    elim (first_below test (length r.setting.stations)) as (λ o. first_below test (length r.setting.stations) ≡ o
+    → is_some o ≡ list_any (λ (o : StationData). is_from o.address p) r.setting.stations) [
+      | Some t ↦ λ found.
+          let first = first_found test (length r.setting.stations) t found in
+          sym (list_any_at (λ (o : StationData). is_from o.address p) r.setting.stations t nowhere first.below first.passes)
+      | None ↦ λ none. elim (list_any (λ (o : StationData). is_from o.address p) r.setting.stations) as
+          (λ b. list_any (λ (o : StationData). is_from o.address p) r.setting.stations ≡ b → false ≡ b) [
+            | false ↦ λ _. refl
+            | true ↦ λ some.
+                let at = any_place (λ (o : StationData). is_from o.address p) r.setting.stations some in
+                absurd (none_passes test (length r.setting.stations) at.0 none at.1 at.2)
+          ] refl
+    ] refl
 
 -- WHAT IS MISSING IS NEEDED
 pub needed : (r wide : PlainRecording) (h : History) (i : ℕ) (m : Missing) → IsRecording wide → IsWider r wide → Explains wide h

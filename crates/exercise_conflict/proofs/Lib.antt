@@ -16,3 +16,15 @@ mod Entities
 mod Asking
 mod Opposing
 mod Tables
+mod Every
+mod Repairs
+mod BadSteps
+mod Told
+mod Fewer
+mod Members
+mod Compatible
+mod Sending
+mod Reaching
+mod Ends
+mod Nowhere
+mod Counted

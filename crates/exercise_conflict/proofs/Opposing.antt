@@ -81,7 +81,7 @@ somewhere p q apart =
 
 -- ---- the clash of what is sent
 
-sent_clash : (r : PlainRecording) (j : ℕ) (cause : Cause) (for : SentFor r j cause) → clash_of r j ≡ clash_sent r j for.station cause for.pdu
+pub sent_clash : (r : PlainRecording) (j : ℕ) (cause : Cause) (for : SentFor r j cause) → clash_of r j ≡ clash_sent r j for.station cause for.pdu
 unfolding clash_of
 sent_clash r j cause for =
     ap (option_and_then (clash_of_entry r j)) for.sent.sent

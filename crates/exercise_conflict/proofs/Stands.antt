@@ -113,14 +113,19 @@ final_holds r wide j cause h wider is final explains =
 
 -- ---- standing causes
 
--- where a standing cause is told, no run explains
-pub standing_stands : (r : PlainRecording) (j : ℕ) (h : History) → is_some (standing_cause r j) ≡ true → Explains r h → ⊥
+-- where a standing cause is told, no run explains a recording that has further sends alone
+pub standing_stays : (r wide : PlainRecording) (j : ℕ) (h : History) → HasFurtherSends r wide → is_some (standing_cause r j) ≡ true → Explains wide h → ⊥
 unfolding standing_cause
-standing_stands r j h some explains =
+standing_stays r wide j h further some explains =
     elim (own_cause r j) as (λ o. own_cause r j ≡ o → is_some (option_and_then unless_unsent o) ≡ true → ⊥) [
       | None ↦ λ _ e. absurd (cc)
       | Some cause ↦ λ own. elim (is_never_sent cause) as (λ t. is_never_sent cause ≡ t → is_some (if t then None else Some cause) ≡ true → ⊥) [
         | true ↦ λ _ e. absurd (cc)
-        | false ↦ λ apart _. own_stands r j cause h own (λ same. absurd (cc (sym (ap is_never_sent same) ∙ apart))) explains
+        | false ↦ λ apart _. own_stays r wide j cause h further own (λ same. absurd (cc (sym (ap is_never_sent same) ∙ apart))) explains
       ] refl
     ] refl some
+
+-- nor the recording itself
+pub standing_stands : (r : PlainRecording) (j : ℕ) (h : History) → is_some (standing_cause r j) ≡ true → Explains r h → ⊥
+standing_stands r j h some explains =
+    standing_stays r r j h (record { setting = refl; logs = λ s. adds_itself (sends_no_able r.setting.exercise) (log_of r s) }) some explains

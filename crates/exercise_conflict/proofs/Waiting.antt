@@ -108,7 +108,7 @@ was_sent_in b s h before within =
     ap (was_sent b) (sym within.1) ∙ sent_later b within.0 (Send s b ∷ before) (sent_here b s before)
 
 -- what stands in the log of a station was sent
-was_sent_at : (b : List ℕ) (t : ℕ) (h l : History) → IsBeginning (Send t b ∷ l) (log_at t h) → was_sent b h ≡ true
+pub was_sent_at : (b : List ℕ) (t : ℕ) (h l : History) → IsBeginning (Send t b ∷ l) (log_at t h) → was_sent b h ≡ true
 was_sent_at b t h l begins =
     let event = from_log t h l (Send t b) begins.0 begins.1 in was_sent_in b t h event.before event.within
 

@@ -11,3 +11,9 @@ pub mod FieldText
 pub mod Clash
 pub mod Conflict
 pub mod Lacks
+pub mod StepClash
+pub mod Ways
+pub mod Repair
+pub mod RepairText
+pub mod Whole
+pub mod Further

@@ -1,9 +1,10 @@
 //! Whose fault it is that a certificate is not good.
 
 ghost use Rattle.std.specs.Prelude.{◌≡◌, IfOk, IsTrue};
-ghost use Rattle.exercise_model.specs.Recording.{IsRecording};
+ghost use Rattle.exercise_model.specs.Recording.{PlainRecording, IsRecording};
 ghost use Rattle.exercise_model.specs.History.{History};
 ghost use Rattle.exercise_model.specs.Run.{Explains};
+ghost use Rattle.exercise_conflict.specs.Wider.{HasFurtherSends};
 ghost use Rattle.exercise_conflict.specs.declared.fault.Fault.TheVariants.{Certificate, Recording};
 
 use crate::also::standing_cause;
@@ -21,9 +22,11 @@ pub enum Fault {
     Recording,
 }
 
-/// Whether some entry has a standing cause against it; then no run explains the recording.
-fn has_standing_cause<L: ExerciseLog>(findings: &Findings<'_, L>) -> bool
+/// Whether some entry has a standing cause against it; then no run explains the recording, nor any that
+/// has sends beyond it which are no Ables.
+pub(crate) fn has_standing_cause<L: ExerciseLog>(findings: &Findings<'_, L>) -> bool
     ensures limits { IsRecording findings.now }
+    ensures stays { IsTrue result → (wide : PlainRecording) (h : History) → HasFurtherSends findings.now wide → Explains wide h → ⊥ }
     ensures unexplained { IsTrue result → (h : History) → Explains findings.now h → ⊥ }
 {
     for entry in 0..findings.log().entry_count() {

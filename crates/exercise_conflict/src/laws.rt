@@ -1,7 +1,7 @@
 //! Laws of what contradicts what. Each function is a theorem: it has no body, and its contract is the
 //! law.
 
-ghost use Rattle.std.specs.Prelude.{◌≡◌, ◌≢◌, ◌⊎◌, ◌<◌, length, ℕ, List, true, Some, None, slice_get};
+ghost use Rattle.std.specs.Prelude.{◌≡◌, ◌≢◌, ◌⊎◌, ◌<◌, ◌≤◌, ◌+◌, length, ℕ, List, true, Some, None, slice_get, slice_index_or};
 ghost use Rattle.exercise_model.specs.declared.cause.Cause.{Cause};
 ghost use Rattle.exercise_model.specs.declared.cause.Cause.TheVariants.{ReusedIdentifier, WrongAnswer, ChangedAnswer, Impossible, NeverSent, WrongState};
 ghost use Rattle.exercise_model.specs.Recording.{PlainRecording, IsRecording};
@@ -9,6 +9,8 @@ ghost use Rattle.exercise_model.specs.History.{History};
 ghost use Rattle.exercise_model.specs.Run.{Explains};
 ghost use Rattle.exercise_findings.specs.Tables.{own_cause};
 ghost use Rattle.exercise_findings.specs.Source.{source_of};
+ghost use Rattle.exercise_check.specs.declared.certificate.Step.{Step};
+ghost use Rattle.exercise_check.specs.Goodness.{no_step, IsFirstBad};
 ghost use Rattle.exercise_audit.specs.declared.blocks.Block.{Block};
 ghost use Rattle.exercise_audit.specs.Audit.{IsBlocked};
 ghost use Rattle.exercise_review.specs.declared.missing.Missing.{Missing};
@@ -16,11 +18,19 @@ ghost use Rattle.exercise_review.specs.Missing.{missing_at};
 ghost use Rattle.exercise_conflict.specs.Final.{is_final};
 ghost use Rattle.exercise_conflict.specs.Wider.{IsWider, HasFurtherSends};
 ghost use Rattle.exercise_conflict.specs.Needed.{IsNeeded};
+ghost use Rattle.exercise_conflict.specs.Further.{HasMissingSends};
 ghost use Rattle.exercise_conflict.specs.declared.waits.Wait.{Wait};
 ghost use Rattle.exercise_conflict.specs.Waits.{waits_of, Leads};
 ghost use Rattle.exercise_conflict.specs.Earlier.{earlier_of, Contradicts, ContradictsAnswer};
 ghost use Rattle.exercise_conflict.specs.Conflict.{ClashesByOrder, ClashesByAnswer, ClashesByOpposite, ClashesByChange, ClashesByState, ClashesBySend};
 ghost use Rattle.exercise_conflict.specs.Since.{made_since, HasOneState, Made};
+ghost use Rattle.exercise_conflict.specs.StepClash.{is_of_event};
+ghost use Rattle.exercise_conflict.specs.Lacks.{lacks_of};
+ghost use Rattle.exercise_conflict.specs.declared.repair.Enough.{Enough};
+ghost use Rattle.exercise_conflict.specs.declared.repair.Enough.TheVariants as words;
+ghost use Rattle.exercise_conflict.specs.Repair.{repaired, IsEnough};
+ghost use Rattle.exercise_conflict.specs.declared.way.Way.{Way};
+ghost use Rattle.exercise_conflict.specs.Ways.{way_of};
 ghost use Rattle.exercise_conflict.specs.Cycles.{cycle_at, AreWaits, EndsAt, IsTold};
 
 /// The law of own causes: where the log of its station has a cause against an entry, and it is not
@@ -110,4 +120,41 @@ pub fn clashes_are_the_conflict()
     ensures change { (r : PlainRecording) (j : ℕ) → own_cause r j ≡ Some Impossible → ClashesByChange r j }
     ensures state { (r : PlainRecording) (j : ℕ) → own_cause r j ≡ Some WrongState → ClashesByState r j }
     ensures send { (r : PlainRecording) (j : ℕ) → own_cause r j ≡ Some NeverSent → ClashesBySend r j }
+{}
+
+/// The law of bad steps: where the first cause against the first bad step of a certificate is one of
+/// its event, and not of the certificate, it is the cause that the log of its station has against the
+/// entry of the step. So what such a step contradicts, its entry contradicts whatever the certificate.
+pub fn bad_steps_have_own_causes()
+    ensures { (r : PlainRecording) (steps : List Step) (k : ℕ) (cause : Cause) → IsFirstBad r steps k cause → is_of_event cause ≡ true
+        → own_cause r (slice_index_or steps k no_step).place ≡ Some cause }
+{}
+
+/// The law of ways that are told: each block of a blocked list comes to something. So as many ways are
+/// told as blocks.
+pub fn each_block_has_its_way()
+    ensures { (r : PlainRecording) (blocks : List Block) (n : ℕ) (b : Block) → IsBlocked r blocks → slice_get blocks n ≡ Some b → (way : Way) × (way_of r blocks b ≡ Some way) }
+{}
+
+/// The law of what is enough: of each recording one word alone holds. `yes` says that some run explains
+/// it with the sends that its logs lack, each at its place; `no` that none does, that none of these sends
+/// is an Able, and that they fit into a recording (`yes`, `no`).
+pub fn enough_is_one_word()
+    ensures one { (r : PlainRecording) (word other : Enough) → IsEnough r word → IsEnough r other → word ≡ other }
+    ensures yes { (r : PlainRecording) → IsEnough r words.Yes → (h : History) × Explains (repaired r) h }
+    ensures no { (r : PlainRecording) (h : History) → IsEnough r words.No → Explains (repaired r) h → ⊥ }
+{}
+
+/// The law of fewer sends: each wider recording that some run explains has at least as many entries more
+/// as the logs lack sends. So where the missing sends are enough, no smaller number of entries is.
+pub fn fewer_do_not_do()
+    ensures { (r wide : PlainRecording) (h : History) → IsRecording r → IsRecording wide → IsWider r wide → Explains wide h
+        → length r.entries + length (lacks_of r) ≤ length wide.entries }
+{}
+
+/// The law of other places: where the missing sends are not enough at their places, no recording is
+/// explained that has, beyond this one, only sends of datagrams that the logs lack, at whatever places and
+/// however often. For such sends change no state, and the earliest place does the least harm.
+pub fn nowhere_else()
+    ensures { (r wide : PlainRecording) (h : History) → IsRecording r → IsRecording wide → IsEnough r words.No → HasMissingSends r wide → Explains wide h → ⊥ }
 {}

@@ -1,0 +1,128 @@
+-- A recording with the sends that its logs lack, each at its place, and whether these are enough (profile).
+use Rattle.std.specs.Prelude.{◌≡◌, ◌⊎◌, ◌<◌, ℕ, zero, suc, List, ◌∷◌, ◌++◌, [], length, map, filter, Bool, true, false, ◌==◌, nat_lt, Option, Some, None, IfSome, is_none, slice_get, slice_index_or}
+use Rattle.std.specs.Option.{option_map_or}
+use Rattle.std.specs.List.{list_any}
+use Rattle.std.specs.Global.{Vec}
+use Rattle.std.specs.declared.hash.BuildHasherDefault.{BuildHasherDefault}
+use Rattle.std.specs.declared.hash.FoldHasher.{FoldHasher}
+use Rattle.indexmap.specs.IndexMap.{IndexMap, get}
+use Rattle.dis_records.specs.declared.entity_state.EntityState.TheVariants.{Absent}
+use Rattle.exercise_model.specs.declared.recording.TheConstants.{MOST_ENTRIES}
+use Rattle.exercise_model.specs.Entry.{Entry, Sent, Received, Told}
+use Rattle.exercise_model.specs.Recording.{PlainRecording, IsRecording}
+use Rattle.exercise_model.specs.History.{History}
+use Rattle.exercise_model.specs.Meaning.{meaning}
+use Rattle.exercise_model.specs.Change.{able, responds}
+use Rattle.exercise_model.specs.Run.{Explains}
+use Rattle.exercise_conflict.specs.declared.lacks.Lack.{Lack}
+use Rattle.exercise_conflict.specs.declared.repaired.Slot.{Slot}
+use Rattle.exercise_conflict.specs.declared.repair.Enough.{Enough}
+use Rattle.exercise_conflict.specs.declared.repair.Enough.TheVariants as words
+use Rattle.exercise_conflict.specs.declared.repair.Repair.{Repair}
+use Rattle.exercise_conflict.specs.Lacks.{lacks_of}
+
+-- ---- the repaired recording
+
+-- the datagram of an entry; a state that is told has none
+abbrev pub bytes_of : Entry → List ℕ
+bytes_of (Sent s stamp b) = b
+bytes_of (Received s stamp b) = b
+bytes_of (Told s e y) = []
+
+-- an entry as it is, or the send of its datagram by a station, at no clock's stamp
+abbrev pub shown_as : Entry → Option ℕ → Entry
+shown_as e None = e
+shown_as e (Some t) = Sent t 0 (bytes_of e)
+
+abbrev pub no_entry : Entry
+no_entry = Told 0 0 Absent
+
+-- what a slot shows of the entries of a recording
+abbrev pub slotted : PlainRecording → Slot → Entry
+slotted r slot = shown_as (slice_index_or r.entries slot.entry no_entry) slot.sender
+
+-- an entry as it is
+abbrev pub kept : ℕ → Slot
+kept i = record { entry = i; sender = None }
+
+-- a send that a log lacks
+abbrev pub made : Lack → Slot
+made lack = record { entry = lack.entry; sender = Some lack.missing.sender }
+
+-- it belongs at the start of its log; it belongs right after entry p
+abbrev pub is_first : Lack → Bool
+is_first lack = is_none lack.missing.after
+
+abbrev pub is_after : ℕ → Lack → Bool
+is_after p lack = option_map_or (λ k. k == p) lack.missing.after false
+
+-- the slots of the entries below n, each followed by the sends that belong right after it, and those that belong at the start before them
+unfoldable pub slots_below : List Lack → ℕ → List Slot
+slots_below lacks zero = map made (filter is_first lacks)
+slots_below lacks (suc n) = slots_below lacks n ++ kept n ∷ map made (filter (is_after n) lacks)
+
+-- THE REPAIRED RECORDING: with the sends that its logs lack, each at its place; of several at one place those of lower entries come first
+unfoldable pub repaired : PlainRecording → PlainRecording
+repaired r = record { setting = r.setting; entries = map (slotted r) (slots_below (lacks_of r) (length r.entries)) }
+
+-- it would have too many entries
+unfoldable pub is_too_long : PlainRecording → Bool
+is_too_long r = nat_lt MOST_ENTRIES (length (slots_below (lacks_of r) (length r.entries)))
+
+-- ---- how it is kept
+
+-- P holds of each element of a list
+abbrev pub Every : {X : Type 0} → (X → Type 0) → List X → Type 0
+Every P [] = Unit {0}
+Every P (x ∷ xs) = P x × Every P xs
+
+-- a slot shows an entry that is there, as that of a station that is there
+pub record IsSlot (r : PlainRecording) (slot : Slot) : Type 0 where
+  pub entry : slot.entry < length r.entries
+  pub sender : IfSome slot.sender (λ t. t < length r.setting.stations)
+
+-- the recording that slots show of another one
+abbrev pub shown_by : PlainRecording → List Slot → PlainRecording
+shown_by r slots = record { setting = r.setting; entries = map (slotted r) slots }
+
+pub record AreSlots (r : PlainRecording) (slots : List Slot) : Type 0 where
+  pub each : Every (IsSlot r) slots
+  pub limits : IsRecording (shown_by r slots)
+
+-- what keeps the sends that belong after each entry
+abbrev pub Places : Type 0
+Places = IndexMap ℕ (Vec Slot) (BuildHasherDefault FoldHasher)
+
+-- THE SENDS that belong right after entry p
+unfoldable pub slots_after : Places → ℕ → List Slot
+slots_after places p = option_map_or (λ (slots : Vec Slot). slots.items) (get ◌==◌ places p) []
+
+-- ---- whether it is enough
+
+-- the datagram of an entry is an Able Acknowledge
+abbrev pub is_able : ℕ → Entry → Bool
+is_able x (Sent s stamp b) = option_map_or (responds able) (meaning x b) false
+is_able x (Received s stamp b) = option_map_or (responds able) (meaning x b) false
+is_able x (Told s e y) = false
+
+abbrev pub is_able_at : PlainRecording → ℕ → Bool
+is_able_at r i = option_map_or (is_able r.setting.exercise) (slice_get r.entries i) false
+
+-- one of the sends that the logs lack is an Able
+unfoldable pub lacks_able : PlainRecording → Bool
+lacks_able r = list_any (λ (lack : Lack). is_able_at r lack.entry) (lacks_of r)
+
+abbrev pub IsUnexplained : PlainRecording → Type 0
+IsUnexplained r = (h : History) → Explains r h → ⊥
+
+-- WHETHER THE SENDS ARE ENOUGH: yes where some run explains the repaired recording; else unknown where one of them is an Able, or where the repaired
+-- recording would have too many entries; else no
+abbrev pub IsEnough : PlainRecording → Enough → Type 0
+IsEnough r words.Yes = (is_too_long r ≡ false) × ((h : History) × Explains (repaired r) h)
+IsEnough r words.No = (is_too_long r ≡ false) × (lacks_able r ≡ false) × IsUnexplained (repaired r)
+IsEnough r words.Unknown = (is_too_long r ≡ true) ⊎ ((is_too_long r ≡ false) × (lacks_able r ≡ true) × IsUnexplained (repaired r))
+
+-- A REPAIR: how many sends the logs lack, and whether these are enough
+pub record IsRepairOf (r : PlainRecording) (repair : Repair) : Type 0 where
+  pub sends : repair.sends ≡ length (lacks_of r)
+  pub enough : IsEnough r repair.enough

@@ -1,0 +1,175 @@
+//! Whether the sends that the logs lack are enough for a run.
+
+ghost use Rattle.std.specs.Prelude.{◌≡◌, false, IfOk};
+ghost use Rattle.exercise_model.specs.Recording.{IsRecording};
+ghost use Rattle.exercise_conflict.specs.Lacks.{lacks_of};
+ghost use Rattle.exercise_conflict.specs.Repair.{repaired, is_too_long, is_able_at, lacks_able, IsEnough, IsRepairOf};
+ghost use Rattle.exercise_conflict.specs.RepairText.{enough_text};
+
+use crate::fault::has_standing_cause;
+use crate::lacks::{Lack, lacks_of};
+use crate::repaired::RepairedLog;
+use exercise_audit::{Audit, audit};
+use exercise_findings::Findings;
+use exercise_model::{EntryView, ExerciseLog, meaning_view, responds};
+use siman_pdus::ABLE;
+use std::alloc::{AllocError, Global};
+use std::fmt;
+
+/// Whether missing sends, each at its place, are enough.
+#[derive(Clone, Copy, Debug, PartialEq, Eq)]
+pub enum Enough {
+    /// Some run explains the recording with them.
+    Yes,
+    /// None does, and none of them is an Able.
+    No,
+    /// None does, and one of them is an Able; or the recording would have too many entries.
+    Unknown,
+}
+
+impl Enough {
+    /// Its word: `yes`, `no` or `unknown`.
+    pub fn name(self) -> &'static str
+        ensures { result.now ≡ enough_text self }
+    {
+        match self {
+            Enough::Yes => "yes",
+            Enough::No => "no",
+            Enough::Unknown => "unknown",
+        }
+    }
+}
+
+/// Its word.
+impl fmt::Display for Enough {
+    ghost use Rattle.std.specs.Prelude.{Some};
+    ghost use Rattle.exercise_conflict.specs.RepairText.{enough_text};
+
+    ghost output = { λ enough. Some (enough_text enough) };
+
+    fn fmt<W: fmt::Write>(&self, f: &mut fmt::Formatter<W>) -> fmt::Result {
+        f.write_str(self.name())
+    }
+}
+
+/// How many sends the logs lack, and whether these are enough.
+#[derive(Clone, Copy, Debug, PartialEq, Eq)]
+pub struct Repair {
+    /// How many.
+    pub sends: usize,
+    /// Whether they are enough.
+    pub enough: Enough,
+}
+
+/// Whether the datagram of an entry is an Able Acknowledge.
+fn is_able_at<L: ExerciseLog>(findings: &Findings<'_, L>, entry: usize) -> bool
+    ensures { result ≡ is_able_at findings.now entry }
+{
+    let log = findings.log();
+    if entry >= log.entry_count() {
+        return false;
+    }
+    match log.entry(entry) {
+        EntryView::Sent { bytes, .. } | EntryView::Received { bytes, .. } => {
+            match meaning_view(log.exercise(), bytes) {
+                Some(pdu) => responds(ABLE, &pdu),
+                None => false,
+            }
+        }
+        EntryView::Told { .. } => false,
+    }
+}
+
+/// Whether one of the sends that the logs lack is an Able.
+#[tactic(auto, unfolding(crate::specs::Repair::lacks_able))]
+fn lacks_able<L: ExerciseLog>(findings: &Findings<'_, L>, lacks: &[Lack]) -> bool
+    requires { lacks.now ≡ lacks_of findings.now }
+    ensures { result ≡ lacks_able findings.now }
+{
+    lacks.iter().any(|lack| is_able_at(findings, lack.entry))
+}
+
+/// Whether the repaired log is explained, where it is no longer than a log may be.
+fn searched<L: ExerciseLog>(
+    alloc: Global,
+    findings: &Findings<'_, L>,
+    whole: &RepairedLog<'_, L>,
+    able: bool,
+) -> Result<Enough, AllocError>
+    requires repaired { whole.now ≡ repaired findings.now }
+    requires limits { IsRecording whole.now }
+    requires fits { is_too_long findings.now ≡ false }
+    requires able { able ≡ lacks_able findings.now }
+    ensures { IfOk result (IsEnough findings.now) }
+{
+    match audit(alloc, whole)? {
+        Audit::Explained(_) => Ok(Enough::Yes),
+        Audit::Blocked(_) if able => Ok(Enough::Unknown),
+        Audit::Blocked(_) => Ok(Enough::No),
+    }
+}
+
+/// Whether the sends that the logs lack are enough, none of which is an Able. Where an entry has a
+/// standing cause against it they are not, so the search is spared.
+fn enough_without_able<L: ExerciseLog>(
+    alloc: Global,
+    findings: &Findings<'_, L>,
+    whole: &RepairedLog<'_, L>,
+) -> Result<Enough, AllocError>
+    requires repaired { whole.now ≡ repaired findings.now }
+    requires limits { IsRecording whole.now }
+    requires fits { is_too_long findings.now ≡ false }
+    requires able { lacks_able findings.now ≡ false }
+    ensures { IfOk result (IsEnough findings.now) }
+{
+    if has_standing_cause(findings) {
+        return Ok(Enough::No);
+    }
+    searched(alloc, findings, whole, false)
+}
+
+/// Whether the sends that the logs lack are enough.
+fn enough_of<L: ExerciseLog>(
+    alloc: Global,
+    findings: &Findings<'_, L>,
+    lacks: &[Lack],
+) -> Result<Enough, AllocError>
+    requires { lacks.now ≡ lacks_of findings.now }
+    ensures { IfOk result (IsEnough findings.now) }
+{
+    let Some(whole) = RepairedLog::with(alloc, findings, lacks)? else {
+        return Ok(Enough::Unknown);
+    };
+    if lacks_able(findings, lacks) {
+        return searched(alloc, findings, &whole, true);
+    }
+    enough_without_able(alloc, findings, &whole)
+}
+
+/// How many of all sends the logs lack, and whether these are enough.
+pub(crate) fn repair_with<L: ExerciseLog>(
+    alloc: Global,
+    findings: &Findings<'_, L>,
+    lacks: &[Lack],
+) -> Result<Repair, AllocError>
+    requires { lacks.now ≡ lacks_of findings.now }
+    ensures { IfOk result (IsRepairOf findings.now) }
+{
+    Ok(Repair {
+        sends: lacks.len(),
+        enough: enough_of(alloc, findings, lacks)?,
+    })
+}
+
+/// How many sends the logs of a recording lack, and whether some run explains the recording with them,
+/// each at its place. It makes at most one search, and none where the logs say that no further send
+/// mends them.
+pub fn repair_of<L: ExerciseLog>(
+    alloc: Global,
+    findings: &Findings<'_, L>,
+) -> Result<Repair, AllocError>
+    ensures { IfOk result (IsRepairOf findings.now) }
+{
+    let lacks = lacks_of(alloc, findings)?;
+    repair_with(alloc, findings, &lacks)
+}

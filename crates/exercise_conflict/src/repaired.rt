@@ -1,0 +1,231 @@
+//! A recording with the sends that its logs lack, as a log that lends its entries from it.
+
+ghost use Rattle.std.specs.Prelude.{◌≡◌, ◌∷◌, ◌++◌, [], ◌==◌, ℕ, map, filter, length, true, false, IfOk, IfSome, IfNone, OnOk, if◌then◌else◌};
+ghost use Rattle.exercise_model.specs.Held.{shown};
+ghost use Rattle.exercise_model.specs.Recording.{IsRecording};
+ghost use Rattle.exercise_conflict.specs.Lacks.{lacks_of};
+ghost use Rattle.exercise_conflict.specs.Repair.{bytes_of, shown_as, slotted, kept, made, is_first, is_after, slots_below, slots_after, shown_by, repaired, is_too_long, AreSlots};
+
+use crate::lacks::{Lack, lacks_of};
+use exercise_findings::Findings;
+use exercise_model::{EntryView, ExerciseLog, Form, MOST_ENTRIES, Station};
+use indexmap::IndexMap;
+use std::alloc::{AllocError, Global};
+use std::marker::Model;
+
+/// Where an entry of a repaired log comes from.
+#[derive(Clone, Copy)]
+pub(crate) struct Slot {
+    /// The entry that it is, or whose datagram it sends.
+    pub entry: usize,
+    /// The station that sends the datagram; `None` where the entry stands as it is.
+    pub sender: Option<u16>,
+}
+
+/// The sends that belong right after each entry.
+type Places = IndexMap<usize, Vec<Slot>>;
+
+/// The datagram of an entry; a state that is told has none.
+fn bytes_of<'a>(entry: EntryView<'a>) -> &'a [u8]
+    ensures { result.now ≡ bytes_of (shown entry.entry) }
+{
+    match entry {
+        EntryView::Sent { bytes, .. } | EntryView::Received { bytes, .. } => bytes,
+        EntryView::Told { .. } => &[],
+    }
+}
+
+/// An entry as it is, or the send of its datagram by a station.
+fn shown_as<'a>(entry: EntryView<'a>, sender: Option<u16>) -> EntryView<'a>
+    ensures { shown result ≡ shown_as (shown entry.entry) sender }
+{
+    match sender {
+        Some(station) => EntryView::Sent {
+            station,
+            stamp: 0,
+            bytes: bytes_of(entry),
+        },
+        None => entry,
+    }
+}
+
+/// The send of a datagram that a log lacks.
+fn made(lack: Lack) -> Slot
+    ensures { result ≡ made lack }
+{
+    Slot {
+        entry: lack.entry,
+        sender: Some(lack.missing.sender),
+    }
+}
+
+/// Adds the send that a log lacks, if it belongs at the start of the log.
+fn push_first(slots: &mut Vec<Slot>, lack: Lack) -> Result<(), AllocError>
+    ensures { OnOk result (slots.new.items ≡ slots.old.items ++ map made (filter is_first (lack ∷ []))) }
+{
+    if lack.missing.after.is_none() {
+        slots.push(made(lack))?;
+    }
+    Ok(())
+}
+
+/// The sends that belong at the starts of their logs.
+fn slots_first(alloc: Global, lacks: &[Lack]) -> Result<Vec<Slot>, AllocError>
+    ensures { IfOk result (λ slots. slots.items ≡ map made (filter is_first lacks.now)) }
+{
+    let mut slots = Vec::new(alloc);
+    for lack in lacks {
+        push_first(&mut slots, *lack)?;
+    }
+    Ok(slots)
+}
+
+/// No sends. It takes no memory.
+#[tactic(auto, unfolding(crate::specs::Repair::slots_after))]
+fn no_places(alloc: Global) -> Places
+    ensures { (p : ℕ) → slots_after result p ≡ [] }
+{
+    Places::new(alloc)
+}
+
+/// Puts a send behind those that belong right after an entry.
+fn put(alloc: Global, places: &mut Places, entry: usize, slot: Slot) -> Result<(), AllocError>
+    ensures { OnOk result ((p : ℕ) → slots_after places.new p ≡ slots_after places.old p ++ (if entry == p then slot ∷ [] else [])) }
+{
+    places.entry(entry)?.or_insert(Vec::new(alloc)).push(slot)?;
+    Ok(())
+}
+
+/// Puts the send that a log lacks, if it belongs right after an entry.
+fn put_after(alloc: Global, places: &mut Places, lack: Lack) -> Result<(), AllocError>
+    ensures { OnOk result ((p : ℕ) → slots_after places.new p ≡ slots_after places.old p ++ map made (filter (is_after p) (lack ∷ []))) }
+{
+    if let Some(after) = lack.missing.after {
+        put(alloc, places, after, made(lack))?;
+    }
+    Ok(())
+}
+
+/// The sends that belong right after each entry.
+fn places_of(alloc: Global, lacks: &[Lack]) -> Result<Places, AllocError>
+    ensures { IfOk result (λ places. (p : ℕ) → slots_after places p ≡ map made (filter (is_after p) lacks.now)) }
+{
+    let mut places = no_places(alloc);
+    for lack in lacks {
+        put_after(alloc, &mut places, *lack)?;
+    }
+    Ok(places)
+}
+
+/// Adds an entry, and the sends that belong right after it.
+#[tactic(auto, unfolding(crate::specs::Repair::slots_after))]
+fn add_entry(slots: &mut Vec<Slot>, places: &Places, entry: usize) -> Result<(), AllocError>
+    ensures { OnOk result (slots.new.items ≡ slots.old.items ++ kept entry ∷ slots_after places.now entry) }
+{
+    slots.push(Slot {
+        entry,
+        sender: None,
+    })?;
+    if let Some(more) = places.get(&entry) {
+        slots.extend_from_slice(more.as_slice())?;
+    }
+    Ok(())
+}
+
+/// The slots of so many entries, with the sends that their logs lack.
+fn slots_of(alloc: Global, lacks: &[Lack], entries: usize) -> Result<Vec<Slot>, AllocError>
+    ensures { IfOk result (λ slots. slots.items ≡ slots_below lacks.now entries) }
+{
+    let places = places_of(alloc, lacks)?;
+    let mut slots = slots_first(alloc, lacks)?;
+    for entry in 0..entries {
+        add_entry(&mut slots, &places, entry)?;
+    }
+    Ok(slots)
+}
+
+/// A log with the sends that it lacks, each at its place: right after the request that it takes up,
+/// else at the start of the log of its station. It lends its entries from the log that it repairs.
+#[derive(Drop)]
+pub struct RepairedLog<'a, L: ExerciseLog> {
+    log: &'a L,
+    slots: Vec<Slot>,
+}
+
+impl<'a, L: ExerciseLog> Model for RepairedLog<'a, L> {
+    ghost use Rattle.exercise_model.specs.Recording.{PlainRecording};
+    ghost use Rattle.exercise_conflict.specs.Repair.{shown_by, AreSlots};
+
+    ghost Value = { PlainRecording };
+
+    ghost view = { λ x. shown_by (L.recording x.log.now) x.slots.items };
+
+    ghost invariant = { λ x. AreSlots (L.recording x.log.now) x.slots.items };
+}
+
+impl<'a, L: ExerciseLog> RepairedLog<'a, L> {
+    /// The log with the sends that it lacks, or `None` where it would have more than 1,048,576
+    /// entries.
+    pub fn of(
+        alloc: Global,
+        findings: &Findings<'a, L>,
+    ) -> Result<Option<RepairedLog<'a, L>>, AllocError>
+        ensures repaired { IfOk result (λ found. IfSome found (λ log. log ≡ repaired findings.now)) }
+        ensures limits { IfOk result (λ found. IfSome found IsRecording) }
+        ensures fits { IfOk result (λ found. IfSome found (λ log. is_too_long findings.now ≡ false)) }
+        ensures long { IfOk result (λ found. IfNone found (is_too_long findings.now ≡ true)) }
+    {
+        let lacks = lacks_of(alloc, findings)?;
+        RepairedLog::with(alloc, findings, &lacks)
+    }
+
+    /// The log with these sends, which are all that it lacks.
+    #[tactic(auto, unfolding(crate::specs::Repair::repaired, crate::specs::Repair::is_too_long))]
+    pub(crate) fn with(
+        alloc: Global,
+        findings: &Findings<'a, L>,
+        lacks: &[Lack],
+    ) -> Result<Option<RepairedLog<'a, L>>, AllocError>
+        requires { lacks.now ≡ lacks_of findings.now }
+        ensures repaired { IfOk result (λ found. IfSome found (λ log. log ≡ repaired findings.now)) }
+        ensures limits { IfOk result (λ found. IfSome found IsRecording) }
+        ensures fits { IfOk result (λ found. IfSome found (λ log. is_too_long findings.now ≡ false)) }
+        ensures long { IfOk result (λ found. IfNone found (is_too_long findings.now ≡ true)) }
+    {
+        let log = findings.log();
+        let slots = slots_of(alloc, lacks, log.entry_count())?;
+        if slots.len() > MOST_ENTRIES {
+            return Ok(None);
+        }
+        Ok(Some(RepairedLog { log, slots }))
+    }
+}
+
+impl<L: ExerciseLog> ExerciseLog for RepairedLog<'_, L> {
+    ghost recording = { λ r. r };
+
+    fn form(&self) -> Form {
+        self.log.form()
+    }
+
+    fn exercise(&self) -> u8 {
+        self.log.exercise()
+    }
+
+    fn station_count(&self) -> usize {
+        self.log.station_count()
+    }
+
+    fn station(&self, index: usize) -> &Station {
+        self.log.station(index)
+    }
+
+    fn entry_count(&self) -> usize {
+        self.slots.len()
+    }
+
+    fn entry(&self, index: usize) -> EntryView<'_> {
+        let slot = self.slots[index];
+        shown_as(self.log.entry(slot.entry), slot.sender)
+    }
+}

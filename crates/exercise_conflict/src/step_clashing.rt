@@ -1,0 +1,207 @@
+//! What a step of a certificate contradicts, read from the steps and the logs.
+
+ghost use Rattle.std.specs.Prelude.{◌≡◌, ◌<◌, ◌≤◌, length, slice_index_or, option_and_then, IfOk};
+ghost use Rattle.siman_pdus.specs.Reading.{pdu_of};
+ghost use Rattle.exercise_model.specs.Meaning.{meaning};
+ghost use Rattle.exercise_model.specs.Setting.{must_have_sent};
+ghost use Rattle.exercise_check.specs.Order.{sender_link};
+ghost use Rattle.exercise_check.specs.Goodness.{no_step};
+ghost use Rattle.exercise_conflict.specs.StepClash.{disordered, link_given, right_link, misled, too_late, barred, step_clash, step_clash_of};
+
+use crate::clash::Clash;
+use crate::clashing::clash_of;
+use crate::earlier::pair_of;
+use crate::near::sender_of;
+use crate::question::first_below;
+use crate::step_clash::StepClash;
+use crate::taking::{Takes, due_after, first_sender, miscounted};
+use exercise_check::{Certificate, NO_LINK, Step};
+use exercise_findings::Findings;
+use exercise_model::{Cause, EntryView, ExerciseLog, meaning_view};
+use siman_pdus::PduView;
+use std::alloc::{AllocError, Global};
+
+/// An entry that is not the next one of its station: who took it, and what its station is to do.
+fn disordered<L: ExerciseLog>(
+    log: &L,
+    steps: &[Step],
+    step: usize,
+    place: usize,
+) -> Option<StepClash>
+    requires { step ≤ length steps.now }
+    ensures { result ≡ disordered (L.recording log.now) steps.now step place }
+{
+    if place >= log.entry_count() {
+        return None;
+    }
+    let station = log.entry(place).station();
+    let takes = Takes {
+        steps,
+        entry: place,
+    };
+    Some(StepClash::OutOfOrder {
+        place,
+        taken: first_below(&takes, step),
+        next: due_after(log, &steps[..step], station),
+    })
+}
+
+/// The link that a step writes, if it writes one.
+fn link_given(link: u32) -> Option<usize>
+    ensures { result ≡ link_given link }
+{
+    if link == NO_LINK {
+        None
+    } else {
+        Some(link as usize)
+    }
+}
+
+/// Whether a PDU comes from a recorded station.
+fn is_recorded<L: ExerciseLog>(findings: &Findings<'_, L>, pdu: &PduView<'_>) -> bool
+    ensures { result ≡ must_have_sent findings.now.setting (pdu_of pdu.now) }
+{
+    sender_of(findings, pdu).is_some()
+}
+
+/// The entry that brought a datagram, in the order of the steps before.
+fn sender_link<L: ExerciseLog>(
+    findings: &Findings<'_, L>,
+    bytes: &[u8],
+    before: &[Step],
+    pdu: &PduView<'_>,
+) -> Option<usize>
+    ensures { result ≡ sender_link findings.now bytes.now before.now (pdu_of pdu.now) }
+{
+    if is_recorded(findings, pdu) {
+        first_sender(findings.log(), bytes, before)
+    } else {
+        None
+    }
+}
+
+/// The entry that brought a datagram that was received, in the order of the steps before.
+fn received_link<L: ExerciseLog>(
+    findings: &Findings<'_, L>,
+    bytes: &[u8],
+    before: &[Step],
+) -> Option<usize>
+    ensures { result ≡ option_and_then (sender_link findings.now bytes.now before.now) (meaning findings.now.setting.exercise bytes.now) }
+{
+    match meaning_view(findings.log().exercise(), bytes) {
+        Some(pdu) => sender_link(findings, bytes, before, &pdu),
+        None => None,
+    }
+}
+
+/// The link that a step should have which names an entry after the steps before it.
+#[tactic(auto, unfolding(crate::specs::StepClash::right_link))]
+fn right_link<L: ExerciseLog>(
+    findings: &Findings<'_, L>,
+    before: &[Step],
+    place: usize,
+) -> Option<usize>
+    ensures { result ≡ right_link findings.now before.now place }
+{
+    let log = findings.log();
+    if place >= log.entry_count() {
+        return None;
+    }
+    match log.entry(place) {
+        EntryView::Sent { .. } => pair_of(findings, place),
+        EntryView::Received { bytes, .. } => received_link(findings, bytes, before),
+        EntryView::Told { .. } => None,
+    }
+}
+
+/// A link that is not the one that should stand there.
+fn misled<L: ExerciseLog>(findings: &Findings<'_, L>, steps: &[Step], step: usize) -> StepClash
+    requires { step < length steps.now }
+    ensures { result ≡ misled findings.now steps.now step (slice_index_or steps.now step no_step) }
+{
+    let named = steps[step];
+    StepClash::BadLink {
+        place: named.place as usize,
+        link: link_given(named.link),
+        right: right_link(findings, &steps[..step], named.place as usize),
+    }
+}
+
+/// The first step that takes the source of a datagram that was not sent so far.
+fn too_late(steps: &[Step], clash: &Clash) -> Option<usize>
+    ensures { result ≡ too_late steps.now clash.now }
+{
+    match clash {
+        Clash::NeverSent {
+            sent: Some(sent),
+            ..
+        } => {
+            let takes = Takes {
+                steps,
+                entry: *sent,
+            };
+            first_below(&takes, steps.len())
+        }
+        _ => None,
+    }
+}
+
+/// An event that may not happen.
+fn barred<L: ExerciseLog>(
+    findings: &Findings<'_, L>,
+    steps: &[Step],
+    place: usize,
+) -> Option<StepClash>
+    ensures { result ≡ barred findings.now steps.now place }
+{
+    let clash = clash_of(findings, place)?;
+    Some(StepClash::Event {
+        entry: place,
+        clash,
+        step: too_late(steps, &clash),
+    })
+}
+
+/// What a step contradicts that names an entry, for the first cause against it.
+fn step_clash<L: ExerciseLog>(
+    findings: &Findings<'_, L>,
+    steps: &[Step],
+    step: usize,
+    cause: Cause,
+) -> Option<StepClash>
+    requires { step < length steps.now }
+    ensures { result ≡ step_clash findings.now steps.now step cause (slice_index_or steps.now step no_step) }
+{
+    let place = steps[step].place as usize;
+    match cause {
+        Cause::NoSuchRecord => Some(StepClash::NoSuchRecord {
+            place,
+            records: findings.log().entry_count(),
+        }),
+        Cause::OutOfOrder => disordered(findings.log(), steps, step, place),
+        Cause::BadLink => Some(misled(findings, steps, step)),
+        _ => barred(findings, steps, place),
+    }
+}
+
+/// What a step of a certificate contradicts, for the first cause against it that a check told. `None`
+/// past the last step, but for a wrong count. Only that takes memory.
+#[tactic(auto, unfolding(crate::specs::StepClash::step_clash_of))]
+pub fn step_clash_of<L: ExerciseLog>(
+    alloc: Global,
+    findings: &Findings<'_, L>,
+    certificate: &Certificate,
+    step: usize,
+    cause: Cause,
+) -> Result<Option<StepClash>, AllocError>
+    ensures { IfOk result (λ clash. clash ≡ step_clash_of findings.now certificate.now.steps.items step cause) }
+{
+    let steps = certificate.steps.as_slice();
+    if cause == Cause::CountDiffers {
+        return Ok(Some(miscounted(alloc, steps, findings.log().entry_count())?));
+    }
+    if step >= steps.len() {
+        return Ok(None);
+    }
+    Ok(step_clash(findings, steps, step, cause))
+}

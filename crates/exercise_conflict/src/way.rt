@@ -1,0 +1,146 @@
+//! What each blocked station comes to, and what else stands beside a blocked list.
+
+ghost use Rattle.std.specs.Prelude.{◌≡◌, ◌++◌, map, option_map, IfOk, OnOk};
+ghost use Rattle.std.specs.Option.{option_to_list};
+ghost use Rattle.exercise_conflict.specs.Final.{is_final};
+ghost use Rattle.exercise_conflict.specs.Cycles.{cycle_at};
+ghost use Rattle.exercise_conflict.specs.Ways.{stations_in, way_of, ways_of, cycles_of, also_by, all_also};
+
+use crate::also::also_at;
+use crate::clash::Clash;
+use crate::clashing::clash_of;
+use crate::cycles::cycle_at;
+use crate::waits::{Wait, wait_of, waits_of};
+use exercise_audit::Block;
+use exercise_findings::Findings;
+use exercise_model::{Cause, ExerciseLog};
+use std::alloc::{AllocError, Global};
+
+/// What a blocked station comes to: it waits, or it contradicts something.
+#[derive(Clone, Copy, PartialEq, Eq)]
+pub enum Way {
+    /// It waits on a station that is blocked too.
+    Waits(Wait),
+    /// It waits on nobody.
+    Clash {
+        /// Its next entry.
+        entry: usize,
+        /// What that contradicts.
+        clash: Clash,
+        /// Whether no further entry of any log mends it.
+        is_final: bool,
+    },
+}
+
+/// An entry that has a cause against it by the log of its station, beside a blocked list.
+#[derive(Clone, Copy, Debug, PartialEq, Eq)]
+pub struct Also {
+    /// The entry.
+    pub entry: usize,
+    /// The first cause, which is not that a datagram was never sent.
+    pub cause: Cause,
+}
+
+/// Whether a cause stays whatever else happened.
+fn is_final(cause: Cause) -> bool
+    ensures { result ≡ is_final cause }
+{
+    matches!(
+        cause,
+        Cause::WrongSender | Cause::ReusedIdentifier | Cause::ChangedAnswer | Cause::Stranger
+    )
+}
+
+/// What the station of a block comes to: its wait, else what its next entry contradicts. It takes no
+/// memory.
+#[tactic(auto, unfolding(crate::specs::Ways::way_of))]
+pub fn way_of<L: ExerciseLog>(
+    findings: &Findings<'_, L>,
+    blocks: &[Block],
+    block: Block,
+) -> Option<Way>
+    ensures { result ≡ way_of findings.now blocks.now block }
+{
+    if let Some(wait) = wait_of(findings, blocks, block) {
+        return Some(Way::Waits(wait));
+    }
+    let clash = clash_of(findings, block.entry)?;
+    Some(Way::Clash {
+        entry: block.entry,
+        clash,
+        is_final: is_final(block.cause),
+    })
+}
+
+/// What the stations of a blocked list come to, in its order.
+pub fn ways_of<L: ExerciseLog>(
+    alloc: Global,
+    findings: &Findings<'_, L>,
+    blocks: &[Block],
+) -> Result<Vec<Way>, AllocError>
+    ensures { IfOk result (λ ways. ways.items ≡ ways_of findings.now blocks.now) }
+{
+    let mut ways = Vec::new(alloc);
+    for block in blocks {
+        if let Some(way) = way_of(findings, blocks, *block) {
+            ways.push(way)?;
+        }
+    }
+    Ok(ways)
+}
+
+/// Adds the cycle at a station, if there is one.
+fn push_cycle(
+    alloc: Global,
+    cycles: &mut Vec<Vec<usize>>,
+    waits: &[Wait],
+    station: usize,
+) -> Result<(), AllocError>
+    ensures { OnOk result (map stations_in cycles.new.items ≡ map stations_in cycles.old.items ++ option_to_list (cycle_at waits.now station)) }
+{
+    if let Some(cycle) = cycle_at(alloc, waits, station)? {
+        cycles.push(cycle)?;
+    }
+    Ok(())
+}
+
+/// The cycles of a blocked list, by their least station.
+pub fn cycles_of<L: ExerciseLog>(
+    alloc: Global,
+    findings: &Findings<'_, L>,
+    blocks: &[Block],
+) -> Result<Vec<Vec<usize>>, AllocError>
+    ensures { IfOk result (λ cycles. map stations_in cycles.items ≡ cycles_of findings.now blocks.now) }
+{
+    let waits = waits_of(alloc, findings, blocks)?;
+    let mut cycles = Vec::new(alloc);
+    for station in 0..findings.log().station_count() {
+        push_cycle(alloc, &mut cycles, &waits, station)?;
+    }
+    Ok(cycles)
+}
+
+/// Adds what stands against an entry, if something does.
+fn push_also(also: &mut Vec<Also>, entry: usize, cause: Option<Cause>) -> Result<(), AllocError>
+    ensures { OnOk result (also.new.items ≡ also.old.items ++ option_to_list (option_map (also_by entry) cause)) }
+{
+    if let Some(cause) = cause {
+        also.push(Also { entry, cause })?;
+    }
+    Ok(())
+}
+
+/// What else stands against entries beside a blocked list, by rising entries.
+pub fn all_also<L: ExerciseLog>(
+    alloc: Global,
+    findings: &Findings<'_, L>,
+    blocks: &[Block],
+) -> Result<Vec<Also>, AllocError>
+    ensures { IfOk result (λ also. also.items ≡ all_also findings.now blocks.now) }
+{
+    let mut also = Vec::new(alloc);
+    for entry in 0..findings.log().entry_count() {
+        push_also(&mut also, entry, also_at(findings, blocks, entry))?;
+    }
+    Ok(also)
+}

@@ -171,7 +171,7 @@ def with_sends(recording, sends):
 
 def text_of(recording):
     """The file of a recording of the first form."""
-    text = b"DSRC0001" + bytes([recording.exercise]) + len(recording.stations).to_bytes(2, "big")
+    text = bytearray(b"DSRC0001" + bytes([recording.exercise]) + len(recording.stations).to_bytes(2, "big"))
     for station in recording.stations:
         text += station.site.to_bytes(2, "big") + station.application.to_bytes(2, "big") + b"\0\0"
     for entry in recording.entries:
@@ -180,7 +180,7 @@ def text_of(recording):
             text += entry.entity.to_bytes(2, "big") + bytes([entry.state])
         else:
             text += entry.stamp.to_bytes(8, "big") + len(entry.datagram).to_bytes(2, "big") + entry.datagram
-    return text + b"\0" + len(recording.entries).to_bytes(4, "big")
+    return bytes(text + b"\0" + len(recording.entries).to_bytes(4, "big"))
 
 
 def places_for(recording, station):

@@ -68,7 +68,7 @@ each_within n (v ∷ h) e =
     let parts = and_parts (nat_lt (station_of v) n) (within n h) e in
     (below_true (station_of v) n parts.0, each_within n h parts.1)
 
-all_within : (w : WriterState) (es : List Entry) → IsRecording (record { setting = w.setting; entries = es })
+pub all_within : (w : WriterState) (es : List Entry) → IsRecording (record { setting = w.setting; entries = es })
     → AllByRecursion (λ v. station_of v < length w.setting.stations) (past es)
 all_within w es is = each_within (length w.setting.stations) (past es) (past_within (record { setting = w.setting; entries = es }) is)
 

@@ -3,3 +3,4 @@ pub mod Stations
 pub mod Statement
 pub mod Draft
 pub mod Script
+pub mod Command

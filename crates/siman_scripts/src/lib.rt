@@ -10,6 +10,7 @@
 #![tactic(auto)]
 
 mod act;
+mod command;
 mod draft;
 mod forms;
 mod line_fault;
@@ -23,6 +24,7 @@ mod text;
 mod world_station;
 
 pub use act::{Act, Move};
+pub use command::{Command, Task, read_command};
 pub use forms::{number_16, number_32};
 pub use moves::target_of;
 pub use script::{LARGEST_SCRIPT, Script, read_script};

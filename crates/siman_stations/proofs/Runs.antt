@@ -42,7 +42,7 @@ log_tail x o s v h false e is = subst (DeedsStand x o) (log_case s v h false e) 
 abbrev pub AllStand : SettingData → History → Type 0
 AllStand w h = (s : ℕ) → s < length w.stations → DeedsStand w.exercise (station_in w s) (log_at s h)
 
-all_tail : (w : SettingData) (v : Event) (h : History) → AllStand w (v ∷ h) → AllStand w h
+pub all_tail : (w : SettingData) (v : Event) (h : History) → AllStand w (v ∷ h) → AllStand w h
 all_tail w v h all = λ s within. log_tail w.exercise (station_in w s) s v h (station_of v == s) refl (all s within)
 
 -- what a station sends comes from it
@@ -94,24 +94,43 @@ tell_none : (same : Bool) → same ≡ true → first_cause ((not same, WrongSta
 tell_none true e = refl
 tell_none false e = absurd cc
 
-event_allowed : (w : SettingData) (v : Event) (h : History) → AllStand w (v ∷ h) → AllByRecursion (λ u. station_of u < length w.stations) (v ∷ h)
-    → ReceivesSent w (v ∷ h) → IsAllowed w h v
-unfolding cause_of
-event_allowed w (Send s b) h all within received =
-    none_of (send_cause w.exercise (station_in w s) (log_at s h)) (meaning w.exercise b) (first_stands w s b h all within.0)
-event_allowed w (Get s b) h all within received =
-    none_of (get_cause w h b) (meaning w.exercise b)
-    (λ p e. get_where_sent w h b p (was_recorded w b p h (all_tail w (Get s b) h all) within.1 e (received.0 p e)) (received.0 p e))
-event_allowed w (Tell s e y) h all within received =
-    tell_none (same_state y (state_after w.exercise (station_in w s) (log_at s h) e))
-    (subst (DeedsStand w.exercise (station_in w s)) (log-first s (Tell s e y) h refl) (all s within.0)).0
+-- nothing stands against what is received
+abbrev pub GetsStand : SettingData → History → Type 0
+GetsStand w [] = Unit {0}
+GetsStand w (Send s b ∷ h) = GetsStand w h
+GetsStand w (Get s b ∷ h) = ((p : Pdu) → meaning w.exercise b ≡ Some p → get_cause w h b p ≡ None) × GetsStand w h
+GetsStand w (Tell s e y ∷ h) = GetsStand w h
 
-received_tail : (w : SettingData) (v : Event) (h : History) → ReceivesSent w (v ∷ h) → ReceivesSent w h
-received_tail w (Send s b) h r = r
-received_tail w (Get s b) h r = r.1
-received_tail w (Tell s e y) h r = r
+event_allowed : (w : SettingData) (v : Event) (h : History) → AllStand w (v ∷ h) → station_of v < length w.stations → GetsStand w (v ∷ h)
+    → IsAllowed w h v
+unfolding cause_of
+event_allowed w (Send s b) h all within gets =
+    none_of (send_cause w.exercise (station_in w s) (log_at s h)) (meaning w.exercise b) (first_stands w s b h all within)
+event_allowed w (Get s b) h all within gets = none_of (get_cause w h b) (meaning w.exercise b) gets.0
+event_allowed w (Tell s e y) h all within gets =
+    tell_none (same_state y (state_after w.exercise (station_in w s) (log_at s h) e))
+    (subst (DeedsStand w.exercise (station_in w s)) (log-first s (Tell s e y) h refl) (all s within)).0
+
+gets_tail : (w : SettingData) (v : Event) (h : History) → GetsStand w (v ∷ h) → GetsStand w h
+gets_tail w (Send s b) h r = r
+gets_tail w (Get s b) h r = r.1
+gets_tail w (Tell s e y) h r = r
+
+-- WHERE THE DEEDS OF EACH STATION STAND, and nothing against what is received, a history is a run
+pub heard_run : (w : SettingData) (h : History) → AllStand w h → AllByRecursion (λ v. station_of v < length w.stations) h → GetsStand w h → IsRun w h
+heard_run w [] all within gets = tt
+heard_run w (v ∷ h) all within gets =
+    (heard_run w h (all_tail w v h all) within.1 (gets_tail w v h gets), event_allowed w v h all within.0 gets)
+
+-- what was sent before may be received
+sent_stand : (w : SettingData) (h : History) → AllStand w h → AllByRecursion (λ v. station_of v < length w.stations) h → ReceivesSent w h → GetsStand w h
+sent_stand w [] all within received = tt
+sent_stand w (Send s b ∷ h) all within received = sent_stand w h (all_tail w (Send s b) h all) within.1 received
+sent_stand w (Get s b ∷ h) all within received = (
+  λ p e. get_where_sent w h b p (was_recorded w b p h (all_tail w (Get s b) h all) within.1 e (received.0 p e)) (received.0 p e),
+  sent_stand w h (all_tail w (Get s b) h all) within.1 received.1,
+)
+sent_stand w (Tell s e y ∷ h) all within received = sent_stand w h (all_tail w (Tell s e y) h all) within.1 received
 
 pub all_run : (w : SettingData) (h : History) → AllStand w h → AllByRecursion (λ v. station_of v < length w.stations) h → ReceivesSent w h → IsRun w h
-all_run w [] all within received = tt
-all_run w (v ∷ h) all within received =
-    (all_run w h (all_tail w v h all) within.1 (received_tail w v h received), event_allowed w v h all within received)
+all_run w h all within received = heard_run w h all within (sent_stand w h all within received)

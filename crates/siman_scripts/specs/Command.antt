@@ -1,0 +1,39 @@
+-- What a line of text asks of a station, in the forms of the moves of a script (profile).
+use Rattle.std.specs.Prelude.{ℕ, List, Option, Some, None}
+use Rattle.std.specs.Option.{option_and_then}
+use Rattle.dis_records.specs.Address.{Pair}
+use Rattle.siman_scripts.specs.declared.act.Act.{Act}
+use Rattle.siman_scripts.specs.declared.act.Act.TheVariants as acts
+use Rattle.siman_scripts.specs.declared.command.Command.{Command}
+use Rattle.siman_scripts.specs.declared.command.Command.TheVariants as commands
+use Rattle.siman_scripts.specs.declared.command.Task.{Task}
+use Rattle.siman_scripts.specs.declared.command.Task.TheVariants as tasks
+use Rattle.siman_scripts.specs.declared.statement.Statement.{Statement}
+use Rattle.siman_scripts.specs.declared.statement.Statement.TheVariants as says
+use Rattle.siman_scripts.specs.Statement.{statement_of}
+
+-- what a move asks of its station: of a delivery nothing is asked, since the lines deliver
+abbrev pub task_of : Act → Option Task
+task_of (acts.Command order) = Some (tasks.Order order)
+task_of (acts.Deliver place) = None
+task_of acts.Tick = Some tasks.Repeat
+task_of (acts.Tell e) = Some (tasks.Tell e)
+
+abbrev pub asked : Pair → Option Task → Option Command
+asked a None = None
+asked a (Some task) = Some (commands.Asks a task)
+
+-- what a statement says to a station: nothing, what its clock shows, or what it is asked to do
+abbrev pub command_said : Statement → Option Command
+command_said says.Nothing = Some commands.Nothing
+command_said (says.At now) = Some (commands.At now)
+command_said (says.Does a act) = asked a (task_of act)
+command_said (says.Exercise x) = None
+command_said (says.Station a rules) = None
+command_said (says.Opening a e y) = None
+command_said (says.Fixed a datum) = None
+command_said (says.Action a id) = None
+
+-- WHAT A LINE SAYS TO A STATION, if it is passed over, or of the form of an `at` or of a move that is no `deliver`
+abbrev pub command_of : List ℕ → Option Command
+command_of line = option_and_then command_said (statement_of line)

@@ -1,0 +1,9 @@
+pub mod NotedLemmas
+pub mod Lines
+pub mod Prints
+pub mod OneTurn
+pub mod Going
+pub mod Taking
+pub mod Leaving
+pub mod Single
+pub mod Explaining

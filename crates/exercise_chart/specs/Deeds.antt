@@ -1,0 +1,54 @@
+-- Where each station sent, or received, each datagram first (profile).
+use Rattle.std.specs.Prelude.{◌≡◌, ℕ, List, ◌∷◌, length, Bool, true, false, ◌&&◌, ◌==◌, bytes_eq, Option}
+use Rattle.std.specs.Option.{option_map_or}
+use Rattle.std.specs.Hash.{HashWrites, u16}
+use Rattle.std.specs.Cmp.Lexicographic.{bytes_decides}
+use Rattle.std.proofs.Common.{ap, ◌∙◌}
+use Rattle.std.proofs.lemmas.Bool.{and_parts, eqb-true}
+use Rattle.std.specs.declared.hash.BuildHasherDefault.{BuildHasherDefault}
+use Rattle.std.specs.declared.hash.DefaultHasher.{DefaultHasher}
+use Rattle.indexmap.specs.IndexMap.{IndexMap, get}
+use Rattle.exercise_model.specs.Recording.{PlainRecording}
+use Rattle.exercise_model.specs.Place.{first_below}
+use Rattle.exercise_review.specs.Entries.{bytes_sent, bytes_got}
+use Rattle.exercise_chart.specs.declared.deeds.Deed.{Deed}
+
+-- entry i has these bytes at station s, where `by` tells what it sends or receives there
+unfoldable pub has_bytes : (ℕ → ℕ → Option (List ℕ)) → ℕ → List ℕ → ℕ → Bool
+has_bytes by s b i = option_map_or (bytes_eq b) (by s i) false
+
+-- THE FIRST ENTRY AT WHICH STATION s SENDS THESE BYTES
+abbrev pub first_sent : PlainRecording → ℕ → List ℕ → Option ℕ
+first_sent r s b = first_below (has_bytes (bytes_sent r) s b) (length r.entries)
+
+-- THE FIRST AT WHICH IT RECEIVES THEM
+abbrev pub first_got : PlainRecording → ℕ → List ℕ → Option ℕ
+first_got r s b = first_below (has_bytes (bytes_got r) s b) (length r.entries)
+
+-- ---- how they are kept
+
+-- the same station, and the same bytes
+abbrev pub same_deed : Deed → Deed → Bool
+same_deed x y = (x.station == y.station) && bytes_eq x.bytes.now y.bytes.now
+
+-- what a hasher is fed
+abbrev pub deed_fed : Deed → HashWrites
+deed_fed x = x.bytes.now ∷ u16 x.station
+
+-- the same is fed alike
+pub deeds_alike : (x y : Deed) → same_deed x y ≡ true → deed_fed x ≡ deed_fed y
+deeds_alike x y same =
+    let parts = and_parts (x.station == y.station) _ same in
+    ap (λ (b : List ℕ). b ∷ u16 x.station) ((bytes_decides x.bytes.now y.bytes.now).0 parts.1)
+    ∙ ap (λ (s : ℕ). y.bytes.now ∷ u16 s) (eqb-true x.station y.station parts.0)
+
+-- the entry that was kept, or this one
+abbrev pub first_kept : ℕ → Option ℕ → ℕ
+first_kept entry kept = option_map_or (λ (first : ℕ). first) kept entry
+
+abbrev pub Firsts : Type 0
+Firsts = IndexMap Deed ℕ (BuildHasherDefault DefaultHasher)
+
+-- THE TIE: of the entries below n that have the same bytes at a station, the first
+abbrev pub AreFirsts : (ℕ → ℕ → Option (List ℕ)) → ℕ → Firsts → Type 0
+AreFirsts by n firsts = (k : Deed) → get same_deed firsts k ≡ first_below (has_bytes by k.station k.bytes.now) n

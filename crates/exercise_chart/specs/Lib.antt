@@ -1,0 +1,13 @@
+pub mod Window
+pub mod Point
+pub mod Deeds
+pub mod Scene
+pub mod Saying
+pub mod Row
+pub mod Arrow
+pub mod Outside
+pub mod Loss
+pub mod Bar
+pub mod Unanswered
+pub mod Marks
+pub mod Picture

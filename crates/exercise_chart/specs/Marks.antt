@@ -1,0 +1,74 @@
+-- THE MARKS OF A PICTURE: what is told of the steps from one to another of a certificate of a recording (profile).
+use Rattle.std.specs.Prelude.{◌≡◌, ℕ, ◌<◌, ◌⊎◌, List, Result, Ok, Err}
+use Rattle.exercise_model.specs.Recording.{PlainRecording}
+use Rattle.exercise_check.specs.declared.certificate.Step.{Step}
+use Rattle.exercise_chart.specs.declared.point.Point.{Point}
+use Rattle.exercise_chart.specs.declared.point.Rows.{Rows}
+use Rattle.exercise_chart.specs.declared.row.Row.{Row}
+use Rattle.exercise_chart.specs.declared.arrow.Arrow.{Arrow}
+use Rattle.exercise_chart.specs.declared.outside.FromOutside.{FromOutside}
+use Rattle.exercise_chart.specs.declared.loss.Loss.{Loss}
+use Rattle.exercise_chart.specs.declared.bar.Bar.{Bar}
+use Rattle.exercise_chart.specs.declared.marks.Marks.{Marks}
+use Rattle.exercise_chart.specs.declared.marks.TheConstants.{MOST_ROWS}
+use Rattle.exercise_chart.specs.declared.fault.ChartFault.{ChartFault}
+use Rattle.exercise_chart.specs.declared.fault.ChartFault.TheVariants.{OverLimit, Memory}
+use Rattle.exercise_chart.specs.Scene.{SceneData}
+use Rattle.exercise_chart.specs.Row.{row_count, rows_of}
+use Rattle.exercise_chart.specs.Arrow.{arrows_of}
+use Rattle.exercise_chart.specs.Outside.{outside_of}
+use Rattle.exercise_chart.specs.Loss.{losses_of}
+use Rattle.exercise_chart.specs.Bar.{bars_of, IsOverfull}
+use Rattle.exercise_chart.specs.Unanswered.{unanswered_of}
+
+-- | Mark       | One for each                                                                                                              |
+-- |------------|---------------------------------------------------------------------------------------------------------------------------|
+-- | row        | step that is shown: its entry, and what the station did: sent or received what means something, or what means nothing, or told a state |
+-- | arrow      | receipt with its source, one of them at least in a row                                                                    |
+-- | outside    | receipt in a row of what came from outside, and from which address                                                        |
+-- | loss       | first send of its bytes, in a row, and other recorded station that it addresses and that never received it                |
+-- | bar        | stretch of a life that began in the last row or before and did not end before the first, of the 8 least entities of a station that have one |
+-- | unanswered | first copy, in a row, of an order at a party whose fate there is unanswered                                               |
+pub record MarksData : Type 0 where
+  pub rows : List Row
+  pub arrows : List Arrow
+  pub outside : List FromOutside
+  pub losses : List Loss
+  pub bars : List Bar
+  pub unanswered : List Point
+
+abbrev pub marks_in : SceneData → MarksData
+marks_in c = record {
+  rows = rows_of c;
+  arrows = arrows_of c;
+  outside = outside_of c;
+  losses = losses_of c;
+  bars = bars_of c;
+  unanswered = unanswered_of c;
+}
+
+abbrev pub scene_of : PlainRecording → List Step → Rows → SceneData
+scene_of r steps rows = record { recording = r; steps = steps; rows = rows }
+
+-- THE MARKS of the rows of steps of a certificate
+abbrev pub marks_of : PlainRecording → List Step → Rows → MarksData
+marks_of r steps rows = marks_in (scene_of r steps rows)
+
+-- the marks that are kept
+abbrev pub marks_kept : Marks → MarksData
+marks_kept m = record {
+  rows = m.rows.items;
+  arrows = m.arrows.items;
+  outside = m.outside.items;
+  losses = m.losses.items;
+  bars = m.bars.items;
+  unanswered = m.unanswered.items;
+}
+
+-- ---- what a function returned
+
+-- the marks; OverLimit says that the rows are too many, or the stretches of some station
+abbrev pub Marked : SceneData → Result Marks ChartFault → Type 0
+Marked c (Ok marks) = marks_kept marks ≡ marks_in c
+Marked c (Err OverLimit) = (MOST_ROWS < row_count c) ⊎ IsOverfull c.recording
+Marked c (Err Memory) = Unit {0}

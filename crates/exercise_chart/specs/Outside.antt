@@ -1,0 +1,40 @@
+-- What came from outside in a picture (profile).
+use Rattle.std.specs.Prelude.{ℕ, ◌+◌, List, Option, Some, None, option_map, option_and_then, slice_get, if◌then◌else◌}
+use Rattle.std.specs.Option.{option_to_list}
+use Rattle.dis_records.specs.Entity.{pair_of}
+use Rattle.siman_pdus.specs.declared.pdu.Pdu.{Pdu}
+use Rattle.exercise_model.specs.Entry.{Entry, Sent, Received, Told}
+use Rattle.exercise_model.specs.History.{event_of, station_of}
+use Rattle.exercise_model.specs.Meaning.{meaning}
+use Rattle.exercise_review.specs.Order.{is_outside}
+use Rattle.exercise_review.specs.Parties.{outsider_at}
+use Rattle.exercise_review.specs.Room.{lists_below}
+use Rattle.exercise_chart.specs.declared.outside.FromOutside.{FromOutside}
+use Rattle.exercise_chart.specs.Point.{place_at}
+use Rattle.exercise_chart.specs.Saying.{saying_of}
+use Rattle.exercise_chart.specs.Scene.{SceneData, point_in}
+use Rattle.exercise_chart.specs.Row.{row_count}
+
+-- what entry i received, which means p, if that came from outside: from its address
+abbrev pub outside_meant : SceneData → ℕ → Pdu → Option FromOutside
+outside_meant c i p =
+    if is_outside c.recording p then Some (record { by = outsider_at (pair_of p.origin); to = point_in c i; said = saying_of p }) else None
+
+unfoldable pub outside_entry : SceneData → ℕ → Entry → Option FromOutside
+outside_entry c i (Sent s stamp b) = None
+outside_entry c i (Received s stamp b) = option_and_then (outside_meant c i) (meaning c.recording.setting.exercise b)
+outside_entry c i (Told s e y) = None
+
+abbrev pub outside_taken : SceneData → ℕ → Option FromOutside
+outside_taken c i = option_and_then (outside_entry c i) (slice_get c.recording.entries i)
+
+-- WHAT CAME FROM OUTSIDE in the row of a step
+unfoldable pub outside_at : SceneData → ℕ → Option FromOutside
+outside_at c step = option_and_then (outside_taken c) (place_at c.steps step)
+
+abbrev pub outside_shown : SceneData → ℕ → List FromOutside
+outside_shown c n = option_to_list (outside_at c (c.rows.first + n))
+
+-- ALL OF IT, by rows
+unfoldable pub outside_of : SceneData → List FromOutside
+outside_of c = lists_below (outside_shown c) (row_count c)

@@ -1,0 +1,66 @@
+-- The rows of a picture: one for each step that is shown (profile).
+use Rattle.std.specs.Prelude.{ℕ, ◌+◌, ◌-◌, List, length, Bool, false, not, ◌==◌, Option, Some, None, option_map, option_and_then, slice_get, if◌then◌else◌}
+use Rattle.std.specs.Option.{option_map_or, option_to_list}
+use Rattle.siman_pdus.specs.declared.pdu.Pdu.{Pdu}
+use Rattle.siman_pdus.specs.Answers.{same_id}
+use Rattle.exercise_model.specs.Entry.{Entry, Sent, Received, Told}
+use Rattle.exercise_model.specs.History.{event_of, station_of}
+use Rattle.exercise_model.specs.Meaning.{meaning}
+use Rattle.exercise_review.specs.Order.{head_of}
+use Rattle.exercise_review.specs.Room.{lists_below}
+use Rattle.exercise_chart.specs.declared.row.Again.{Again}
+use Rattle.exercise_chart.specs.declared.row.Again.TheVariants as agains
+use Rattle.exercise_chart.specs.declared.row.Did.{Did}
+use Rattle.exercise_chart.specs.declared.row.Did.TheVariants as deeds
+use Rattle.exercise_chart.specs.declared.row.Row.{Row}
+use Rattle.exercise_chart.specs.Point.{place_at}
+use Rattle.exercise_chart.specs.Deeds.{first_sent}
+use Rattle.exercise_chart.specs.Saying.{saying_of}
+use Rattle.exercise_chart.specs.Scene.{SceneData}
+
+-- an order that entry i sends stood before: its head is another entry
+abbrev pub is_repeat : SceneData → ℕ → Bool
+is_repeat c i = option_map_or (λ h. not (h == i)) (head_of c.recording i) false
+
+-- SENT AGAIN: the station sent the same bytes before; or, in other bytes, the same order
+abbrev pub again_of : SceneData → ℕ → ℕ → List ℕ → Again
+again_of c i s b =
+    if same_id (first_sent c.recording s b) (Some i) then (if is_repeat c i then agains.Repeated else agains.No) else agains.SameBytes
+
+-- what station s does at entry i, where the bytes mean this
+abbrev pub sent_did : SceneData → ℕ → ℕ → List ℕ → Option Pdu → Did
+sent_did c i s b None = deeds.SentOther (length b)
+sent_did c i s b (Some p) = deeds.Sent (saying_of p) (again_of c i s b)
+
+abbrev pub received_did : List ℕ → Option Pdu → Did
+received_did b None = deeds.ReceivedOther (length b)
+received_did b (Some p) = deeds.Received (saying_of p)
+
+-- WHAT A STATION DID at entry i
+unfoldable pub did_of : SceneData → ℕ → Entry → Did
+did_of c i (Sent s stamp b) = sent_did c i s b (meaning c.recording.setting.exercise b)
+did_of c i (Received s stamp b) = received_did b (meaning c.recording.setting.exercise b)
+did_of c i (Told s e y) = deeds.Told e y
+
+-- the row of a step that takes entry i
+abbrev pub row_of : SceneData → (step i : ℕ) → Entry → Row
+row_of c step i e = record { at = record { entry = i; step = step; station = station_of (event_of e) }; did = did_of c i e }
+
+abbrev pub row_taking : SceneData → (step i : ℕ) → Option Row
+row_taking c step i = option_map (row_of c step i) (slice_get c.recording.entries i)
+
+-- THE ROW OF A STEP, if there is such a step and it takes an entry of the recording
+unfoldable pub row_at : SceneData → ℕ → Option Row
+row_at c step = option_and_then (row_taking c step) (place_at c.steps step)
+
+-- how many steps are shown
+abbrev pub row_count : SceneData → ℕ
+row_count c = c.rows.end - c.rows.first
+
+-- the row of the n-th step that is shown, from 0
+abbrev pub row_shown : SceneData → ℕ → List Row
+row_shown c n = option_to_list (row_at c (c.rows.first + n))
+
+-- THE ROWS, in the order of the steps
+unfoldable pub rows_of : SceneData → List Row
+rows_of c = lists_below (row_shown c) (row_count c)

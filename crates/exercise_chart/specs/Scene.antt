@@ -1,0 +1,24 @@
+-- What is drawn: a recording, the steps of a certificate of it, and which of them are shown (profile).
+use Rattle.std.specs.Prelude.{◌≡◌, ℕ, List, length, Option}
+use Rattle.exercise_model.specs.Recording.{PlainRecording}
+use Rattle.exercise_check.specs.declared.certificate.Step.{Step}
+use Rattle.exercise_review.specs.Entries.{bytes_sent, bytes_got}
+use Rattle.exercise_chart.specs.declared.point.Point.{Point}
+use Rattle.exercise_chart.specs.declared.point.Rows.{Rows}
+use Rattle.exercise_chart.specs.Point.{point_of, AreTaken}
+use Rattle.exercise_chart.specs.Deeds.{Firsts, AreFirsts}
+
+pub record SceneData : Type 0 where
+  pub recording : PlainRecording
+  pub steps : List Step
+  pub rows : Rows
+
+-- where entry i stands
+abbrev pub point_in : SceneData → ℕ → Point
+point_in c i = point_of c.recording c.steps i
+
+-- what is kept beside it: the step of each entry, and where each station sent and received each datagram first
+pub record IsScene (r : PlainRecording) (steps : List Step) (taken : List (Option ℕ)) (sent got : Firsts) : Type 0 where
+  pub stepped : AreTaken steps (length steps) (length r.entries) taken
+  pub sends : AreFirsts (bytes_sent r) (length r.entries) sent
+  pub receipts : AreFirsts (bytes_got r) (length r.entries) got

@@ -1,0 +1,82 @@
+//! The arrows of a picture: receipts, each with its source.
+
+ghost use Rattle.std.specs.Prelude.{◌≡◌, option_map, IfOk};
+ghost use Rattle.exercise_review.specs.Entries.{meant_at};
+ghost use Rattle.exercise_chart.specs.Arrow.{arrow_from, arrow_to, arrows_of};
+ghost use Rattle.exercise_chart.specs.Saying.{saying_of};
+
+use crate::point::Point;
+use crate::saying::{Saying, saying_of};
+use crate::scene::Scene;
+use exercise_model::{EntryView, ExerciseLog};
+use std::alloc::{AllocError, Global};
+
+/// A receipt with its source: the first entry of the sender that has the same bytes. One of them at
+/// least is in a row; the other may lie beyond the edge.
+#[derive(Clone, Copy, PartialEq, Eq)]
+pub struct Arrow {
+    pub from: Point,
+    pub to: Point,
+    /// What was received.
+    pub said: Option<Saying>,
+}
+
+/// What is told of the datagram of an entry, if it means something.
+#[tactic(auto, unfolding(exercise_review::specs::Entries::meant_at))]
+fn said_at<L: ExerciseLog>(scene: &Scene<'_, L>, entry: usize) -> Option<Saying>
+    ensures { result ≡ option_map saying_of (meant_at scene.now.recording entry) }
+{
+    let bytes = match scene.entry_at(entry) {
+        Some(EntryView::Sent { bytes, .. } | EntryView::Received { bytes, .. }) => bytes,
+        Some(EntryView::Told { .. }) | None => return None,
+    };
+    match scene.meant(bytes) {
+        Some(pdu) => Some(saying_of(&pdu)),
+        None => None,
+    }
+}
+
+/// The arrow to an entry from its source, where one of the two is in a row.
+fn arrow_from<L: ExerciseLog>(scene: &Scene<'_, L>, entry: usize, source: usize) -> Option<Arrow>
+    ensures { result ≡ arrow_from scene.now entry source }
+{
+    let from = scene.point(source);
+    let to = scene.point(entry);
+    if scene.rows().has(from.step) || scene.rows().has(to.step) {
+        Some(Arrow {
+            from,
+            to,
+            said: said_at(scene, entry),
+        })
+    } else {
+        None
+    }
+}
+
+/// The arrow to an entry, where it has a source and one of the two is in a row.
+#[tactic(auto, unfolding(crate::specs::Arrow::arrow_to))]
+fn arrow_to<L: ExerciseLog>(scene: &Scene<'_, L>, entry: usize) -> Option<Arrow>
+    ensures { result ≡ arrow_to scene.now entry }
+{
+    match scene.register().source(entry) {
+        Some(source) => arrow_from(scene, entry, source as usize),
+        None => None,
+    }
+}
+
+/// The arrows, by the entries that they lead to.
+#[tactic(auto, unfolding(crate::specs::Arrow::arrows_of), using(crate::proofs::Lists::list_steps))]
+pub(crate) fn arrows_of<L: ExerciseLog>(
+    alloc: Global,
+    scene: &Scene<'_, L>,
+) -> Result<Vec<Arrow>, AllocError>
+    ensures { IfOk result (λ arrows. arrows.items ≡ arrows_of scene.now) }
+{
+    let mut arrows = Vec::new(alloc);
+    for entry in 0..scene.log().entry_count() {
+        if let Some(arrow) = arrow_to(scene, entry) {
+            arrows.push(arrow)?;
+        }
+    }
+    Ok(arrows)
+}

@@ -1,0 +1,178 @@
+//! The bars of a picture: how the entities of the stations lived.
+
+ghost use Rattle.std.specs.Prelude.{◌≡◌, ◌<◌, ◌≤◌, ◌++◌, length, option_map, OnOk};
+ghost use Rattle.exercise_chart.specs.Scene.{point_in};
+ghost use Rattle.exercise_chart.specs.Bar.{began, reaches, is_shown, no_slots, slots_with, bar_of, bars_in, bars_from, station_bars, bars_of, Adds, Makes};
+
+use crate::fault::ChartFault;
+use crate::point::Point;
+use crate::scene::Scene;
+use dis_records::{EntityId, EntityState};
+use exercise_model::ExerciseLog;
+use exercise_review::{ReviewFault, Span, spans_of};
+use std::alloc::{AllocError, Global};
+
+/// Of how many entities of a station the bars are drawn at most.
+pub const MOST_ENTITIES: usize = 8;
+
+/// How many stretches the entities of a station may have at most.
+pub const MOST_STRETCHES: usize = 4_194_304;
+
+/// A stretch of an entity's life, in which it had one state other than Absent.
+#[derive(Clone, Copy, PartialEq, Eq)]
+pub struct Bar {
+    /// The index of the station.
+    pub station: u16,
+    /// Which of the station's entities it is among those that are drawn, from 0, by rising numbers.
+    pub slot: usize,
+    pub entity: EntityId,
+    /// Stopped or Running.
+    pub state: EntityState,
+    /// The change that began it; `None` where it goes on from the start.
+    pub from: Option<Point>,
+    /// The change that ended it; `None` where it goes on to the end.
+    pub to: Option<Point>,
+}
+
+/// How many entities of a station have a slot, and which of them was the last.
+#[derive(Clone, Copy)]
+pub(crate) struct Slots {
+    pub used: usize,
+    pub last: Option<u16>,
+}
+
+/// Whether a stretch began in the last row or before it.
+fn began<L: ExerciseLog>(scene: &Scene<'_, L>, span: &Span) -> bool
+    ensures { result ≡ began scene.now span.now }
+{
+    match span.from {
+        Some(entry) => scene.step_of(entry) < scene.rows().end,
+        None => true,
+    }
+}
+
+/// Whether it did not end before the first row.
+fn reaches<L: ExerciseLog>(scene: &Scene<'_, L>, span: &Span) -> bool
+    ensures { result ≡ reaches scene.now span.now }
+{
+    match span.to {
+        Some(entry) => scene.rows().first <= scene.step_of(entry),
+        None => true,
+    }
+}
+
+/// The slots with one for an entity.
+fn slots_with(slots: Slots, entity: u16) -> Slots
+    requires { slots.used < 4194304 }
+    ensures { result ≡ slots_with slots entity }
+{
+    if slots.last == Some(entity) {
+        slots
+    } else {
+        Slots {
+            used: slots.used + 1,
+            last: Some(entity),
+        }
+    }
+}
+
+/// Where an entry stands, if there is one.
+fn point_if<L: ExerciseLog>(scene: &Scene<'_, L>, entry: Option<usize>) -> Option<Point>
+    ensures { result ≡ option_map (point_in scene.now) entry }
+{
+    match entry {
+        Some(entry) => Some(scene.point(entry)),
+        None => None,
+    }
+}
+
+/// The bar of a stretch of a station.
+fn bar_of<L: ExerciseLog>(scene: &Scene<'_, L>, station: u16, slot: usize, span: &Span) -> Bar
+    ensures { result ≡ bar_of scene.now station slot span.now }
+{
+    Bar {
+        station,
+        slot,
+        entity: span.entity,
+        state: span.state,
+        from: point_if(scene, span.from),
+        to: point_if(scene, span.to),
+    }
+}
+
+/// Adds the bar of a stretch, if one is drawn for its entity.
+fn push_bar<L: ExerciseLog>(
+    bars: &mut Vec<Bar>,
+    scene: &Scene<'_, L>,
+    station: u16,
+    slots: Slots,
+    span: &Span,
+) -> Result<(), AllocError>
+    ensures { OnOk result (bars.new.items ≡ bars.old.items ++ bars_in scene.now station slots span.now) }
+{
+    if slots.used <= MOST_ENTITIES {
+        bars.push(bar_of(scene, station, slots.used.saturating_sub(1), span))?;
+    }
+    Ok(())
+}
+
+/// Adds the bars of stretches of a station, which come by entity.
+#[tactic(auto, unfolding(crate::specs::Bar::bars_from))]
+fn push_bars<L: ExerciseLog>(
+    bars: &mut Vec<Bar>,
+    scene: &Scene<'_, L>,
+    station: u16,
+    spans: &[Span],
+) -> Result<(), AllocError>
+    requires { length spans.now ≤ MOST_STRETCHES }
+    ensures { OnOk result (bars.new.items ≡ bars.old.items ++ bars_from scene.now station no_slots spans.now) }
+{
+    let mut slots = Slots {
+        used: 0,
+        last: None,
+    };
+    for span in spans {
+        if began(scene, span) && reaches(scene, span) {
+            slots = slots_with(slots, span.entity.entity);
+            push_bar(bars, scene, station, slots, span)?;
+        }
+    }
+    Ok(())
+}
+
+/// Adds the bars of a station.
+#[tactic(auto, unfolding(crate::specs::Bar::station_bars))]
+fn push_station<L: ExerciseLog>(
+    alloc: Global,
+    bars: &mut Vec<Bar>,
+    scene: &Scene<'_, L>,
+    station: u16,
+) -> Result<(), ChartFault>
+    requires { station < length scene.now.recording.setting.stations }
+    ensures { Adds scene.now.recording bars.old.items (station_bars scene.now station) result bars.new.items }
+{
+    match spans_of(alloc, scene.register(), station, MOST_STRETCHES) {
+        Ok(spans) => {
+            push_bars(bars, scene, station, &spans)?;
+            Ok(())
+        }
+        Err(ReviewFault::OverLimit) => Err(ChartFault::OverLimit),
+        Err(ReviewFault::Memory) => Err(ChartFault::Memory),
+    }
+}
+
+/// The bars, by station, entity and time; `OverLimit` where the entities of a station have too many
+/// stretches.
+#[tactic(auto, unfolding(crate::specs::Bar::bars_of), using(crate::proofs::Lists::list_steps))]
+pub(crate) fn bars_of<L: ExerciseLog>(
+    alloc: Global,
+    scene: &Scene<'_, L>,
+) -> Result<Vec<Bar>, ChartFault>
+    ensures { Makes scene.now.recording (bars_of scene.now) result }
+{
+    let mut bars = Vec::new(alloc);
+    for station in 0..scene.log().station_count() {
+        push_station(alloc, &mut bars, scene, station as u16)?;
+    }
+    Ok(bars)
+}

@@ -1,0 +1,137 @@
+//! Where each station sent and received each datagram first, kept in tables under the bytes.
+
+ghost use Rattle.std.specs.Prelude.{◌≡◌, ◌<◌, ◌+◌, ◌==◌, ◌&&◌, length, None, IfOk, OnOk, bytes_eq, Some, if◌then◌else◌};
+ghost use Rattle.std.specs.Cmp.Rules.{comparing, hashing};
+ghost use Rattle.indexmap.specs.IndexMap.{get};
+ghost use Rattle.exercise_review.specs.Entries.{bytes_sent, bytes_got};
+ghost use Rattle.exercise_chart.specs.declared.deeds.Deed.{Deed};
+ghost use Rattle.exercise_chart.specs.Deeds.{same_deed, deed_fed, deeds_alike, first_kept, AreFirsts};
+ghost use borrow.Author.Rules.{rules};
+
+use exercise_model::{EntryView, ExerciseLog};
+use indexmap::IndexMap;
+use std::alloc::{AllocError, Global};
+use std::hash::{BuildHasherDefault, DefaultHasher, Hash, Hasher};
+
+/// A station and the bytes of a datagram where they lie, as a key.
+#[derive(Clone, Copy)]
+pub(crate) struct Deed<'a> {
+    pub station: u16,
+    pub bytes: &'a [u8],
+}
+
+impl<'a> PartialEq for Deed<'a> {
+    ghost eq = { λ x y. (x.station == y.station) && bytes_eq x.bytes.now y.bytes.now };
+
+    ghost laws = { Prim.search (comparing, rules) };
+
+    fn eq(&self, other: &Deed<'a>) -> bool {
+        self.station == other.station && self.bytes == other.bytes
+    }
+}
+
+impl<'a> Eq for Deed<'a> {
+    ghost laws = { Prim.search (comparing, rules) };
+}
+
+impl<'a> Hash for Deed<'a> {
+    ghost hash_input = { deed_fed };
+
+    ghost respects_eq = { deeds_alike };
+
+    fn hash<H: Hasher>(&self, state: &mut H) {
+        state.write(self.bytes);
+        state.write_u16(self.station);
+    }
+}
+
+/// The first entry of each datagram at each station. Strangers choose the bytes, so the hasher is one
+/// for which nobody writes down keys that fall together.
+pub(crate) type Firsts<'a> = IndexMap<Deed<'a>, usize, BuildHasherDefault<DefaultHasher>>;
+
+/// None. It takes no memory.
+fn no_deeds<'a>(alloc: Global) -> Firsts<'a>
+    ensures { (k : Deed) → get same_deed result k ≡ None }
+{
+    Firsts::with_hasher(alloc, BuildHasherDefault::default())
+}
+
+/// Keeps an entry, where none before is kept under its key.
+fn keep_first<'a>(firsts: &mut Firsts<'a>, deed: Deed<'a>, entry: usize) -> Result<(), AllocError>
+    ensures { OnOk result ((k : Deed) → get same_deed firsts.new k ≡ (if same_deed deed.entry k then Some (first_kept entry (get same_deed firsts.old deed.entry)) else get same_deed firsts.old k)) }
+{
+    let first = match firsts.get(&deed) {
+        Some(kept) => *kept,
+        None => entry,
+    };
+    firsts.insert(deed, first)?;
+    Ok(())
+}
+
+/// Keeps the next entry, where it sends something.
+fn note_sent<'a, L: ExerciseLog>(
+    firsts: &mut Firsts<'a>,
+    log: &'a L,
+    entry: usize,
+) -> Result<(), AllocError>
+    requires within { entry < length (L.recording log.now).entries }
+    requires tied { AreFirsts (bytes_sent (L.recording log.now)) entry firsts.old }
+    ensures { OnOk result (AreFirsts (bytes_sent (L.recording log.now)) (entry + 1) firsts.new) }
+{
+    match log.entry(entry) {
+        EntryView::Sent { station, bytes, .. } => {
+            keep_first(firsts, Deed { station, bytes }, entry)?;
+            Ok(())
+        }
+        EntryView::Received { .. } => Ok(()),
+        EntryView::Told { .. } => Ok(()),
+    }
+}
+
+/// Keeps the next entry, where it receives something.
+fn note_got<'a, L: ExerciseLog>(
+    firsts: &mut Firsts<'a>,
+    log: &'a L,
+    entry: usize,
+) -> Result<(), AllocError>
+    requires within { entry < length (L.recording log.now).entries }
+    requires tied { AreFirsts (bytes_got (L.recording log.now)) entry firsts.old }
+    ensures { OnOk result (AreFirsts (bytes_got (L.recording log.now)) (entry + 1) firsts.new) }
+{
+    match log.entry(entry) {
+        EntryView::Received { station, bytes, .. } => {
+            keep_first(firsts, Deed { station, bytes }, entry)?;
+            Ok(())
+        }
+        EntryView::Sent { .. } => Ok(()),
+        EntryView::Told { .. } => Ok(()),
+    }
+}
+
+/// Where each station of a log sent each datagram first. What is kept takes memory.
+pub(crate) fn sent_in<'a, L: ExerciseLog>(
+    alloc: Global,
+    log: &'a L,
+) -> Result<Firsts<'a>, AllocError>
+    ensures { IfOk result (AreFirsts (bytes_sent (L.recording log.now)) (length (L.recording log.now).entries)) }
+{
+    let mut firsts = no_deeds(alloc);
+    for entry in 0..log.entry_count() {
+        note_sent(&mut firsts, log, entry)?;
+    }
+    Ok(firsts)
+}
+
+/// Where each station of a log received each datagram first. What is kept takes memory.
+pub(crate) fn got_in<'a, L: ExerciseLog>(
+    alloc: Global,
+    log: &'a L,
+) -> Result<Firsts<'a>, AllocError>
+    ensures { IfOk result (AreFirsts (bytes_got (L.recording log.now)) (length (L.recording log.now).entries)) }
+{
+    let mut firsts = no_deeds(alloc);
+    for entry in 0..log.entry_count() {
+        note_got(&mut firsts, log, entry)?;
+    }
+    Ok(firsts)
+}

@@ -1,0 +1,127 @@
+//! What came from outside in a picture.
+
+ghost use Rattle.std.specs.Prelude.{◌≡◌, not, IfOk, is_some};
+ghost use Rattle.siman_pdus.specs.Reading.{pdu_of};
+ghost use Rattle.exercise_model.specs.Account.{sender_of};
+ghost use Rattle.exercise_model.specs.Held.{shown};
+ghost use Rattle.exercise_model.specs.Setting.{is_recorded};
+ghost use Rattle.exercise_review.specs.Order.{is_outside};
+ghost use Rattle.exercise_chart.specs.Outside.{outside_meant, outside_entry, outside_taken, outside_at, outside_of};
+
+use crate::point::Point;
+use crate::saying::{Saying, saying_of};
+use crate::scene::Scene;
+use exercise_model::{EntryView, ExerciseLog, Form, is_from};
+use exercise_review::Outsider;
+use siman_pdus::PduView;
+use std::alloc::{AllocError, Global};
+
+/// A receipt in a row of what came from an address that nobody recorded.
+#[derive(Clone, Copy, PartialEq, Eq)]
+pub struct FromOutside {
+    pub by: Outsider,
+    pub to: Point,
+    /// What was received.
+    pub said: Saying,
+}
+
+/// Whether a PDU comes from a recorded station.
+fn is_recorded<L: ExerciseLog>(scene: &Scene<'_, L>, pdu: &PduView<'_>) -> bool
+    ensures { result ≡ is_recorded scene.now.recording.setting (pdu_of pdu.now) }
+{
+    let log = scene.log();
+    for station in 0..log.station_count() {
+        if is_from(log.station(station).address(), pdu) {
+            return true;
+        }
+    }
+    false
+}
+
+/// Whether a PDU comes from a station that took part and that nobody recorded.
+#[tactic(auto, unfolding(exercise_review::specs::Order::is_outside))]
+fn is_outside<L: ExerciseLog>(scene: &Scene<'_, L>, pdu: &PduView<'_>) -> bool
+    ensures { result ≡ is_outside scene.now.recording (pdu_of pdu.now) }
+{
+    scene.log().form() == Form::Open && !is_recorded(scene, pdu)
+}
+
+/// What an entry received, if that came from outside.
+fn outside_meant<L: ExerciseLog>(
+    scene: &Scene<'_, L>,
+    entry: usize,
+    pdu: &PduView<'_>,
+) -> Option<FromOutside>
+    ensures { result ≡ outside_meant scene.now entry (pdu_of pdu.now) }
+{
+    if is_outside(scene, pdu) {
+        let by = Outsider {
+            site: pdu.origin.site,
+            application: pdu.origin.application,
+        };
+        Some(FromOutside {
+            by,
+            to: scene.point(entry),
+            said: saying_of(pdu),
+        })
+    } else {
+        None
+    }
+}
+
+/// What came from outside at an entry that is shown.
+#[tactic(auto, unfolding(crate::specs::Outside::outside_entry))]
+fn outside_entry<L: ExerciseLog>(
+    scene: &Scene<'_, L>,
+    entry: usize,
+    view: EntryView<'_>,
+) -> Option<FromOutside>
+    ensures { result ≡ outside_entry scene.now entry (shown view.entry) }
+{
+    let EntryView::Received { bytes, .. } = view else {
+        return None;
+    };
+    match scene.meant(bytes) {
+        Some(pdu) => outside_meant(scene, entry, &pdu),
+        None => None,
+    }
+}
+
+/// What came from outside at an entry.
+fn outside_taken<L: ExerciseLog>(scene: &Scene<'_, L>, entry: usize) -> Option<FromOutside>
+    ensures { result ≡ outside_taken scene.now entry }
+{
+    match scene.entry_at(entry) {
+        Some(view) => outside_entry(scene, entry, view),
+        None => None,
+    }
+}
+
+/// What came from outside in the row of a step.
+#[tactic(auto, unfolding(crate::specs::Outside::outside_at))]
+fn outside_at<L: ExerciseLog>(scene: &Scene<'_, L>, step: usize) -> Option<FromOutside>
+    ensures { result ≡ outside_at scene.now step }
+{
+    match scene.place_at(step) {
+        Some(entry) => outside_taken(scene, entry),
+        None => None,
+    }
+}
+
+/// All of it, by rows.
+#[tactic(auto, unfolding(crate::specs::Outside::outside_of), using(crate::proofs::Lists::list_steps))]
+pub(crate) fn outside_of<L: ExerciseLog>(
+    alloc: Global,
+    scene: &Scene<'_, L>,
+) -> Result<Vec<FromOutside>, AllocError>
+    ensures { IfOk result (λ found. found.items ≡ outside_of scene.now) }
+{
+    let shown = scene.rows();
+    let mut found = Vec::new(alloc);
+    for number in 0..shown.count() {
+        if let Some(receipt) = outside_at(scene, shown.first + number) {
+            found.push(receipt)?;
+        }
+    }
+    Ok(found)
+}

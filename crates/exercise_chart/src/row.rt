@@ -1,0 +1,149 @@
+//! The rows of a picture: one for each step that is shown.
+
+ghost use Rattle.std.specs.Prelude.{◌≡◌, length, option_map, IfOk};
+ghost use Rattle.siman_pdus.specs.Reading.{pdu_of};
+ghost use Rattle.exercise_model.specs.Held.{shown};
+ghost use Rattle.exercise_model.specs.Meaning.{meaning};
+ghost use Rattle.exercise_chart.specs.Row.{is_repeat, again_of, sent_did, received_did, did_of, row_of, row_taking, row_at, rows_of};
+
+use crate::point::Point;
+use crate::saying::{Saying, saying_of};
+use crate::scene::Scene;
+use dis_records::EntityState;
+use exercise_model::{EntryView, ExerciseLog};
+use exercise_review::head_of;
+use std::alloc::{AllocError, Global};
+
+/// Whether a datagram was sent before.
+#[derive(Clone, Copy, PartialEq, Eq)]
+pub enum Again {
+    /// It was not.
+    No,
+    /// The same order stood before, in other bytes.
+    Repeated,
+    /// The station sent the same bytes before.
+    SameBytes,
+}
+
+/// What a station did.
+#[derive(Clone, Copy, PartialEq, Eq)]
+pub enum Did {
+    /// It sent a PDU of the exercise.
+    Sent(Saying, Again),
+    /// It received one.
+    Received(Saying),
+    /// It sent a datagram of so many bytes that means nothing here.
+    SentOther(usize),
+    /// It received one.
+    ReceivedOther(usize),
+    /// It told the state of its entity of this number.
+    Told(u16, EntityState),
+}
+
+/// A row: a step, the entry that it takes, and what the station of that did.
+#[derive(Clone, Copy, PartialEq, Eq)]
+pub struct Row {
+    pub at: Point,
+    pub did: Did,
+}
+
+/// Whether the order that an entry sends stood before.
+fn is_repeat<L: ExerciseLog>(scene: &Scene<'_, L>, entry: usize) -> bool
+    ensures { result ≡ is_repeat scene.now entry }
+{
+    match head_of(scene.register(), entry) {
+        Some(head) => head != entry,
+        None => false,
+    }
+}
+
+/// Whether what a station sends at an entry was sent before.
+fn again_of<L: ExerciseLog>(scene: &Scene<'_, L>, entry: usize, station: u16, bytes: &[u8]) -> Again
+    ensures { result ≡ again_of scene.now entry station bytes.now }
+{
+    if !scene.is_first_sent(entry, station, bytes) {
+        Again::SameBytes
+    } else if is_repeat(scene, entry) {
+        Again::Repeated
+    } else {
+        Again::No
+    }
+}
+
+/// What a station does that sends a datagram.
+fn sent_did<L: ExerciseLog>(scene: &Scene<'_, L>, entry: usize, station: u16, bytes: &[u8]) -> Did
+    ensures { result ≡ sent_did scene.now entry station bytes.now (meaning scene.now.recording.setting.exercise bytes.now) }
+{
+    match scene.meant(bytes) {
+        Some(pdu) => Did::Sent(saying_of(&pdu), again_of(scene, entry, station, bytes)),
+        None => Did::SentOther(bytes.len()),
+    }
+}
+
+/// What a station does that receives one.
+fn received_did<L: ExerciseLog>(scene: &Scene<'_, L>, bytes: &[u8]) -> Did
+    ensures { result ≡ received_did bytes.now (meaning scene.now.recording.setting.exercise bytes.now) }
+{
+    match scene.meant(bytes) {
+        Some(pdu) => Did::Received(saying_of(&pdu)),
+        None => Did::ReceivedOther(bytes.len()),
+    }
+}
+
+/// What a station does at an entry.
+#[tactic(auto, unfolding(crate::specs::Row::did_of))]
+fn did_of<L: ExerciseLog>(scene: &Scene<'_, L>, entry: usize, view: EntryView<'_>) -> Did
+    ensures { result ≡ did_of scene.now entry (shown view.entry) }
+{
+    match view {
+        EntryView::Sent { station, bytes, .. } => sent_did(scene, entry, station, bytes),
+        EntryView::Received { bytes, .. } => received_did(scene, bytes),
+        EntryView::Told { entity, state, .. } => Did::Told(entity, state),
+    }
+}
+
+/// The row of a step that takes an entry, if there is such an entry.
+fn row_taking<L: ExerciseLog>(scene: &Scene<'_, L>, step: usize, entry: usize) -> Option<Row>
+    ensures { result ≡ row_taking scene.now step entry }
+{
+    match scene.entry_at(entry) {
+        Some(view) => Some(Row {
+            at: Point {
+                entry,
+                step,
+                station: view.station(),
+            },
+            did: did_of(scene, entry, view),
+        }),
+        None => None,
+    }
+}
+
+/// The row of a step, if there is such a step and it takes an entry.
+#[tactic(auto, unfolding(crate::specs::Row::row_at))]
+pub(crate) fn row_at<L: ExerciseLog>(scene: &Scene<'_, L>, step: usize) -> Option<Row>
+    ensures { result ≡ row_at scene.now step }
+{
+    match scene.place_at(step) {
+        Some(entry) => row_taking(scene, step, entry),
+        None => None,
+    }
+}
+
+/// The rows, in the order of the steps.
+#[tactic(auto, unfolding(crate::specs::Row::rows_of), using(crate::proofs::Lists::list_steps))]
+pub(crate) fn rows_of<L: ExerciseLog>(
+    alloc: Global,
+    scene: &Scene<'_, L>,
+) -> Result<Vec<Row>, AllocError>
+    ensures { IfOk result (λ rows. rows.items ≡ rows_of scene.now) }
+{
+    let shown = scene.rows();
+    let mut rows = Vec::new(alloc);
+    for number in 0..shown.count() {
+        if let Some(row) = row_at(scene, shown.first + number) {
+            rows.push(row)?;
+        }
+    }
+    Ok(rows)
+}

@@ -1,0 +1,179 @@
+//! What is drawn, with what is looked up in it.
+
+ghost use Rattle.std.specs.Prelude.{◌≡◌, ◌<◌, length, true, Some, IfOk, IfSome, is_some, option_map, slice_get};
+ghost use Rattle.siman_pdus.specs.Answers.{same_id};
+ghost use Rattle.siman_pdus.specs.Reading.{pdu_of};
+ghost use Rattle.exercise_model.specs.Entry.{is_entry};
+ghost use Rattle.exercise_model.specs.Held.{shown};
+ghost use Rattle.exercise_model.specs.Meaning.{meaning};
+ghost use Rattle.exercise_chart.specs.Point.{first_step, step_of, station_of_entry, place_at};
+ghost use Rattle.exercise_chart.specs.Deeds.{first_sent, first_got};
+ghost use Rattle.exercise_chart.specs.Scene.{SceneData, point_in};
+
+use crate::deeds::{Deed, Firsts, got_in, sent_in};
+use crate::point::{Point, Rows};
+use crate::taken::steps_taken;
+use exercise_check::Step;
+use exercise_model::{EntryView, ExerciseLog, meaning_view};
+use exercise_review::Register;
+use siman_pdus::PduView;
+use std::alloc::{AllocError, Global};
+use std::marker::Model;
+
+/// A recording, the steps of a certificate of it and which of them are shown, with what is looked up
+/// in them. Contracts see these three; what is kept beside them is nobody else's business.
+#[derive(Drop)]
+pub(crate) struct Scene<'a, L: ExerciseLog> {
+    register: &'a Register<'a, L>,
+    steps: &'a [Step],
+    rows: Rows,
+    taken: Vec<Option<usize>>,
+    sent: Firsts<'a>,
+    got: Firsts<'a>,
+}
+
+impl<'a, L: ExerciseLog> Model for Scene<'a, L> {
+    ghost use Rattle.exercise_chart.specs.Scene.{SceneData, IsScene};
+
+    ghost Value = { SceneData };
+
+    ghost view = { λ x. record { recording = x.register.now; steps = x.steps.now; rows = x.rows } };
+
+    ghost invariant = { λ x. IsScene x.register.now x.steps.now x.taken.items x.sent x.got };
+}
+
+impl<'a, L: ExerciseLog> Scene<'a, L> {
+    /// The scene of these. What is kept beside them takes memory.
+    pub(crate) fn of(
+        alloc: Global,
+        register: &'a Register<'a, L>,
+        steps: &'a [Step],
+        rows: Rows,
+    ) -> Result<Scene<'a, L>, AllocError>
+        ensures { let drawn : SceneData = record { recording = register.now; steps = steps.now; rows = rows } in IfOk result (λ scene. scene ≡ drawn) }
+    {
+        let log = register.log();
+        let taken = steps_taken(alloc, steps, log.entry_count())?;
+        let sent = sent_in(alloc, log)?;
+        let got = got_in(alloc, log)?;
+        Ok(Scene {
+            register,
+            steps,
+            rows,
+            taken,
+            sent,
+            got,
+        })
+    }
+
+    /// The recording, with its entries looked up.
+    pub(crate) fn register(&self) -> &'a Register<'a, L>
+        ensures { result.now ≡ self.now.recording }
+    {
+        self.register
+    }
+
+    /// The log.
+    pub(crate) fn log(&self) -> &'a L
+        ensures { L.recording result.now ≡ self.now.recording }
+    {
+        self.register.log()
+    }
+
+    /// Which steps are shown.
+    pub(crate) fn rows(&self) -> Rows
+        ensures { result ≡ self.now.rows }
+    {
+        self.rows
+    }
+
+    /// The entry that a step takes, if there is such a step.
+    pub(crate) fn place_at(&self, step: usize) -> Option<usize>
+        ensures { result ≡ place_at self.now.steps step }
+    {
+        match self.steps.get(step) {
+            Some(step) => Some(step.place as usize),
+            None => None,
+        }
+    }
+
+    /// The entry of a number, if there is one.
+    pub(crate) fn entry_at(&self, entry: usize) -> Option<EntryView<'a>>
+        ensures entry { option_map shown result ≡ slice_get self.now.recording.entries entry }
+        ensures fits { let stations = length self.now.recording.setting.stations in IfSome result (λ view. is_entry stations (shown view) ≡ true) }
+    {
+        let log = self.log();
+        if entry < log.entry_count() {
+            Some(log.entry(entry))
+        } else {
+            None
+        }
+    }
+
+    /// What a datagram means in the exercise.
+    pub(crate) fn meant<'b>(&self, bytes: &'b [u8]) -> Option<PduView<'b>>
+        ensures { option_map pdu_of result ≡ meaning self.now.recording.setting.exercise bytes.now }
+    {
+        meaning_view(self.log().exercise(), bytes)
+    }
+
+    /// The first step that takes an entry, if one does.
+    #[tactic(auto, unfolding(crate::specs::Point::first_step))]
+    fn first_step(&self, entry: usize) -> Option<usize>
+        ensures { result ≡ first_step self.now.recording self.now.steps entry }
+    {
+        if entry < self.log().entry_count() {
+            self.taken[entry]
+        } else {
+            None
+        }
+    }
+
+    /// The step of an entry: the first that takes it; past the last step where none does.
+    pub(crate) fn step_of(&self, entry: usize) -> usize
+        ensures { result ≡ step_of self.now.recording self.now.steps entry }
+    {
+        match self.first_step(entry) {
+            Some(step) => step,
+            None => self.steps.len(),
+        }
+    }
+
+    /// The station of an entry.
+    fn station_of(&self, entry: usize) -> u16
+        ensures { result ≡ station_of_entry self.now.recording entry }
+    {
+        match self.entry_at(entry) {
+            Some(view) => view.station(),
+            None => 0,
+        }
+    }
+
+    /// Where an entry stands.
+    pub(crate) fn point(&self, entry: usize) -> Point
+        ensures { result ≡ point_in self.now entry }
+    {
+        Point {
+            entry,
+            step: self.step_of(entry),
+            station: self.station_of(entry),
+        }
+    }
+
+    /// Whether an entry is the first at which a station sends these bytes.
+    pub(crate) fn is_first_sent(&self, entry: usize, station: u16, bytes: &[u8]) -> bool
+        ensures { result ≡ same_id (first_sent self.now.recording station bytes.now) (Some entry) }
+    {
+        match self.sent.get(&Deed { station, bytes }) {
+            Some(first) => *first == entry,
+            None => false,
+        }
+    }
+
+    /// Whether a station receives these bytes.
+    pub(crate) fn has_got(&self, station: u16, bytes: &[u8]) -> bool
+        ensures { result ≡ is_some (first_got self.now.recording station bytes.now) }
+    {
+        self.got.get(&Deed { station, bytes }).is_some()
+    }
+}

@@ -1,0 +1,106 @@
+"""The marks of a picture: what they are by the page Marks of exercise_chart, and which of them stand in a text in SVG."""
+from xml.etree import ElementTree
+
+from .datagrams import identifier_text
+from .files import RECEIVED, SENT, STATES, TOLD
+from .logs import Story
+from .reviews import told_at
+
+MOST_ENTITIES = 8
+KEYS = {
+    "row": ["step", "entry"], "sent": ["entry"], "other": ["entry"], "told": ["entry"], "arrow": ["from", "to"],
+    "outside": ["by", "to"], "lost": ["from", "at"], "bar": ["entity", "state", "from", "to"], "unanswered": ["entry"],
+}  # fmt: skip
+
+
+def marks_of(recording, places, first, end):
+    """The marks of the steps from the first on and before the end, where step k takes entry places[k]."""
+    return sorted(text_of(mark) for mark in Picture(recording, places, range(first, end)).marks())
+
+
+def marks_in(svg):
+    """The marks that stand in a picture."""
+    marks = (element for element in ElementTree.fromstring(svg).iter() if element.get("class"))
+    return sorted(
+        text_of((mark.get("class"), *(mark.get(f"data-{key}") for key in KEYS[mark.get("class")]))) for mark in marks
+    )
+
+
+def text_of(mark):
+    """A mark as a line."""
+    name, *facts = mark
+    told = ("-" if fact is None else str(fact) for fact in facts)
+    return " ".join([name, *(f"{key}={fact}" for key, fact in zip(KEYS[name], told, strict=True))])
+
+
+class Picture:
+    """A recording, the entries in the order of a certificate, and which of its steps are shown."""
+
+    def __init__(self, recording, places, rows):
+        self.story, self.places, self.rows = Story(recording), places, rows
+        self.steps = {}
+        for step, place in enumerate(places):
+            self.steps.setdefault(place, step)
+
+    def is_shown(self, entry):
+        return self.steps.get(entry, len(self.places)) in self.rows
+
+    def address(self, station):
+        return "{}:{}".format(*self.story.address(station))
+
+    def marks(self):
+        for step in self.rows:
+            yield "row", step, self.places[step]
+            yield from self.marks_at(self.places[step])
+        for entry, source in enumerate(self.story.sources):
+            if source is not None and (self.is_shown(entry) or self.is_shown(source)):
+                yield "arrow", source, entry
+        for station in range(len(self.story.stations)):
+            yield from self.bars(station)
+        yield from self.unanswered()
+
+    def marks_at(self, index):
+        """What stands in the row of an entry."""
+        entry, pdu = self.story.entries[index], self.story.meanings[index]
+        if entry.kind == TOLD or not pdu:
+            yield ("told" if entry.kind == TOLD else "other"), index
+        elif entry.kind == SENT:
+            yield "sent", index
+            yield from (("lost", index, self.address(station)) for station in self.lost_at(index, pdu))
+        elif self.story.is_outside(pdu):
+            yield "outside", "{}:{}".format(*pdu.origin[:2]), index
+
+    def lost_at(self, index, pdu):
+        """The other stations that a datagram addresses and that never received it, from the first that sends it."""
+        entry = self.story.entries[index]
+        if index != self.copies(entry.datagram, SENT, entry.station)[0]:
+            return
+        for station in self.story.addressed(pdu.target):
+            if station != entry.station and not self.copies(entry.datagram, RECEIVED, station):
+                yield station
+
+    def copies(self, datagram, kind, station):
+        """The entries of a station and of a kind that have a datagram."""
+        entries = ((at, self.story.entries[at]) for at in self.story.own[station])
+        return [at for at, entry in entries if entry.kind == kind and entry.datagram == datagram]
+
+    def bars(self, station):
+        """The stretches that are shown of the least entities that have one."""
+        shown = [life for life in self.story.lives(station) if self.reaches(life)]
+        least = sorted({entity for entity, *_ in shown})[:MOST_ENTITIES]
+        for entity, state, since, until in shown:
+            if entity in least:
+                ends = (change and change.entry for change in (since, until))
+                yield "bar", identifier_text((*self.story.address(station), entity)), STATES[state], *ends
+
+    def reaches(self, life):
+        _, _, since, until = life
+        begins = since is None or self.steps.get(since.entry, len(self.places)) < self.rows.stop
+        return begins and (until is None or self.steps.get(until.entry, len(self.places)) >= self.rows.start)
+
+    def unanswered(self):
+        for order in self.story.orders:
+            for address in self.story.parties(order):
+                told = told_at(self.story, order, address)
+                if told["fate"] == "unanswered" and self.is_shown(told["got"]):
+                    yield "unanswered", told["got"]

@@ -8,9 +8,14 @@ use Rattle.exercise_conflict.specs.declared.clash.Clash.TheVariants as clashes
 use Rattle.exercise_conflict.specs.declared.fault.Fault.{Fault}
 use Rattle.exercise_conflict.specs.declared.field.Field.{Field}
 use Rattle.exercise_conflict.specs.declared.lacks.Lack.{Lack}
+use Rattle.exercise_conflict.specs.declared.repair.Repair.{Repair}
+use Rattle.exercise_conflict.specs.declared.step_clash.StepClash.{StepClash}
+use Rattle.exercise_conflict.specs.declared.step_clash.StepClash.TheVariants as steps
 use Rattle.exercise_conflict.specs.declared.waits.Wait.{Wait}
+use Rattle.exercise_audit.specs.declared.blocks.Block.{Block}
+use Rattle.siman_conflicts.specs.Blocked.{blocked_line, block_line}
 use Rattle.siman_texts.specs.Keys.{keys_under, has_no_key_twice}
-use Rattle.siman_conflicts.specs.Lines.{entry_value, state_value, difference_value, rule_line, clash_line, wait_line, final_line, also_line, missing_line, fault_line, cycle_line}
+use Rattle.siman_conflicts.specs.Lines.{entry_value, state_value, difference_value, rule_line, clash_line, step_clash_line, event_line, repair_line, wait_line, final_line, also_line, missing_line, fault_line, cycle_line}
 
 -- a value that may not be there has one key
 entry_key : (key : List ℕ) (o : Option ℕ) → keys_under key (entry_value o) ≡ key ∷ []
@@ -58,3 +63,33 @@ fault_apart fault = refl
 
 pub cycle_apart : (r : PlainRecording) (stations : List ℕ) → has_no_key_twice (cycle_line r stations) ≡ true
 cycle_apart r stations = refl
+
+pub repair_apart : (repair : Repair) → has_no_key_twice (repair_line repair) ≡ true
+repair_apart repair = refl
+
+pub blocked_apart : (count : ℕ) → has_no_key_twice (blocked_line count) ≡ true
+blocked_apart count = refl
+
+pub block_apart : (r : PlainRecording) (block : Block) → has_no_key_twice (block_line r block) ≡ true
+block_apart r block = refl
+
+event_apart : (r : PlainRecording) (entry : ℕ) (clash : Clash) (step : Option ℕ) → has_no_key_twice (event_line r entry clash step) ≡ true
+event_apart r entry (clashes.WrongSender from s) step = refl
+event_apart r entry (clashes.ReusedIdentifier earlier differs) step = refl
+event_apart r entry (clashes.NoRequest later overheard sent) step =
+    rw (entry_key (codes "later") later, entry_key (codes "overheard") overheard, entry_key (codes "sent") sent) refl
+event_apart r entry (clashes.WrongAnswer earlier differs) step = refl
+event_apart r entry (clashes.ChangedAnswer earlier) step = refl
+event_apart r entry (clashes.Impossible earlier s n state change) step =
+    rw (state_key (codes "state") state, entry_key (codes "change") change) refl
+event_apart r entry (clashes.Stranger from) step = refl
+event_apart r entry (clashes.NeverSent from sent near differs) step =
+    rw (entry_key (codes "sent") sent, entry_key (codes "near") near, difference_key (codes "differs") differs, entry_key (codes "step") step) refl
+event_apart r entry (clashes.WrongState s n state change) step = rw (entry_key (codes "change") change) refl
+
+pub step_apart : (r : PlainRecording) (clash : StepClash) → has_no_key_twice (step_clash_line r clash) ≡ true
+step_apart r (steps.CountDiffers count records missing twice) = rw (entry_key (codes "missing") missing, entry_key (codes "twice") twice) refl
+step_apart r (steps.NoSuchRecord place records) = refl
+step_apart r (steps.OutOfOrder place taken next) = rw (entry_key (codes "taken") taken, entry_key (codes "next") next) refl
+step_apart r (steps.BadLink place link right) = rw (entry_key (codes "link") link, entry_key (codes "right") right) refl
+step_apart r (steps.Event entry clash step) = event_apart r entry clash step

@@ -1,1 +1,4 @@
 mod Keyed
+mod Joined
+mod Standing
+pub mod Offered

@@ -1,2 +1,4 @@
 pub mod Rule
 pub mod Lines
+pub mod Blocked
+pub mod Told

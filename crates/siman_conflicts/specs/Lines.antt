@@ -1,5 +1,5 @@
 -- The lines that tell what contradicts what.
-use Rattle.std.specs.Prelude.{ℕ, ◌<◌, ⊤, List, [], ◌∷◌, ◌++◌, map, length, codes, Option, Some, None}
+use Rattle.std.specs.Prelude.{ℕ, ◌<◌, ⊤, Bool, true, false, List, [], ◌∷◌, ◌++◌, map, length, codes, Option, Some, None}
 use Rattle.dis_records.specs.Address.{Pair}
 use Rattle.dis_records.specs.Entity.{pair_of}
 use Rattle.dis_records.specs.Texts.{entity_text, state_text}
@@ -17,8 +17,14 @@ use Rattle.exercise_conflict.specs.declared.fault.Fault.{Fault}
 use Rattle.exercise_conflict.specs.declared.fault.Fault.TheVariants as faults
 use Rattle.exercise_conflict.specs.declared.field.Field.{Field as Difference}
 use Rattle.exercise_conflict.specs.declared.lacks.Lack.{Lack}
+use Rattle.exercise_conflict.specs.declared.repair.Repair.{Repair}
+use Rattle.exercise_conflict.specs.declared.step_clash.StepClash.{StepClash}
+use Rattle.exercise_conflict.specs.declared.step_clash.StepClash.TheVariants as steps
 use Rattle.exercise_conflict.specs.declared.waits.Wait.{Wait}
+use Rattle.exercise_conflict.specs.declared.way.Way.{Way}
+use Rattle.exercise_conflict.specs.declared.way.Way.TheVariants as ways
 use Rattle.exercise_conflict.specs.FieldText.{field_text}
+use Rattle.exercise_conflict.specs.RepairText.{enough_text}
 use Rattle.siman_texts.specs.Line.{Value, Number, Word, Phrase, Ring, Missing, Field, Bare, Keyed, Line, named_line}
 use Rattle.siman_texts.specs.Spelled.{address_text}
 use Rattle.siman_conflicts.specs.Rule.{rule_text}
@@ -112,6 +118,61 @@ IsOfStations r clash = ⊤
 abbrev pub clash_line : PlainRecording → ℕ → Clash → Line
 clash_line r entry clash = named_line (codes "clash") (Bare (codes "entry") (Number entry) ∷ clash_fields r clash)
 
+-- steps=N records=N
+abbrev pub number_fields : ℕ → ℕ → List Field
+number_fields count records = Keyed (codes "steps") (Number count) ∷ Keyed (codes "records") (Number records) ∷ []
+
+-- missing=ENTRY twice=ENTRY
+abbrev pub gap_fields : Option ℕ → Option ℕ → List Field
+gap_fields missing twice = Keyed (codes "missing") (entry_value missing) ∷ Keyed (codes "twice") (entry_value twice) ∷ []
+
+-- steps=N records=N missing=ENTRY twice=ENTRY
+abbrev pub count_fields : ℕ → ℕ → Option ℕ → Option ℕ → List Field
+count_fields count records missing twice = number_fields count records ++ gap_fields missing twice
+
+-- place=N records=N
+abbrev pub place_fields : ℕ → ℕ → List Field
+place_fields place records = Keyed (codes "place") (Number place) ∷ Keyed (codes "records") (Number records) ∷ []
+
+-- place=ENTRY taken=STEP next=ENTRY
+abbrev pub order_fields : ℕ → Option ℕ → Option ℕ → List Field
+order_fields place taken next =
+    Keyed (codes "place") (Number place) ∷ Keyed (codes "taken") (entry_value taken) ∷ Keyed (codes "next") (entry_value next) ∷ []
+
+-- link=N right=ENTRY
+abbrev pub link_fields : Option ℕ → Option ℕ → List Field
+link_fields link right = Keyed (codes "link") (entry_value link) ∷ Keyed (codes "right") (entry_value right) ∷ []
+
+-- step=STEP, of what was sent too late or never
+abbrev pub step_fields : Clash → Option ℕ → List Field
+step_fields (clashes.NeverSent from sent near differs) step = Keyed (codes "step") (entry_value step) ∷ []
+step_fields clash step = []
+
+-- clash - .., where no entry was judged
+abbrev pub step_line : List Field → Line
+step_line fields = named_line (codes "clash") (Bare (codes "entry") Missing ∷ fields)
+
+-- clash ENTRY link=N right=ENTRY
+abbrev pub link_line : ℕ → Option ℕ → Option ℕ → Line
+link_line place link right = named_line (codes "clash") (Bare (codes "entry") (Number place) ∷ link_fields link right)
+
+-- clash ENTRY .., of the event of a step
+abbrev pub event_line : PlainRecording → ℕ → Clash → Option ℕ → Line
+event_line r entry clash step = named_line (codes "clash") (Bare (codes "entry") (Number entry) ∷ (clash_fields r clash ++ step_fields clash step))
+
+-- clash ENTRY .. or clash - .., of a step of a certificate
+abbrev pub step_clash_line : PlainRecording → StepClash → Line
+step_clash_line r (steps.CountDiffers count records missing twice) = step_line (count_fields count records missing twice)
+step_clash_line r (steps.NoSuchRecord place records) = step_line (place_fields place records)
+step_clash_line r (steps.OutOfOrder place taken next) = step_line (order_fields place taken next)
+step_clash_line r (steps.BadLink place link right) = link_line place link right
+step_clash_line r (steps.Event entry clash step) = event_line r entry clash step
+
+-- the station of which it speaks is one of the recording
+abbrev pub IsOfStepStations : PlainRecording → StepClash → Type 0
+IsOfStepStations r (steps.Event entry clash step) = IsOfStations r clash
+IsOfStepStations r clash = ⊤
+
 -- waits ENTRY at=ADDRESS sent=ENTRY on=ADDRESS next=ENTRY
 abbrev pub wait_line : PlainRecording → Wait → Line
 wait_line r w =
@@ -148,3 +209,22 @@ addresses_of r stations = map (λ s. (station_at r s).address) stations
 -- cycle ADDRESS ADDRESS ..
 abbrev pub cycle_line : PlainRecording → List ℕ → Line
 cycle_line r stations = named_line (codes "cycle") (Bare (codes "ring") (Ring (addresses_of r stations)) ∷ [])
+
+-- repair sends=N enough=WORD
+abbrev pub repair_line : Repair → Line
+repair_line repair = named_line (codes "repair") (Keyed (codes "sends") (Number repair.sends) ∷ Keyed (codes "enough") (Word (enough_text repair.enough)) ∷ [])
+
+-- right after a clash that nothing excuses: final ENTRY
+abbrev pub final_lines : ℕ → Bool → List Line
+final_lines entry true = final_line entry ∷ []
+final_lines entry false = []
+
+-- what a blocked station waits for; or what its entry contradicts
+abbrev pub way_lines : PlainRecording → Way → List Line
+way_lines r (ways.Waits w) = wait_line r w ∷ []
+way_lines r (ways.Clash entry clash final) = clash_line r entry clash ∷ final_lines entry final
+
+-- the stations of which it speaks are some of the recording
+abbrev pub IsOfWayStations : PlainRecording → Way → Type 0
+IsOfWayStations r (ways.Waits w) = (w.station < length r.setting.stations) × (w.on < length r.setting.stations)
+IsOfWayStations r (ways.Clash entry clash final) = IsOfStations r clash

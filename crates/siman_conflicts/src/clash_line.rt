@@ -185,7 +185,7 @@ fn put_send(
 }
 
 /// The other side, by its cause.
-fn put_clash_fields<L: ExerciseLog>(
+pub(crate) fn put_clash_fields<L: ExerciseLog>(
     alloc: Global,
     text: &mut String,
     spelling: Spelling,

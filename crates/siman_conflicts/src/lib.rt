@@ -6,12 +6,20 @@
 //! and `Lines`.
 #![tactic(auto)]
 
+mod blocked;
 mod clash_line;
 mod laws;
 mod lines;
+mod named;
 mod rule;
+mod step_clash_line;
+mod told;
 
+pub use blocked::{put_blocked, put_explained};
 pub use clash_line::put_clash;
 pub use laws::conflict_keys_come_once;
-pub use lines::{put_also, put_cycle, put_fault, put_final, put_missing, put_wait};
+pub use lines::{put_also, put_cycle, put_fault, put_final, put_missing, put_repair, put_wait};
+pub use named::{conflict_entries, refusal_entries};
 pub use rule::put_rule;
+pub use step_clash_line::put_step_clash;
+pub use told::{put_conflict, put_refusal, put_yes};

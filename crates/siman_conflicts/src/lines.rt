@@ -3,10 +3,10 @@
 ghost use Rattle.std.specs.Prelude.{◌≡◌, ◌<◌, ◌++◌, length, IfOk, OnOk, All, string_bytes};
 ghost use Rattle.siman_texts.specs.Lent.{value_of};
 ghost use Rattle.siman_texts.specs.Spelled.{line_spelled};
-ghost use Rattle.siman_conflicts.specs.Lines.{entry_value, final_line, wait_line, also_line, missing_line, fault_text, fault_line, addresses_of, cycle_line};
+ghost use Rattle.siman_conflicts.specs.Lines.{entry_value, final_line, wait_line, also_line, missing_line, fault_text, fault_line, addresses_of, cycle_line, repair_line};
 
 use dis_records::Address;
-use exercise_conflict::{Fault, Lack, Wait};
+use exercise_conflict::{Fault, Lack, Repair, Wait};
 use exercise_model::{Cause, ExerciseLog};
 use siman_texts::{Field, Line, Spelling, Value, put_line};
 use std::alloc::{AllocError, Global};
@@ -143,4 +143,15 @@ pub fn put_cycle<L: ExerciseLog>(
     let addresses = addresses_of(alloc, log, stations)?;
     let fields = [Field::Bare("ring", Value::Ring(&addresses))];
     put_line(text, spelling, &Line::named("cycle", &fields))
+}
+
+/// `repair sends=N enough=WORD`.
+pub fn put_repair(text: &mut String, spelling: Spelling, repair: Repair) -> Result<(), AllocError>
+    ensures { OnOk result (string_bytes text.new ≡ string_bytes text.old ++ line_spelled spelling (repair_line repair)) }
+{
+    let fields = [
+        Field::Keyed("sends", Value::Number(repair.sends as u64)),
+        Field::Keyed("enough", Value::Word(repair.enough.name())),
+    ];
+    put_line(text, spelling, &Line::named("repair", &fields))
 }

@@ -1,4 +1,4 @@
-use Rattle.siman_conflicts.proofs.Keyed.{rule_apart, clash_apart, wait_apart, final_apart, also_apart, missing_apart, fault_apart, cycle_apart}
+use Rattle.siman_conflicts.proofs.Keyed.{rule_apart, clash_apart, wait_apart, final_apart, also_apart, missing_apart, fault_apart, cycle_apart, repair_apart, blocked_apart, block_apart, step_apart}
 use Rattle.siman_conflicts.proofs.laws.conflict_keys_come_once.Goals as goal
 
 pub returns-clause-rules : goal.returns-clause-rules
@@ -24,3 +24,15 @@ returns-clause-faults c = fault_apart
 
 pub returns-clause-cycles : goal.returns-clause-cycles
 returns-clause-cycles c = cycle_apart
+
+pub returns-clause-steps : goal.returns-clause-steps
+returns-clause-steps c = step_apart
+
+pub returns-clause-blocked : goal.returns-clause-blocked
+returns-clause-blocked c = blocked_apart
+
+pub returns-clause-blocks : goal.returns-clause-blocks
+returns-clause-blocks c = block_apart
+
+pub returns-clause-repairs : goal.returns-clause-repairs
+returns-clause-repairs c = repair_apart

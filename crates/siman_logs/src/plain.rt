@@ -1,0 +1,65 @@
+//! Pieces of a line of text, each behind what stands before it.
+
+ghost use Rattle.std.specs.Prelude.{◌≡◌, ◌++◌, OnOk, codes, decimal, string_bytes};
+ghost use Rattle.dis_records.specs.Texts.{entity_text};
+ghost use Rattle.siman_texts.specs.Spelled.{address_text};
+
+use crate::time::put_digit;
+use dis_records::{Address, EntityId};
+use itoa::Buffer;
+use std::alloc::AllocError;
+
+/// A number of any length.
+fn put_digits(text: &mut String, number: u64) -> Result<(), AllocError>
+    ensures { OnOk result (string_bytes text.new ≡ string_bytes text.old ++ decimal number) }
+{
+    let mut digits = Buffer::new();
+    text.push_str(digits.format(number))
+}
+
+/// A number, which mostly has one digit.
+#[inline(always)]
+pub(crate) fn put_number(text: &mut String, number: u64) -> Result<(), AllocError>
+    ensures { OnOk result (string_bytes text.new ≡ string_bytes text.old ++ decimal number) }
+{
+    if number < 10 {
+        put_digit(text, number)
+    } else {
+        put_digits(text, number)
+    }
+}
+
+/// A number behind some text.
+#[inline(always)]
+pub(crate) fn put_number_behind(
+    text: &mut String,
+    before: &str,
+    number: u64,
+) -> Result<(), AllocError>
+    ensures { OnOk result (string_bytes text.new ≡ string_bytes text.old ++ (before.now ++ decimal number)) }
+{
+    text.push_str(before)?;
+    put_number(text, number)
+}
+
+/// `SITE:APPLICATION` behind a blank.
+pub(crate) fn put_address_behind(text: &mut String, address: Address) -> Result<(), AllocError>
+    ensures { OnOk result (string_bytes text.new ≡ string_bytes text.old ++ (codes " " ++ address_text address)) }
+{
+    put_number_behind(text, " ", u64::from(address.site()))?;
+    put_number_behind(text, ":", u64::from(address.application()))
+}
+
+/// `SITE:APPLICATION:ENTITY` behind some text.
+#[inline(always)]
+pub(crate) fn put_entity_behind(
+    text: &mut String,
+    before: &str,
+    id: &EntityId,
+) -> Result<(), AllocError>
+    ensures { OnOk result (string_bytes text.new ≡ string_bytes text.old ++ (before.now ++ entity_text id.now)) }
+{
+    put_number_behind(text, before, u64::from(id.site))?;
+    put_number_behind(text, ":", u64::from(id.application))?;
+    put_number_behind(text, ":", u64::from(id.entity))
+}

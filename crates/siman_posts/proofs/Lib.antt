@@ -7,3 +7,4 @@ pub mod Taking
 pub mod Leaving
 pub mod Single
 pub mod Explaining
+pub mod Offered

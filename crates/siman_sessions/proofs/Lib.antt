@@ -1,0 +1,6 @@
+pub mod LineReadings
+pub mod Lines
+pub mod Alone
+pub mod Played
+pub mod Ended
+pub mod Leavings

@@ -1,0 +1,5 @@
+-- another station is named
+use Rattle.siman_sessions.proofs.came.tell_why.Goals as goal
+
+pub returns-in-UnknownStation : goal.returns-in-UnknownStation
+returns-in-UnknownStation g c = rw c.in-UnknownStation.is c.put_at_line-in-UnknownStation.ensures

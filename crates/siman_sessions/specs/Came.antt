@@ -1,0 +1,95 @@
+-- What came of a line of text in a session, and how it is told (profile).
+use Rattle.std.specs.Prelude.{ℕ, Bool, true, false, ◌||◌, List, [], ◌++◌, codes, decimal, Option, Some, Result, Ok, Err, if◌then◌else◌}
+use Rattle.siman_manager.specs.declared.fault.OrderFault.TheVariants as orders
+use Rattle.siman_stations.specs.declared.station_fault.StationFault.{StationFault}
+use Rattle.siman_stations.specs.declared.station_fault.StationFault.TheVariants as stations
+use Rattle.siman_reports.specs.Records.{line_end}
+use Rattle.siman_posts.specs.declared.obeying.Undone.{Undone}
+use Rattle.siman_posts.specs.declared.obeying.Undone.TheVariants as undone
+use Rattle.siman_posts.specs.declared.printing.PrintFault.{PrintFault}
+use Rattle.siman_posts.specs.declared.printing.PrintFault.TheVariants as prints
+use Rattle.siman_posts.specs.Posts.{is_undone, is_unremembered, is_over}
+use Rattle.siman_sessions.specs.declared.came.Came.{Came}
+
+-- What failed.
+
+abbrev pub is_line : Result (Unit {0}) Undone → Bool
+is_line (Err undone.Line) = true
+is_line other = false
+
+abbrev pub is_memory : Option PrintFault → Bool
+is_memory (Some prints.Memory) = true
+is_memory other = false
+
+abbrev pub is_write : Option PrintFault → Bool
+is_write (Some prints.Write) = true
+is_write other = false
+
+-- a send or a receive failed
+abbrev pub is_lost : Came → Bool
+is_lost came = is_line came.line.done || came.line.trouble.line
+
+-- memory ran out
+abbrev pub wants_memory : Came → Bool
+wants_memory came = (is_unremembered came.line.done || came.line.trouble.memory) || is_memory came.silenced
+
+-- an entry was not recorded, or not printed since a write failed
+abbrev pub is_unwritten : Came → Bool
+is_unwritten came = is_over came.line || is_write came.silenced
+
+-- the exit status that it asks for
+abbrev pub status_of : Came → ℕ
+status_of came =
+    if wants_memory came then 3
+    else if is_undone came.line.done || (is_lost came || is_unwritten came) then 2
+    else 0
+
+-- What is told.
+
+-- the name of why a station cannot do what it is asked to
+abbrev pub station_fault_name : StationFault → List ℕ
+station_fault_name stations.NoSuchEntity = codes "no-such-entity"
+station_fault_name stations.NotARequest = codes "not-a-request"
+station_fault_name (stations.Order orders.IdsSpent) = codes "ids-spent"
+station_fault_name (stations.Order orders.TooLong) = codes "too-long"
+station_fault_name (stations.Order orders.Memory) = codes "memory"
+
+-- line N: NAME
+abbrev pub at_line : (number : ℕ) → List ℕ
+at_line number = codes "line " ++ decimal number
+
+abbrev pub named : (name : List ℕ) → List ℕ
+named name = (codes ": " ++ name) ++ line_end
+
+-- why what a line asks for was not done; of what fails by itself nothing
+abbrev pub why_text : (number : ℕ) → Undone → List ℕ
+why_text number undone.BadLine = at_line number ++ named (codes "bad-line")
+why_text number undone.UnknownStation = at_line number ++ named (codes "unknown-station")
+why_text number (undone.Station fault) = at_line number ++ named (station_fault_name fault)
+why_text number undone.Line = []
+why_text number undone.Record = []
+why_text number undone.Memory = []
+
+abbrev pub refused_text : (number : ℕ) → Result (Unit {0}) Undone → List ℕ
+refused_text number (Ok x) = []
+refused_text number (Err why) = why_text number why
+
+-- line N: live: line
+abbrev pub lost_text : (number : ℕ) → (lost : Bool) → List ℕ
+lost_text number lost = if lost then at_line number ++ named (codes "live: line") else []
+
+abbrev pub memory_text : Bool → List ℕ
+memory_text memory = if memory then codes "memory" ++ line_end else []
+
+abbrev pub output_text : Bool → List ℕ
+output_text failed = if failed then codes "output: write" ++ line_end else []
+
+abbrev pub wants_text : (memory failed : Bool) → List ℕ
+wants_text memory failed = memory_text memory ++ output_text failed
+
+abbrev pub undone_text : (number : ℕ) → Came → List ℕ
+undone_text number came = refused_text number came.line.done ++ lost_text number (is_lost came)
+
+-- WHAT IS TOLD OF THE LINE OF A NUMBER: why it was not done; that a call of the line of the station failed; that memory ran out; that an entry was not recorded or not printed
+abbrev pub told_of : (number : ℕ) → Came → List ℕ
+told_of number came = undone_text number came ++ wants_text (wants_memory came) (is_unwritten came)

@@ -1,0 +1,38 @@
+-- The station of a script that a session plays (profile).
+use Rattle.std.specs.Prelude.{◌≡◌, ⊤, ℕ, false, List, [], ◌∷◌, slice_get, Option, Some, None, Result, Ok, Err}
+use Rattle.std.specs.Option.{option_and_then}
+use Rattle.dis_records.specs.Address.{Pair}
+use Rattle.exercise_model.specs.declared.form.Form.TheVariants.{First}
+use Rattle.exercise_model.specs.Recording.{opened}
+use Rattle.siman_scripts.specs.Draft.{index_of}
+use Rattle.siman_scripts.specs.Script.{ScriptData}
+use Rattle.siman_scripts.specs.Stations.{WorldStationData}
+use Rattle.siman_worlds.specs.Holds.{IsNewNode}
+use Rattle.siman_worlds.specs.World.{is_world_station}
+use Rattle.siman_sessions.specs.declared.scripted.SetUp.{SetUp}
+use Rattle.siman_sessions.specs.declared.scripted.SetUpFault.{SetUpFault}
+use Rattle.siman_sessions.specs.declared.scripted.SetUpFault.TheVariants as faults
+
+-- the station at an address, if there is one
+abbrev pub station_at : Pair → List WorldStationData → Option WorldStationData
+station_at a ss = option_and_then (slice_get ss) (index_of a ss)
+
+-- A STATION IS SET UP by itself: a recording of it has no entries, and its halves are as they are begun
+pub record IsSetUp (exercise : ℕ) (s : WorldStationData) (set_up : SetUp) : Type 0 where
+  pub head : set_up.head ≡ opened (record { form = First; exercise = exercise; stations = s.station ∷ [] })
+  pub node : IsNewNode exercise s set_up.node
+
+-- or it is none that a world can have, or memory ran out
+abbrev pub SetsUpOne : (exercise : ℕ) → WorldStationData → Result SetUp SetUpFault → Type 0
+SetsUpOne exercise s (Ok set_up) = IsSetUp exercise s set_up
+SetsUpOne exercise s (Err faults.NotInSetup) = ⊥
+SetsUpOne exercise s (Err faults.Stations) = is_world_station s ≡ false
+SetsUpOne exercise s (Err faults.Memory) = ⊤
+
+abbrev pub SetsUpFound : (exercise : ℕ) → Option WorldStationData → Result SetUp SetUpFault → Type 0
+SetsUpFound exercise None result = result ≡ Err faults.NotInSetup
+SetsUpFound exercise (Some s) result = SetsUpOne exercise s result
+
+-- THE STATION OF A SCRIPT AT AN ADDRESS is set up, if the script has it
+abbrev pub SetsUp : ScriptData → (address : Pair) → Result SetUp SetUpFault → Type 0
+SetsUp script address result = SetsUpFound script.exercise (station_at address script.stations) result

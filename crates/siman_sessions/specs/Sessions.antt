@@ -1,0 +1,140 @@
+-- A SESSION: one post, played by the lines of a text (profile).
+use Rattle.std.specs.Prelude.{◌≡◌, ℕ, ◌+◌, max, true, false, List, [], ◌∷◌, ◌++◌, map, Option, Some, None}
+use Rattle.std.specs.List.{AllByRecursion}
+use Rattle.byte_files.specs.Writing.{Writes}
+use Rattle.exercise_recording.specs.Writer.{WriterState}
+use Rattle.siman_lines.specs.AtLines.{Telling}
+use Rattle.siman_posts.specs.declared.noting.NotingLine.{NotingLine}
+use Rattle.siman_posts.specs.declared.post.Post.{Post}
+use Rattle.siman_posts.specs.declared.printing.PrintFault.{PrintFault}
+use Rattle.siman_posts.specs.Deeds.{PostState, GoesOn}
+use Rattle.siman_posts.specs.Noting.{telling}
+use Rattle.siman_posts.specs.Posts.{TakesLine, is_over}
+use Rattle.siman_sessions.specs.declared.came.Came.{Came}
+use Rattle.siman_sessions.specs.declared.playing.Played.{Played}
+use Rattle.siman_sessions.specs.declared.playing.Stop.{Stop}
+use Rattle.siman_sessions.specs.declared.playing.Stop.TheVariants as stops
+use Rattle.siman_sessions.specs.declared.told.Told.{Told}
+use Rattle.siman_sessions.specs.Came.{status_of, told_of}
+use Rattle.siman_sessions.specs.Closing.{Closes}
+use Rattle.siman_sessions.specs.Reading.{said_by, AreLines, AreFirstLines}
+use Rattle.siman_sessions.specs.Told.{TellsMore, closed_status, closed_text, unread_text}
+use Rattle.std.specs.Prelude.{Result}
+
+-- Of lines.
+
+-- why no further entry is printed, where nothing had hindered that before
+abbrev pub silenced_by : (before after : Option PrintFault) → Option PrintFault
+silenced_by None after = after
+silenced_by (Some fault) after = None
+
+-- a post over its recorder
+pub record AtRecorder (L : Type 0) : Type 0 where
+  pub post : Post L
+  pub recorder : WriterState
+
+-- a line, and what came of it
+pub record Taken : Type 0 where
+  pub line : List ℕ
+  pub came : Came
+
+-- A LINE IS TAKEN, as what it says
+pub record TakesOne {L : Type 0} (told : Telling (NotingLine L)) (t : Taken) (old new : AtRecorder L) : Type 0 where
+  pub takes : TakesLine told (said_by t.line) old.post old.recorder new.post new.recorder t.came.line
+  pub silenced : t.came.silenced ≡ silenced_by old.post.printer.fault new.post.printer.fault
+
+-- LINES ARE TAKEN, one after the other
+abbrev pub TakesAll : {L : Type 0} → Telling (NotingLine L) → List Taken → (old new : AtRecorder L) → Type 0
+TakesAll told [] old new = new ≡ old
+TakesAll {L} told (t ∷ ts) old new = (mid : AtRecorder L) × TakesOne told t old mid × TakesAll told ts mid new
+
+abbrev pub lines_in : List Taken → List (List ℕ)
+lines_in ts = map (λ t. t.line) ts
+
+-- WHAT IS TOLD of lines, the first by this number
+abbrev pub told_from : (number : ℕ) → List Taken → List ℕ
+told_from n [] = []
+told_from n (t ∷ ts) = told_of n t.came ++ told_from (n + 1) ts
+
+-- the worst exit status that they ask for
+abbrev pub worst_of : List Taken → ℕ
+worst_of [] = 0
+worst_of (t ∷ ts) = max (status_of t.came) (worst_of ts)
+
+-- Where it stops.
+
+-- after each of them a further line may be taken
+abbrev pub MayGoOn : List Taken → Type 0
+MayGoOn ts = AllByRecursion (λ t. is_over t.came.line ≡ false) ts
+
+-- an entry was not recorded at the last of them, and at no other
+abbrev pub IsOver : List Taken → Type 0
+IsOver ts = (front : List Taken) × (last : Taken) × (ts ≡ front ++ last ∷ []) × MayGoOn front × (is_over last.came.line ≡ true)
+
+-- WHY NO FURTHER LINE IS TAKEN: all lines of the text were; or the first ones, after which a read failed, or at the last of which an entry was not recorded
+abbrev pub Stops : (known : Option (List ℕ)) → Stop → List Taken → Type 0
+Stops known stops.End ts = MayGoOn ts × AreLines known (lines_in ts)
+Stops known stops.Unread ts = MayGoOn ts × AreFirstLines known (lines_in ts)
+Stops known stops.Unrecorded ts = IsOver ts × AreFirstLines known (lines_in ts)
+
+-- THE LINES OF A TEXT ARE PLAYED: taken up to where it stops, and told, with the worst status of them
+pub record PlaysLines {L : Type 0} (told : Telling (NotingLine L)) (known : Option (List ℕ)) (old new : AtRecorder L) (errors errors_after : Option (List ℕ))
+    (played : Played) : Type 0 where
+  pub taken : List Taken
+  pub takes : TakesAll told taken old new
+  pub stops : Stops known played.stop taken
+  pub status : played.told.status ≡ worst_of taken
+  pub tells : Writes played.told.written errors errors_after (told_from 1 taken)
+
+-- Of the whole.
+
+-- a post over its recorder, and what stands on the writer of its entries
+pub record AtPost (L : Type 0) : Type 0 where
+  pub post : Post L
+  pub recorder : WriterState
+  pub out : Option (List ℕ)
+
+-- that as a post that goes on
+abbrev pub going : {L : Type 0} → AtPost L → PostState L
+going a = record {
+  station = a.post.station;
+  recorder = a.recorder;
+  exercise = a.post.printer.exercise;
+  printing = record { out = a.out; fault = a.post.printer.fault };
+}
+
+-- the recording is ended, and its counts are printed, and what failed of that is told besides
+pub record ClosesAt {L : Type 0} (strangers : L → ℕ) (post : Post L) (w v : WriterState) (out out_after : Option (List ℕ)) (before after : Told)
+    (errors errors_after : Option (List ℕ)) : Type 0 where
+  pub closed : Result (Unit {0}) PrintFault
+  pub closes : Closes strangers post w v out out_after closed
+  pub status : after.status ≡ max before.status (closed_status closed)
+  pub tells : TellsMore before.written after.written errors errors_after (closed_text closed)
+
+-- that a read failed is told besides
+pub record TellsUnread (before after : Told) (errors errors_after : Option (List ℕ)) : Type 0 where
+  pub status : after.status ≡ max before.status 2
+  pub tells : TellsMore before.written after.written errors errors_after unread_text
+
+-- HOW IT ENDS whose lines stopped so: at the end of the text, and where a read failed, the recording is ended; nothing more is done where an entry was not recorded
+abbrev pub EndsSession : {L : Type 0} → (strangers : L → ℕ) → Post L → Stop → (w v : WriterState) → (out out_after : Option (List ℕ)) → (before after : Told)
+    → (errors errors_after : Option (List ℕ)) → Type 0
+EndsSession strangers post stops.End w v out out_after before after errors errors_after =
+    ClosesAt strangers post w v out out_after before after errors errors_after
+EndsSession strangers post stops.Unread w v out out_after before after errors errors_after =
+    (told : Told) × (mid : Option (List ℕ)) × TellsUnread before told errors mid × ClosesAt strangers post w v out out_after told after mid errors_after
+EndsSession strangers post stops.Unrecorded w v out out_after before after errors errors_after =
+    (v ≡ w) × (out_after ≡ out) × (after ≡ before) × (errors_after ≡ errors)
+
+-- A POST IS PLAYED by the lines of a text, to the end
+pub record Plays {L : Type 0} (strangers : L → ℕ) (known : Option (List ℕ)) (old new : AtPost L) (errors errors_after : Option (List ℕ)) (told : Told) : Type 0 where
+  -- the post after the lines is the post at the end; its recorder, what is printed, and what is told
+  pub recorder : WriterState
+  pub out : Option (List ℕ)
+  pub told_so_far : Option (List ℕ)
+  pub played : Played
+  pub lines : let before : AtRecorder L = record { post = old.post; recorder = old.recorder } in
+      let after : AtRecorder L = record { post = new.post; recorder = recorder } in
+      PlaysLines (telling strangers) known before after errors told_so_far played
+  pub goes : let after : AtPost L = record { post = new.post; recorder = recorder; out = out } in GoesOn (going old) (going after)
+  pub ends : EndsSession strangers new.post played.stop recorder new.recorder out new.out played.told told told_so_far errors_after

@@ -1,0 +1,182 @@
+//! What came of a line of text in a session, and how it is told.
+
+ghost use Rattle.std.specs.Prelude.{◌≡◌, ◌++◌, decimal};
+ghost use Rattle.byte_files.specs.Writing.{Writes};
+ghost use Rattle.siman_sessions.specs.Came.{station_fault_name, at_line, named, why_text, refused_text, lost_text, memory_text, output_text, wants_text, undone_text, told_of, is_lost, wants_memory, is_unwritten, status_of};
+
+use byte_files::{WriteFailed, put, put_both};
+use itoa::Buffer;
+use siman_manager::OrderFault;
+use siman_posts::{LineCame, PrintFault, Undone};
+use siman_stations::StationFault;
+use std::io::Write;
+
+/// What came of a line of text.
+#[derive(Clone, Copy, Debug, PartialEq, Eq)]
+pub struct Came {
+    /// What the post did with it.
+    pub line: LineCame,
+    /// Why no further entry is printed from this line on, if it is the first of which that is so.
+    pub silenced: Option<PrintFault>,
+}
+
+impl Came {
+    /// Whether a send or a receive failed.
+    fn is_lost(self) -> bool
+        ensures { result ≡ is_lost self }
+    {
+        self.line.done == Err(Undone::Line) || self.line.trouble.line
+    }
+
+    /// Whether memory ran out.
+    fn wants_memory(self) -> bool
+        ensures { result ≡ wants_memory self }
+    {
+        let memory = self.line.done == Err(Undone::Memory) || self.line.trouble.memory;
+        memory || self.silenced == Some(PrintFault::Memory)
+    }
+
+    /// Whether an entry was not recorded, or not printed since a write failed.
+    fn is_unwritten(self) -> bool
+        ensures { result ≡ is_unwritten self }
+    {
+        self.line.is_over() || self.silenced == Some(PrintFault::Write)
+    }
+
+    /// The exit status that it asks for: 3 where memory ran out, else 2 where anything failed or was
+    /// not done, else 0.
+    pub fn status(self) -> u8
+        ensures { result ≡ status_of self }
+    {
+        if self.wants_memory() {
+            return 3;
+        }
+        let failed = self.is_lost() || self.is_unwritten();
+        if self.line.done.is_err() || failed {
+            2
+        } else {
+            0
+        }
+    }
+}
+
+/// The name of why a station cannot do what it is asked to.
+fn station_fault_name(fault: StationFault) -> &'static str
+    ensures { result.now ≡ station_fault_name fault }
+{
+    match fault {
+        StationFault::NoSuchEntity => "no-such-entity",
+        StationFault::NotARequest => "not-a-request",
+        StationFault::Order(OrderFault::IdsSpent) => "ids-spent",
+        StationFault::Order(OrderFault::TooLong) => "too-long",
+        StationFault::Order(OrderFault::Memory) => "memory",
+    }
+}
+
+/// Writes `line` and a number.
+fn put_number<E: Write>(errors: &mut E, number: u64) -> Result<(), WriteFailed>
+    ensures { Writes result (E.contents errors.old) (E.contents errors.new) (at_line number) }
+{
+    let mut buffer = Buffer::new();
+    put_both(errors, b"line ", buffer.format(number).as_bytes())
+}
+
+/// Writes a name behind a colon, and a line end.
+fn put_name<E: Write>(errors: &mut E, name: &str) -> Result<(), WriteFailed>
+    ensures { Writes result (E.contents errors.old) (E.contents errors.new) (named name.now) }
+{
+    put_both(errors, b": ", name.as_bytes())?;
+    put(errors, b"\n")
+}
+
+/// Writes the line that tells something of a line of text: `line N: NAME`.
+fn put_at_line<E: Write>(errors: &mut E, number: u64, name: &str) -> Result<(), WriteFailed>
+    ensures { Writes result (E.contents errors.old) (E.contents errors.new) (at_line number ++ named name.now) }
+{
+    put_number(errors, number)?;
+    put_name(errors, name)
+}
+
+/// Tells why what a line asks for was not done, if that is told of the line alone.
+fn tell_why<E: Write>(errors: &mut E, number: u64, why: Undone) -> Result<(), WriteFailed>
+    ensures { Writes result (E.contents errors.old) (E.contents errors.new) (why_text number why) }
+{
+    match why {
+        Undone::BadLine => put_at_line(errors, number, "bad-line"),
+        Undone::UnknownStation => put_at_line(errors, number, "unknown-station"),
+        Undone::Station(fault) => put_at_line(errors, number, station_fault_name(fault)),
+        Undone::Line | Undone::Record | Undone::Memory => Ok(()),
+    }
+}
+
+/// Tells that what a line asks for was not done, if it was not.
+fn tell_refused<E: Write>(
+    errors: &mut E,
+    number: u64,
+    done: Result<(), Undone>,
+) -> Result<(), WriteFailed>
+    ensures { Writes result (E.contents errors.old) (E.contents errors.new) (refused_text number done) }
+{
+    match done {
+        Ok(()) => Ok(()),
+        Err(why) => tell_why(errors, number, why),
+    }
+}
+
+/// Tells that a send or a receive failed at a line of text, if one did.
+fn tell_lost<E: Write>(errors: &mut E, number: u64, lost: bool) -> Result<(), WriteFailed>
+    ensures { Writes result (E.contents errors.old) (E.contents errors.new) (lost_text number lost) }
+{
+    if lost {
+        return put_at_line(errors, number, "live: line");
+    }
+    Ok(())
+}
+
+/// Tells that memory ran out, if it did.
+fn tell_memory<E: Write>(errors: &mut E, memory: bool) -> Result<(), WriteFailed>
+    ensures { Writes result (E.contents errors.old) (E.contents errors.new) (memory_text memory) }
+{
+    if memory {
+        return put(errors, b"memory\n");
+    }
+    Ok(())
+}
+
+/// Tells that something was not recorded or not printed, if that is so.
+fn tell_output<E: Write>(errors: &mut E, failed: bool) -> Result<(), WriteFailed>
+    ensures { Writes result (E.contents errors.old) (E.contents errors.new) (output_text failed) }
+{
+    if failed {
+        return put(errors, b"output: write\n");
+    }
+    Ok(())
+}
+
+/// Tells that memory ran out, and that something was not recorded or printed, where these are so.
+fn tell_wants<E: Write>(errors: &mut E, memory: bool, failed: bool) -> Result<(), WriteFailed>
+    ensures { Writes result (E.contents errors.old) (E.contents errors.new) (wants_text memory failed) }
+{
+    tell_memory(errors, memory)?;
+    tell_output(errors, failed)
+}
+
+/// Tells what of a line of text was not done.
+fn tell_undone<E: Write>(errors: &mut E, number: u64, came: Came) -> Result<(), WriteFailed>
+    ensures { Writes result (E.contents errors.old) (E.contents errors.new) (undone_text number came) }
+{
+    tell_refused(errors, number, came.line.done)?;
+    tell_lost(errors, number, came.is_lost())
+}
+
+/// Tells what of a line of text was not done, and what failed.
+pub(crate) fn tell_came<E: Write>(
+    errors: &mut E,
+    number: u64,
+    came: Came,
+) -> Result<(), WriteFailed>
+    ensures { Writes result (E.contents errors.old) (E.contents errors.new) (told_of number came) }
+{
+    tell_undone(errors, number, came)?;
+    tell_wants(errors, came.wants_memory(), came.is_unwritten())
+}

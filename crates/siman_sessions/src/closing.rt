@@ -1,0 +1,92 @@
+//! The end of a session: the recording is ended, and its counts are printed.
+
+ghost use Rattle.std.specs.Prelude.{◌≡◌, IfErr, IfOk, string_bytes};
+ghost use Rattle.std.specs.Io.KnownBytes.{Keeps};
+ghost use Rattle.siman_sessions.specs.Closing.{session_text, PrintsCounts, PrintsEnd, Closes};
+
+use byte_files::put;
+use exercise_recording::RecordingWriter;
+use siman_lines::Line;
+use siman_posts::{Post, PrintFault};
+use siman_texts::{Field, Line as Said, Spelling, Value, put_line};
+use std::alloc::{AllocError, Global};
+use std::io::Write;
+
+/// The line of a recording with so many entries, and of what its station dropped and passed over.
+fn session_line(
+    alloc: Global,
+    records: u32,
+    dropped: u64,
+    strangers: u64,
+) -> Result<String, AllocError>
+    ensures { IfOk result (λ line. string_bytes line ≡ session_text records dropped strangers) }
+{
+    let fields = [
+        Field::Keyed("records", Value::Number(u64::from(records))),
+        Field::Keyed("dropped", Value::Number(dropped)),
+        Field::Keyed("strangers", Value::Number(strangers)),
+    ];
+    let mut line = String::new(alloc);
+    put_line(&mut line, Spelling::Text, &Said::named("station", &fields))?;
+    Ok(line)
+}
+
+/// Prints the line of counts.
+fn print_counts<O: Write>(
+    alloc: Global,
+    records: u32,
+    dropped: u64,
+    strangers: u64,
+    out: &mut O,
+) -> Result<(), PrintFault>
+    ensures { PrintsCounts (session_text records dropped strangers) (O.contents out.old) (O.contents out.new) result }
+{
+    let Ok(line) = session_line(alloc, records, dropped, strangers) else {
+        return Err(PrintFault::Memory);
+    };
+    match put(out, line.as_bytes()) {
+        Ok(()) => flush(out),
+        Err(_) => Err(PrintFault::Write),
+    }
+}
+
+/// Flushes what was written.
+fn flush<O: Write>(out: &mut O) -> Result<(), PrintFault>
+    ensures kept { Keeps (O.contents out.old) (O.contents out.new) }
+    ensures fault { IfErr result (λ fault. fault ≡ PrintFault.Write) }
+{
+    match out.flush() {
+        Ok(()) => Ok(()),
+        Err(_) => Err(PrintFault::Write),
+    }
+}
+
+/// Prints the counts of a post whose recording has so many entries, where the line of each was printed.
+fn print_end<L: Line + Drop, O: Write>(
+    alloc: Global,
+    post: &Post<L>,
+    records: u32,
+    out: &mut O,
+) -> Result<(), PrintFault>
+    ensures { PrintsEnd post.now.printer.fault (session_text records post.now.station.dropped (L.strangers post.now.station.line.line)) (O.contents out.old) (O.contents out.new) result }
+{
+    if post.print_fault().is_some() {
+        return Ok(());
+    }
+    print_counts(alloc, records, post.dropped(), post.strangers(), out)
+}
+
+/// Ends the recording of a post, and prints its counts, where the line of each entry was printed.
+pub(crate) fn close<L: Line + Drop, W: Write, O: Write>(
+    alloc: Global,
+    post: &Post<L>,
+    recorder: &mut RecordingWriter<'_, W>,
+    out: &mut O,
+) -> Result<(), PrintFault>
+    ensures { Closes L.strangers post.now recorder.old recorder.new (O.contents out.old) (O.contents out.new) result }
+{
+    match recorder.finish() {
+        Ok(()) => print_end(alloc, post, recorder.entry_count(), out),
+        Err(_) => Err(PrintFault::Write),
+    }
+}

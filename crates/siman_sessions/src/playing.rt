@@ -1,0 +1,116 @@
+//! The lines of a text, taken by a post one after the other.
+
+ghost use Rattle.std.specs.Prelude.{◌≡◌, ◌+◌, length};
+ghost use Rattle.siman_posts.specs.Deeds.{PostState, GoesOn};
+ghost use Rattle.siman_posts.specs.Noting.{telling};
+ghost use Rattle.siman_posts.specs.Posts.{TakesLine};
+ghost use Rattle.siman_sessions.specs.declared.reading.TheConstants.{LONGEST_LINE};
+ghost use Rattle.siman_sessions.specs.Reading.{said_by};
+ghost use Rattle.siman_sessions.specs.Sessions.{silenced_by, AtRecorder, PlaysLines};
+
+use crate::came::Came;
+use crate::reading::{LONGEST_LINE, handed, read_line};
+use crate::told::Told;
+use exercise_recording::RecordingWriter;
+use siman_lines::Line;
+use siman_posts::{Post, PrintFault};
+use std::alloc::Global;
+use std::io::{Read, Write};
+
+/// Why no further line of a text is taken.
+#[derive(Clone, Copy, Debug, PartialEq, Eq)]
+pub enum Stop {
+    /// There is none.
+    End,
+    /// A read failed.
+    Unread,
+    /// An entry was not recorded.
+    Unrecorded,
+}
+
+/// What came of the lines of a text.
+#[derive(Clone, Copy)]
+pub(crate) struct Played {
+    pub(crate) told: Told,
+    pub(crate) stop: Stop,
+}
+
+/// Why no further entry is printed, where nothing had hindered that before.
+fn silenced_by(before: Option<PrintFault>, after: Option<PrintFault>) -> Option<PrintFault>
+    ensures { result ≡ silenced_by before after }
+{
+    if before.is_some() { None } else { after }
+}
+
+/// Takes a line, of which so much is held.
+fn take_held<L: Line + Drop, W: Write, O: Write>(
+    alloc: Global,
+    post: &mut Post<L>,
+    recorder: &mut RecordingWriter<'_, W>,
+    out: &mut O,
+    held: &[u8],
+) -> Came
+    ensures takes { TakesLine (telling L.strangers) (said_by held.now) post.old recorder.old post.new recorder.new result.line }
+    ensures silenced { result.silenced ≡ silenced_by post.old.printer.fault post.new.printer.fault }
+    ensures goes { let old : PostState L = record { station = post.old.station; recorder = recorder.old; exercise = post.old.printer.exercise; printing = record { out = O.contents out.old; fault = post.old.printer.fault } } in
+        let new : PostState L = record { station = post.new.station; recorder = recorder.new; exercise = post.new.printer.exercise; printing = record { out = O.contents out.new; fault = post.new.printer.fault } } in
+        GoesOn old new }
+{
+    let before = post.print_fault();
+    let line = post.take_line(alloc, recorder, out, handed(held));
+    Came {
+        line,
+        silenced: silenced_by(before, post.print_fault()),
+    }
+}
+
+/// Takes the lines that are left of a reader, each of which is held in a buffer while it is taken, and
+/// tells of each what was not done. It ends with the line at which an entry was not recorded.
+pub(crate) fn play_lines<L: Line + Drop, R: Read, W: Write, O: Write, E: Write>(
+    alloc: Global,
+    post: &mut Post<L>,
+    recorder: &mut RecordingWriter<'_, W>,
+    reader: &mut R,
+    buffer: &mut [u8],
+    out: &mut O,
+    errors: &mut E,
+) -> Played
+    requires { length buffer.old ≡ LONGEST_LINE + 1 }
+    ensures plays { let old : AtRecorder L = record { post = post.old; recorder = recorder.old } in
+        let new : AtRecorder L = record { post = post.new; recorder = recorder.new } in
+        PlaysLines (telling L.strangers) (R.remaining reader.old) old new (E.contents errors.old) (E.contents errors.new) result }
+    ensures goes { let old : PostState L = record { station = post.old.station; recorder = recorder.old; exercise = post.old.printer.exercise; printing = record { out = O.contents out.old; fault = post.old.printer.fault } } in
+        let new : PostState L = record { station = post.new.station; recorder = recorder.new; exercise = post.new.printer.exercise; printing = record { out = O.contents out.new; fault = post.new.printer.fault } } in
+        GoesOn old new }
+{
+    let mut told = Told::nothing();
+    for number in 1..u64::MAX {
+        let held = match read_line(reader, buffer) {
+            Ok(Some(held)) => held,
+            Ok(None) => {
+                return Played {
+                    told,
+                    stop: Stop::End,
+                };
+            }
+            Err(_) => {
+                return Played {
+                    told,
+                    stop: Stop::Unread,
+                };
+            }
+        };
+        let came = take_held(alloc, post, recorder, out, &buffer[..held]);
+        told = told.and_came(errors, number, came);
+        if came.line.is_over() {
+            return Played {
+                told,
+                stop: Stop::Unrecorded,
+            };
+        }
+    }
+    Played {
+        told,
+        stop: Stop::Unread,
+    }
+}

@@ -1,0 +1,46 @@
+//! Lines of a text, read one after the other into a buffer of fixed size.
+
+ghost use Rattle.std.specs.Prelude.{◌≡◌, ◌<◌, length, IfOk};
+ghost use Rattle.siman_scripts.specs.Command.{command_of};
+ghost use Rattle.siman_sessions.specs.Reading.{ReadsNext, said_by};
+
+use byte_files::{ReadFailed, fill};
+use std::io::Read;
+
+/// How many bytes a line has at most, without its line feed.
+pub const LONGEST_LINE: usize = 65_536;
+
+/// Reads the next line of a reader, which a line feed ends that the last may lack, and answers how
+/// many bytes of it the buffer has: all, or as many as it holds. None is the end.
+pub fn read_line<R: Read>(reader: &mut R, buffer: &mut [u8]) -> Result<Option<usize>, ReadFailed>
+    requires { 0 < length buffer.old }
+    ensures { IfOk result (ReadsNext (R.remaining reader.old) (R.remaining reader.new) buffer.new) }
+{
+    let mut held = 0;
+    for _ in 0..u64::MAX {
+        let mut byte = [0; 1];
+        if fill(reader, &mut byte)? == 0 {
+            return Ok(if held == 0 { None } else { Some(held) });
+        }
+        if byte[0] == b'\n' {
+            return Ok(Some(held));
+        }
+        if held < buffer.len() {
+            buffer[held] = byte[0];
+            held += 1;
+        }
+    }
+    Err(ReadFailed)
+}
+
+/// What is handed on of a line of which so much is held: all of it; where it is longer than any may be,
+/// a line of no form.
+pub(crate) fn handed(held: &[u8]) -> &[u8]
+    ensures { command_of result.now ≡ said_by held.now }
+{
+    if held.len() <= LONGEST_LINE {
+        held
+    } else {
+        b"?"
+    }
+}

@@ -1,0 +1,119 @@
+//! What a session told of its faults so far.
+
+ghost use Rattle.std.specs.Prelude.{◌≡◌, max, Ok};
+ghost use Rattle.siman_sessions.specs.Came.{status_of, told_of};
+ghost use Rattle.siman_sessions.specs.Told.{TellsMore, closed_status, closed_text, unread_text};
+
+use crate::came::{Came, tell_came};
+use byte_files::{WriteFailed, put};
+use siman_posts::PrintFault;
+use std::io::Write;
+
+/// What a session told so far.
+#[derive(Clone, Copy, Debug, PartialEq, Eq)]
+pub struct Told {
+    /// The worst status: 3 where memory ran out, else 2 where anything failed or was not done, else 0.
+    pub status: u8,
+    /// Whether all that was to be told on the writer of faults was written; after a failed write a
+    /// prefix of it was, and nothing more.
+    pub written: Result<(), WriteFailed>,
+}
+
+impl Told {
+    /// Nothing so far.
+    pub(crate) fn nothing() -> Told
+        ensures { result ≡ record { status = 0; written = Ok tt } }
+    {
+        Told {
+            status: 0,
+            written: Ok(()),
+        }
+    }
+
+    /// Tells what came of the line of a number besides.
+    pub(crate) fn and_came<E: Write>(self, errors: &mut E, number: u64, came: Came) -> Told
+        ensures status { result.status ≡ max self.status (status_of came) }
+        ensures told { TellsMore self.written result.written (E.contents errors.old) (E.contents errors.new) (told_of number came) }
+    {
+        let status = self.status.max(came.status());
+        Told {
+            status,
+            written: tell_came_more(self.written, errors, number, came),
+        }
+    }
+
+    /// Tells that the text could not be read to its end.
+    pub(crate) fn and_unread<E: Write>(self, errors: &mut E) -> Told
+        ensures status { result.status ≡ max self.status 2 }
+        ensures told { TellsMore self.written result.written (E.contents errors.old) (E.contents errors.new) unread_text }
+    {
+        let status = self.status.max(2);
+        Told {
+            status,
+            written: tell_more(self.written, errors, b"file: -\n"),
+        }
+    }
+
+    /// Tells that the recording has no end or its counts were not printed, if that is so.
+    pub(crate) fn and_closed<E: Write>(self, errors: &mut E, closed: Result<(), PrintFault>) -> Told
+        ensures status { result.status ≡ max self.status (closed_status closed) }
+        ensures told { TellsMore self.written result.written (E.contents errors.old) (E.contents errors.new) (closed_text closed) }
+    {
+        let status = self.status.max(closed_status(closed));
+        Told {
+            status,
+            written: tell_more(self.written, errors, closed_text(closed)),
+        }
+    }
+}
+
+/// Tells what came of the line of a number, unless something before was not written whole.
+fn tell_came_more<E: Write>(
+    written: Result<(), WriteFailed>,
+    errors: &mut E,
+    number: u64,
+    came: Came,
+) -> Result<(), WriteFailed>
+    ensures { TellsMore written result (E.contents errors.old) (E.contents errors.new) (told_of number came) }
+{
+    match written {
+        Ok(()) => tell_came(errors, number, came),
+        Err(failed) => Err(failed),
+    }
+}
+
+/// Tells a text, unless something before was not written whole.
+fn tell_more<E: Write>(
+    written: Result<(), WriteFailed>,
+    errors: &mut E,
+    text: &[u8],
+) -> Result<(), WriteFailed>
+    ensures { TellsMore written result (E.contents errors.old) (E.contents errors.new) text.now }
+{
+    match written {
+        Ok(()) => put(errors, text),
+        Err(failed) => Err(failed),
+    }
+}
+
+/// How a fault at the end is told.
+fn closed_text(closed: Result<(), PrintFault>) -> &'static [u8]
+    ensures { result.now ≡ closed_text closed }
+{
+    match closed {
+        Ok(()) => b"",
+        Err(PrintFault::Write) => b"output: write\n",
+        Err(PrintFault::Memory) => b"memory\n",
+    }
+}
+
+/// The status that a fault at the end asks for.
+fn closed_status(closed: Result<(), PrintFault>) -> u8
+    ensures { result ≡ closed_status closed }
+{
+    match closed {
+        Ok(()) => 0,
+        Err(PrintFault::Write) => 2,
+        Err(PrintFault::Memory) => 3,
+    }
+}

@@ -1,6 +1,6 @@
 //! Pieces of a line of text, each behind what stands before it.
 
-ghost use Rattle.std.specs.Prelude.{◌≡◌, ◌++◌, OnOk, codes, decimal, string_bytes};
+ghost use Rattle.std.specs.Prelude.{◌≡◌, ◌++◌, OnOk, codes, decimal, encode_utf8, string_bytes};
 ghost use Rattle.dis_records.specs.Texts.{entity_text};
 ghost use Rattle.siman_texts.specs.Spelled.{address_text};
 
@@ -42,16 +42,28 @@ pub(crate) fn put_number_behind(
     put_number(text, number)
 }
 
+/// A number behind a character.
+#[inline(always)]
+pub(crate) fn put_number_after(
+    text: &mut String,
+    before: char,
+    number: u64,
+) -> Result<(), AllocError>
+    ensures { OnOk result (string_bytes text.new ≡ string_bytes text.old ++ (encode_utf8 before ++ decimal number)) }
+{
+    text.push(before)?;
+    put_number(text, number)
+}
+
 /// `SITE:APPLICATION` behind a blank.
 pub(crate) fn put_address_behind(text: &mut String, address: Address) -> Result<(), AllocError>
     ensures { OnOk result (string_bytes text.new ≡ string_bytes text.old ++ (codes " " ++ address_text address)) }
 {
-    put_number_behind(text, " ", u64::from(address.site()))?;
-    put_number_behind(text, ":", u64::from(address.application()))
+    put_number_after(text, ' ', u64::from(address.site()))?;
+    put_number_after(text, ':', u64::from(address.application()))
 }
 
 /// `SITE:APPLICATION:ENTITY` behind some text.
-#[inline(always)]
 pub(crate) fn put_entity_behind(
     text: &mut String,
     before: &str,
@@ -60,6 +72,6 @@ pub(crate) fn put_entity_behind(
     ensures { OnOk result (string_bytes text.new ≡ string_bytes text.old ++ (before.now ++ entity_text id.now)) }
 {
     put_number_behind(text, before, u64::from(id.site))?;
-    put_number_behind(text, ":", u64::from(id.application))?;
-    put_number_behind(text, ":", u64::from(id.entity))
+    put_number_after(text, ':', u64::from(id.application))?;
+    put_number_after(text, ':', u64::from(id.entity))
 }

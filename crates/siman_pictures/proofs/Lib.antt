@@ -1,0 +1,3 @@
+mod Behind
+mod Below
+mod Stations

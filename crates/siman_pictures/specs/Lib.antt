@@ -1,0 +1,11 @@
+pub mod Element
+pub mod Frame
+pub mod Tone
+pub mod Words
+pub mod Rows
+pub mod Lines
+pub mod Signs
+pub mod Bars
+pub mod Columns
+pub mod Heading
+pub mod Picture

@@ -1,5 +1,5 @@
 -- What the words of a command line ask for (profile).
-use Rattle.std.specs.Prelude.{ℕ, ◌-◌, Bool, true, false, not, List, [], ◌∷◌, length, map, nat_lt, slice_index, ◌==◌, ◌&&◌, ◌||◌, codes, Option, Some, None, is_some, if◌then◌else◌}
+use Rattle.std.specs.Prelude.{ℕ, ◌-◌, Bool, true, false, not, List, [], ◌∷◌, length, map, nat_lt, slice_index, ◌==◌, ◌&&◌, ◌||◌, codes, Option, Some, None, is_some, option_map, if◌then◌else◌}
 use Rattle.std.specs.List.{starts_with}
 use Rattle.std.specs.Str.{bytes_eq}
 use Rattle.siman_texts.specs.declared.spelling.Spelling.{Spelling}
@@ -29,6 +29,8 @@ pub data Asked : Type 0 where
   Join : (pieces : List (List ℕ)) → (made : List ℕ) → Option JoinForm → Asked
   -- a view of a recording, the words that choose among its lines, and how these are spelled
   View : ViewWord → (recording : List ℕ) → (filters : List (List ℕ)) → Spelling → Asked
+  -- what contradicts what in a recording, or in a certificate of it, where the words name one
+  Why : (recording : List ℕ) → (certificate : Option (List ℕ)) → Spelling → Asked
 
 -- words have the text that `text` gives
 abbrev pub asked_by : {S : Type 0} → (text : S → List ℕ) → Task S → Asked
@@ -38,6 +40,7 @@ asked_by text (tasks.One command word) = One command word.now
 asked_by text (tasks.Two command first second) = Two command first.now second.now
 asked_by text (tasks.Join pieces made form) = Join (map text pieces.now) made.now form
 asked_by text (tasks.View view recording filters spelling) = View view recording.now (map text filters.now) spelling
+asked_by text (tasks.Why recording certificate spelling) = Why recording.now (option_map (λ word. word.now) certificate) spelling
 
 -- a word that begins with a hyphen, and has more, is an option
 abbrev pub is_option : List ℕ → Bool
@@ -53,7 +56,7 @@ unfoldable pub takes_named : List ℕ → Option Takes
 takes_named = takes_of (
     (codes "pdu", shapes.One Pdu) ∷ (codes "pdus", shapes.Nothing Pdus) ∷ (codes "show", shapes.One Show) ∷ (codes "check", shapes.Two Check)
     ∷ (codes "audit", shapes.Two Audit) ∷ (codes "world", shapes.Two World) ∷ (codes "live", shapes.Two Live) ∷ (codes "convert", shapes.Two Convert) ∷ (codes "mend", shapes.Two Mend)
-    ∷ (codes "join", shapes.Pieces) ∷ (codes "review", shapes.View Review) ∷ (codes "log", shapes.View Log) ∷ [])
+    ∷ (codes "join", shapes.Pieces) ∷ (codes "review", shapes.View Review) ∷ (codes "log", shapes.View Log) ∷ (codes "why", shapes.PerhapsTwo) ∷ [])
 
 -- a command is asked for where it has the words that it takes, none of them an option
 abbrev pub bare_asked : NoWord → List (List ℕ) → Option Asked
@@ -125,6 +128,17 @@ view_asked view (recording ∷ words) =
     let p = spelling_apart words in
     if is_option recording || has_option p.0 then None else Some (View view recording p.0 p.1)
 
+-- the question why, of a recording or of one with a certificate
+abbrev pub named_why : Spelling → List (List ℕ) → Option Asked
+named_why spelling (recording ∷ []) = if is_option recording then None else Some (Why recording None spelling)
+named_why spelling (recording ∷ certificate ∷ []) =
+    if is_option recording || is_option certificate then None else Some (Why recording (Some certificate) spelling)
+named_why spelling words = None
+
+-- WHY IS ASKED of one file or two, and `--json` stands nowhere but at the end
+abbrev pub why_asked : List (List ℕ) → Option Asked
+why_asked words = let p = spelling_apart words in named_why p.1 p.0
+
 abbrev pub taken : Option Takes → List (List ℕ) → Option Asked
 taken None words = None
 taken (Some (shapes.Nothing command)) words = bare_asked command words
@@ -132,6 +146,7 @@ taken (Some (shapes.One command)) words = one_asked command words
 taken (Some (shapes.Two command)) words = two_asked command words
 taken (Some shapes.Pieces) words = join_asked words
 taken (Some (shapes.View view)) words = view_asked view words
+taken (Some shapes.PerhapsTwo) words = why_asked words
 
 -- WHAT WORDS ASK FOR, the program's name first; other words ask for help, or break the usage
 abbrev pub asked : List (List ℕ) → Option Asked
@@ -153,11 +168,14 @@ abbrev pub helps_behind : (most : ℕ) → List (List ℕ) → Bool
 helps_behind most [] = false
 helps_behind most (word ∷ words) = is_help word || (if (most == 0) || is_option word then false else helps_behind (most - 1) words)
 
--- behind a view `--json` may stand once before
-abbrev pub helps_view : (json : Bool) → List (List ℕ) → Bool
-helps_view json [] = false
-helps_view json (word ∷ words) =
-    is_help word || (if bytes_eq word (codes "--json") then (if json then false else helps_view true words) else if is_option word then false else helps_view json words)
+-- behind one that takes `--json` too, this may stand once before
+abbrev pub helps_within : (most : ℕ) → (json : Bool) → List (List ℕ) → Bool
+helps_within most json [] = false
+helps_within most json (word ∷ words) =
+    is_help word
+    || (if bytes_eq word (codes "--json")
+    then (if json then false else helps_within most true words)
+    else if (most == 0) || is_option word then false else helps_within (most - 1) json words)
 
 abbrev pub helps : Option Takes → List (List ℕ) → Bool
 helps None words = false
@@ -165,7 +183,8 @@ helps (Some (shapes.Nothing command)) words = helps_behind 0 words
 helps (Some (shapes.One command)) words = helps_behind 1 words
 helps (Some (shapes.Two command)) words = helps_behind 2 words
 helps (Some shapes.Pieces) words = helps_behind (length words) words
-helps (Some (shapes.View view)) words = helps_view false words
+helps (Some (shapes.View view)) words = helps_within (length words) false words
+helps (Some shapes.PerhapsTwo) words = helps_within 2 false words
 
 -- `help` stands alone, or before the name of a command or itself
 abbrev pub is_topic : List (List ℕ) → Bool

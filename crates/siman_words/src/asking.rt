@@ -1,7 +1,7 @@
 //! Reading words by the table of commands: the task that they ask for, or whether they ask for help.
 
 ghost use Rattle.std.specs.Prelude.{◌≡◌, false, length, map, option_map};
-ghost use Rattle.siman_words.specs.Words.{asked_by, is_option, takes_of, takes_named, bare_asked, one_asked, two_asked, taken, asked, is_short, is_help, is_version, helps_behind, helps_view, is_topic, helps, asks_help, last_apart, has_option, is_form_word, form_named, form_apart, are_names, pieces_asked, join_asked, spelling_apart, view_asked};
+ghost use Rattle.siman_words.specs.Words.{asked_by, is_option, takes_of, takes_named, bare_asked, one_asked, two_asked, taken, asked, is_short, is_help, is_version, helps_behind, helps_within, is_topic, helps, asks_help, last_apart, has_option, is_form_word, form_named, form_apart, are_names, pieces_asked, join_asked, spelling_apart, view_asked, named_why, why_asked};
 
 use crate::commands::{JoinForm, NoWord, OneWord, ROWS, Row, Takes, Task, TwoWords, ViewWord};
 use siman_texts::Spelling;
@@ -183,6 +183,30 @@ fn view_words<S: AsStr>(view: ViewWord, words: &[S]) -> Option<Task<'_, S>>
     }
 }
 
+/// The question why, of a recording or of one with a certificate.
+fn named_why<S: AsStr>(spelling: Spelling, names: &[S]) -> Option<Task<'_, S>>
+    ensures { option_map (asked_by S.text) result ≡ named_why spelling (map S.text names.now) }
+{
+    match names {
+        [recording] if !is_option(recording.as_str()) => {
+            Some(Task::Why(recording.as_str(), None, spelling))
+        }
+        [recording, certificate]
+            if !is_option(recording.as_str()) && !is_option(certificate.as_str()) => {
+            let certificate = Some(certificate.as_str());
+            Some(Task::Why(recording.as_str(), certificate, spelling))
+        }
+        _ => None,
+    }
+}
+
+fn why_words<S: AsStr>(words: &[S]) -> Option<Task<'_, S>>
+    ensures { option_map (asked_by S.text) result ≡ why_asked (map S.text words.now) }
+{
+    let (names, spelling) = spelling_apart(words);
+    named_why(spelling, names)
+}
+
 /// The task of a command, where it takes just these words.
 fn taken<S: AsStr>(takes: Option<Takes>, words: &[S]) -> Option<Task<'_, S>>
     ensures { option_map (asked_by S.text) result ≡ taken takes (map S.text words.now) }
@@ -194,6 +218,7 @@ fn taken<S: AsStr>(takes: Option<Takes>, words: &[S]) -> Option<Task<'_, S>>
         Some(Takes::Two(command)) => two_words(command, words),
         Some(Takes::Pieces) => join_words(words),
         Some(Takes::View(view)) => view_words(view, words),
+        Some(Takes::PerhapsTwo) => why_words(words),
     }
 }
 
@@ -248,11 +273,12 @@ fn helps_behind<S: AsStr>(most: usize, words: &[S]) -> bool
     false
 }
 
-/// Whether words behind a view ask for its help, before one that it does not take; `--json` may
-/// stand once before.
-fn helps_view<S: AsStr>(words: &[S]) -> bool
-    ensures { result ≡ helps_view false (map S.text words.now) }
+/// Whether words behind a command that takes so many, and `--json`, ask for its help, before one that
+/// it does not take; `--json` may stand once before.
+fn helps_within<S: AsStr>(most: usize, words: &[S]) -> bool
+    ensures { result ≡ helps_within most false (map S.text words.now) }
 {
+    let mut left = most;
     let mut json = false;
     let mut others = words;
     while let [word, rest @ ..] = others {
@@ -260,11 +286,17 @@ fn helps_view<S: AsStr>(words: &[S]) -> bool
         if is_help(word) {
             return true;
         }
-        let is_json = word == "--json";
-        if (is_json && json) || (!is_json && is_option(word)) {
-            return false;
+        if word == "--json" {
+            if json {
+                return false;
+            }
+            json = true;
+        } else {
+            if left == 0 || is_option(word) {
+                return false;
+            }
+            left -= 1;
         }
-        json = json || is_json;
         others = rest;
     }
     false
@@ -279,7 +311,8 @@ fn helps<S: AsStr>(takes: Option<Takes>, words: &[S]) -> bool
         Some(Takes::One(_)) => helps_behind(1, words),
         Some(Takes::Two(_)) => helps_behind(2, words),
         Some(Takes::Pieces) => helps_behind(words.len(), words),
-        Some(Takes::View(_)) => helps_view(words),
+        Some(Takes::View(_)) => helps_within(words.len(), words),
+        Some(Takes::PerhapsTwo) => helps_within(2, words),
     }
 }
 

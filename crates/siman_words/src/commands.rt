@@ -73,6 +73,9 @@ pub enum Task<'a, S> {
     /// A view: the file of the recording, the words that choose among the lines, and how these are
     /// spelled.
     View(ViewWord, &'a str, &'a [S], Spelling),
+    /// What contradicts what: the file of the recording, that of a certificate where the words name
+    /// one, and how the lines are spelled.
+    Why(&'a str, Option<&'a str>, Spelling),
 }
 
 /// What a command takes, and so what it is.
@@ -85,12 +88,15 @@ pub enum Takes {
     Pieces,
     /// The file of a recording, words that choose, and perhaps `--json`.
     View(ViewWord),
+    /// The file of a recording, perhaps that of a certificate, and perhaps `--json`.
+    PerhapsTwo,
 }
 
 /// How often a word of a command may stand.
 #[derive(Clone, Copy)]
 pub(crate) enum Often {
     Once,
+    AtMostOnce,
     OnceOrMore,
     AnyTimes,
 }
@@ -115,7 +121,7 @@ pub(crate) struct Row {
 }
 
 /// The table of the commands, in the order of the help.
-pub(crate) const ROWS: [Row; 12] = [
+pub(crate) const ROWS: [Row; 13] = [
     Row {
         name: "pdu",
         takes: Takes::One(OneWord::Pdu),
@@ -307,6 +313,24 @@ pub(crate) const ROWS: [Row; 12] = [
             },
         ],
     },
+    Row {
+        name: "why",
+        takes: Takes::PerhapsTwo,
+        about: "Tells what contradicts what: in a certificate that is not good, or in a recording that no order explains",
+        example: "Example:\n  siman why exercise.dsrc",
+        words: &[
+            Word {
+                name: "REC",
+                often: Often::Once,
+                about: "The file of the recording",
+            },
+            Word {
+                name: "CERT",
+                often: Often::AtMostOnce,
+                about: "The file of the certificate; without it the recording is asked alone",
+            },
+        ],
+    },
 ];
 
 /// The version of the program.
@@ -318,8 +342,8 @@ pub(crate) const ABOUT: &str =
 
 /// What the exit statuses tell, for the help, and the example of no words; those of the table follow.
 pub(crate) const STATUSES: &str = "Exit status:
-  0  the answer is on standard output; of `check` it is yes, of `audit` explained
-  1  a datagram is refused, or the answer of `check` is no, of `audit` blocked
+  0  the answer is on standard output; of `check` or `why` it is yes, of `audit` or `why` explained
+  1  a datagram is refused, or the answer of `check` or `why` is no, of `audit` or `why` blocked
   2  a fault of usage, hex text, files, scripts, worlds, lines or writing, told on standard error
   3  memory ran out
 

@@ -11,6 +11,7 @@ fn argument<'a>(alloc: Global, word: Word) -> Arg<'a> {
     let argument = Arg::new(alloc, word.name).help(word.about);
     match word.often {
         Often::Once => argument.required(true).action(ArgAction::Set),
+        Often::AtMostOnce => argument.action(ArgAction::Set),
         Often::OnceOrMore => argument
             .required(true)
             .action(ArgAction::Append)
@@ -19,7 +20,7 @@ fn argument<'a>(alloc: Global, word: Word) -> Arg<'a> {
     }
 }
 
-/// `--json`, which a view takes.
+/// `--json`, which views take, and the question why.
 fn json<'a>(alloc: Global) -> Arg<'a> {
     Arg::new(alloc, "json")
         .long("json")
@@ -32,7 +33,7 @@ fn arguments<'a>(alloc: Global, row: Row) -> Result<Vec<Arg<'a>>, AllocError> {
     for word in row.words {
         arguments.push(argument(alloc, *word))?;
     }
-    if let Takes::View(_) = row.takes {
+    if let Takes::View(_) | Takes::PerhapsTwo = row.takes {
         arguments.push(json(alloc))?;
     }
     Ok(arguments)
@@ -55,6 +56,7 @@ fn command<'a>(alloc: Global, row: Row) -> Result<Command<'a>, AllocError> {
         Takes::View(ViewWord::Log) => {
             command.override_usage("siman log <REC> [FILTER]... [--json]")
         }
+        Takes::PerhapsTwo => command.override_usage("siman why <REC> [CERT] [--json]"),
         Takes::Nothing(_) | Takes::One(_) | Takes::Two(_) => command,
     };
     command.args(arguments)

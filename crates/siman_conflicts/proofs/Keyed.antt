@@ -13,7 +13,8 @@ use Rattle.exercise_conflict.specs.declared.step_clash.StepClash.{StepClash}
 use Rattle.exercise_conflict.specs.declared.step_clash.StepClash.TheVariants as steps
 use Rattle.exercise_conflict.specs.declared.waits.Wait.{Wait}
 use Rattle.exercise_audit.specs.declared.blocks.Block.{Block}
-use Rattle.siman_conflicts.specs.Blocked.{blocked_line, block_line}
+use Rattle.siman_reports.specs.Report.{yes_line, no_line}
+use Rattle.siman_conflicts.specs.Blocked.{explained_line, blocked_line, block_line}
 use Rattle.siman_texts.specs.Keys.{keys_under, has_no_key_twice}
 use Rattle.siman_conflicts.specs.Lines.{entry_value, state_value, difference_value, rule_line, clash_line, step_clash_line, event_line, repair_line, wait_line, final_line, also_line, missing_line, fault_line, cycle_line}
 
@@ -66,6 +67,15 @@ cycle_apart r stations = refl
 
 pub repair_apart : (repair : Repair) → has_no_key_twice (repair_line repair) ≡ true
 repair_apart repair = refl
+
+pub explained_apart : (steps : ℕ) → has_no_key_twice (explained_line steps) ≡ true
+explained_apart steps = refl
+
+pub yes_apart : (records others : ℕ) → has_no_key_twice (yes_line records others) ≡ true
+yes_apart records others = refl
+
+pub no_apart : (step : ℕ) (cause : Cause) → has_no_key_twice (no_line step cause) ≡ true
+no_apart step cause = refl
 
 pub blocked_apart : (count : ℕ) → has_no_key_twice (blocked_line count) ≡ true
 blocked_apart count = refl

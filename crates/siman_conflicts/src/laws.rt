@@ -11,7 +11,8 @@ ghost use Rattle.exercise_conflict.specs.declared.step_clash.StepClash.{StepClas
 ghost use Rattle.exercise_conflict.specs.declared.waits.Wait.{Wait};
 ghost use Rattle.exercise_audit.specs.declared.blocks.Block.{Block};
 ghost use Rattle.siman_texts.specs.Keys.{has_no_key_twice};
-ghost use Rattle.siman_conflicts.specs.Blocked.{blocked_line, block_line};
+ghost use Rattle.siman_reports.specs.Report.{yes_line, no_line};
+ghost use Rattle.siman_conflicts.specs.Blocked.{explained_line, blocked_line, block_line};
 ghost use Rattle.siman_conflicts.specs.Lines.{repair_line, step_clash_line, rule_line, clash_line, wait_line, final_line, also_line, missing_line, fault_line, cycle_line};
 
 /// The law of keys: in JSON none of these lines has a key twice.
@@ -19,6 +20,9 @@ pub fn conflict_keys_come_once()
     ensures rules { (cause : Cause) → has_no_key_twice (rule_line cause) ≡ true }
     ensures clashes { (r : PlainRecording) (entry : ℕ) (clash : Clash) → has_no_key_twice (clash_line r entry clash) ≡ true }
     ensures steps { (r : PlainRecording) (clash : StepClash) → has_no_key_twice (step_clash_line r clash) ≡ true }
+    ensures explained { (steps : ℕ) → has_no_key_twice (explained_line steps) ≡ true }
+    ensures yes { (records others : ℕ) → has_no_key_twice (yes_line records others) ≡ true }
+    ensures no { (step : ℕ) (cause : Cause) → has_no_key_twice (no_line step cause) ≡ true }
     ensures blocked { (count : ℕ) → has_no_key_twice (blocked_line count) ≡ true }
     ensures blocks { (r : PlainRecording) (block : Block) → has_no_key_twice (block_line r block) ≡ true }
     ensures waits { (r : PlainRecording) (wait : Wait) → has_no_key_twice (wait_line r wait) ≡ true }

@@ -1,4 +1,4 @@
-use Rattle.siman_conflicts.proofs.Keyed.{rule_apart, clash_apart, wait_apart, final_apart, also_apart, missing_apart, fault_apart, cycle_apart, repair_apart, blocked_apart, block_apart, step_apart}
+use Rattle.siman_conflicts.proofs.Keyed.{rule_apart, clash_apart, wait_apart, final_apart, also_apart, missing_apart, fault_apart, cycle_apart, repair_apart, explained_apart, yes_apart, no_apart, blocked_apart, block_apart, step_apart}
 use Rattle.siman_conflicts.proofs.laws.conflict_keys_come_once.Goals as goal
 
 pub returns-clause-rules : goal.returns-clause-rules
@@ -36,3 +36,12 @@ returns-clause-blocks c = block_apart
 
 pub returns-clause-repairs : goal.returns-clause-repairs
 returns-clause-repairs c = repair_apart
+
+pub returns-clause-explained : goal.returns-clause-explained
+returns-clause-explained c = explained_apart
+
+pub returns-clause-yes : goal.returns-clause-yes
+returns-clause-yes c = yes_apart
+
+pub returns-clause-no : goal.returns-clause-no
+returns-clause-no c = no_apart

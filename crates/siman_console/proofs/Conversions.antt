@@ -1,7 +1,6 @@
 -- What is said of a recording is said of its conversion.
-use Rattle.std.proofs.Common.{◌≡◌, ◌↔◌, ◌⊎◌, ℕ, List, refl, sym, inl, inr, ◌∙◌}
+use Rattle.std.proofs.Common.{◌≡◌, ◌↔◌, ℕ, List, refl, sym, inl, inr, ◌∙◌}
 use Rattle.exercise_model.specs.declared.form.Form.TheVariants.{First}
-use Rattle.exercise_model.specs.declared.cause.Cause.{Cause}
 use Rattle.exercise_model.specs.Recording.{PlainRecording}
 use Rattle.exercise_model.specs.Account.{pair_of, change_behind, sender_of, first_able, others_of}
 use Rattle.exercise_model.specs.History.{log_of}

@@ -1,5 +1,5 @@
 -- What was fetched of a reader, that what is made of it depends on no more, and what is said where there was a fault.
-use Rattle.std.proofs.Common.{◌≡◌, ℕ, ◌+◌, ◌<◌, List, [], Option, Some, None, Err, nat_lt, length, IfSome, if◌then◌else◌, arith, refl, sym, ap, subst, ◌∙◌, inl, inr, take_all, ◌⊎◌, Result, Ok}
+use Rattle.std.proofs.Common.{◌≡◌, ℕ, ◌+◌, ◌<◌, List, [], Option, Some, None, Err, nat_lt, length, IfSome, if◌then◌else◌, arith, refl, sym, ap, subst, ◌∙◌, inl, inr, take_all, Result, Ok}
 use Rattle.std.proofs.lemmas.Bool.{cases_lt}
 use Rattle.std.proofs.lemmas.Bool.Decides.{nat_tests}
 use Rattle.std.proofs.lemmas.List.{length-take-le}
@@ -60,8 +60,3 @@ unfetched_recording fault recorded none = rw none tt
 pub at_fault : {X E : Type 0} (P : Result X E → Type 0) (fault : E) (result : Result X E) → IsErrAnd result (λ e. e ≡ fault) → P (Err fault) → P result
 at_fault P fault (Ok x) passed holds = absurd passed
 at_fault P fault (Err e) passed holds = subst (λ e. P (Err e)) (sym passed) holds
-
--- and what holds of two faults, of one that is either
-pub at_either : {E : Type 0} (P : E → Type 0) (fault one two : E) → (fault ≡ one) ⊎ (fault ≡ two) → P one → P two → P fault
-at_either P fault one two (inl same) first second = subst P (sym same) first
-at_either P fault one two (inr same) first second = subst P (sym same) second

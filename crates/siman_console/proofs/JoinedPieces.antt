@@ -1,18 +1,13 @@
 -- Pieces that are opened and read one after the other.
-use Rattle.std.proofs.Common.{◌≡◌, ℕ, ◌+◌, ◌<◌, List, [], ◌∷◌, ◌++◌, length, map, take, drop, get_or, take-append-drop, Option, Some, None, Result, Ok, Err, codes, decimal, false, inl, inr, refl, sym, ap, subst, ◌∙◌, append_assoc, append-nil, arith}
-use Rattle.std.specs.List.{All, flat_map, remove}
+use Rattle.std.proofs.Common.{◌≡◌, ℕ, ◌+◌, ◌<◌, List, [], ◌∷◌, ◌++◌, length, map, take, drop, get_or, take-append-drop, Result, Ok, Err, inl, inr, refl, sym, ap, subst, ◌∙◌, append_assoc, append-nil, arith}
+use Rattle.std.specs.List.{flat_map, remove}
 use Rattle.std.specs.Result.{IsErrAnd}
 use Rattle.std.proofs.lemmas.List.{map-append, length-map, get_or-map, drop_more, take_more}
-use Rattle.std.proofs.lemmas.List.Elements.{All-append, All-nil}
 use Rattle.std.proofs.lemmas.Grind.{flat_map-append}
-use Rattle.exercise_recording.specs.declared.joined.FormWord.{FormWord}
 use Rattle.exercise_recording.specs.Joining.{JoiningData}
 use Rattle.siman_console.specs.declared.fault.Fault.{Fault}
-use Rattle.siman_console.specs.declared.fault.Fault.TheVariants.{Memory}
-use Rattle.siman_console.specs.declared.program.join.JoinedFile.{JoinedFile}
-use Rattle.siman_console.specs.Opening.{OpensApart}
-use Rattle.siman_console.specs.Outside.{Deed, Found, WasHeld, Opens, Compares}
-use Rattle.siman_console.specs.Program.Join.{Seen, opening_deeds, StopsAt, OpensPieces, TakesPiece, ReadsBehind, ReadsPieces, Gives, ReadsAndGives}
+use Rattle.siman_console.specs.Outside.{Deed}
+use Rattle.siman_console.specs.Program.Join.{Seen, opening_deeds, TakesPiece, ReadsBehind}
 
 -- ---- opening
 

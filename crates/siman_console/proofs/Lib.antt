@@ -17,3 +17,5 @@ mod Conversions
 mod JoinedPieces
 mod Reviewed
 mod Logged
+mod Reasons
+mod Said

@@ -1,10 +1,10 @@
 -- What `live` leaves: where no file is created, and what stands in one.
-use Rattle.std.proofs.Common.{◌≡◌, ℕ, ◌+◌, ◌<◌, ◌≤◌, zero, suc, List, [], ◌∷◌, ◌++◌, length, map, take, get_or, refl, ap, sym, ◌∙◌, subst, inl, inr, arith, append-nil, ◌⊎◌}
-use Rattle.std.specs.Prelude.{Bool, true, false, Option, Some, None, IsSome, Result, Ok, Err, slice_get}
-use Rattle.std.specs.Io.KnownBytes.{Appends, Keeps}
+use Rattle.std.proofs.Common.{◌≡◌, ℕ, ◌≤◌, List, [], ◌++◌, length, take, refl, ap, sym, ◌∙◌, subst, inl, inr, arith, append-nil, ◌⊎◌}
+use Rattle.std.specs.Prelude.{Bool, true, false, Option, Some, None, IsSome, Result, Ok, Err}
+use Rattle.std.specs.Io.KnownBytes.{Appends}
 use Rattle.std.specs.List.{flat_map}
 use Rattle.std.proofs.lemmas.List.{take-append-le, take_all}
-use Rattle.byte_files.specs.Writing.{Writes, WritesPart}
+use Rattle.byte_files.specs.Writing.{WritesPart}
 use Rattle.byte_files.proofs.Offered.{writes_part, writes_then}
 use Rattle.exercise_model.specs.declared.form.Form.{Form}
 use Rattle.exercise_model.specs.Entry.{Entry}
@@ -18,15 +18,14 @@ use Rattle.exercise_recording.specs.declared.fault.WriterFault.TheVariants as fa
 use Rattle.exercise_recording.specs.Writer.{WriterState, Starts, Tears, start_refusal, finish_refusal, unless_write}
 use Rattle.siman_scripts.specs.declared.act.Move.{Move}
 use Rattle.siman_lines.specs.declared.station_at_line.StationAtLine.{StationAtLine}
-use Rattle.siman_lines.specs.AtLines.{Telling, AtLines, AreFresh, AreRun, HasRecorded}
+use Rattle.siman_lines.specs.AtLines.{Telling, AreFresh, AreRun, HasRecorded}
 use Rattle.siman_lines.specs.KeptAtLine.{IsTail, IsWritten}
 use Rattle.siman_lines.proofs.Offered.{beginning, recorded_at_lines}
 use Rattle.siman_console.specs.declared.fault.Fault.{Fault}
-use Rattle.siman_console.specs.declared.fault.Fault.TheVariants.{Output}
 use Rattle.siman_console.specs.Opening.{OpensApart}
-use Rattle.siman_console.specs.Outside.{Deed, Stream}
+use Rattle.siman_console.specs.Outside.{Deed}
 use Rattle.siman_console.specs.Program.Live.{is_created}
-use Rattle.siman_console.specs.Program.Live.Lived.{EndsRecording, Performs, Records, IsRecorded}
+use Rattle.siman_console.specs.Program.Live.Lived.{EndsRecording, Performs, IsRecorded}
 
 pub none_created : (name made : List ℕ) (deeds : List Deed) (fault : Fault) → OpensApart name made deeds (Err fault) → is_created deeds ≡ false
 none_created name made deeds fault (inl (kind, is, unopened)) = ap is_created is

@@ -1,6 +1,6 @@
 -- Moves that stations make at their lines.
-use Rattle.std.proofs.Common.{◌≡◌, ℕ, ◌+◌, ◌<◌, List, [], ◌∷◌, ◌++◌, length, map, take, set, get_or, refl, ap, sym, ◌∙◌, subst, inl, inr, arith, ◌⊎◌}
-use Rattle.std.specs.Prelude.{Option, Some, None, Result, Ok, Err, slice_get, slice_set}
+use Rattle.std.proofs.Common.{◌≡◌, ℕ, ◌+◌, ◌<◌, List, [], ◌∷◌, ◌++◌, length, map, set, get_or, refl, ap, sym, ◌∙◌, subst, inl, inr, arith}
+use Rattle.std.specs.Prelude.{Some, None, Result, Ok, Err, slice_get}
 use Rattle.std.specs.List.{enumerate_from}
 use Rattle.std.proofs.lemmas.List.FromFn.{get_or-enumerate_from, length-enumerate_from}
 use Rattle.std.proofs.lemmas.List.{map-id, length_push}
@@ -12,11 +12,11 @@ use Rattle.siman_scripts.specs.declared.act.Move.{Move}
 use Rattle.siman_lines.specs.declared.fault.AtLineFault.{AtLineFault}
 use Rattle.siman_lines.specs.declared.station_at_line.StationAtLine.{StationAtLine}
 use Rattle.siman_lines.specs.AtLines.{Telling, AtLines, One}
-use Rattle.siman_lines.specs.Steps.{Each, Stops}
+use Rattle.siman_lines.specs.Steps.{Each}
 use Rattle.siman_lines.proofs.Offered.{each_as, each_more}
 use Rattle.siman_console.specs.declared.fault.Fault.{Fault}
 use Rattle.siman_console.specs.declared.program.live.moves.Halt.{Halt}
-use Rattle.siman_console.specs.Program.Live.Moves.{of_line, of_done, at_move, ActsAt, ActEnds, ServesFour, IsMade, IsHindered, IsUnserved, JudgedEnds, MoveEnds, Gives, reason_against, MakesAt, HaltsAt, MovesEnd}
+use Rattle.siman_console.specs.Program.Live.Moves.{of_line, of_done, at_move, ActsAt, ActEnds, ServesFour, JudgedEnds, MoveEnds, Gives, reason_against, MakesAt, MovesEnd}
 
 err_inside : {X E : Type 0} (r : Result X E) (a b : E) → r ≡ Err a → r ≡ Err b → a ≡ b
 err_inside r a b e f = cc

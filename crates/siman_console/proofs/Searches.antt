@@ -1,16 +1,11 @@
 -- A recording that was searched, or carried over to the second format.
-use Rattle.std.proofs.Common.{◌≡◌, ◌<◌, ℕ, zero, suc, List, [], ◌∷◌, ◌++◌, length, Result, Ok, Err, refl, inl, inr, arith, ap, ◌∙◌}
+use Rattle.std.proofs.Common.{◌≡◌, ℕ, List, Result, Ok, Err, refl, inl, inr, ap, ◌∙◌}
 use Rattle.std.specs.Result.{IsErrAnd}
-use Rattle.std.specs.List.{All}
-use Rattle.std.proofs.lemmas.List.Elements.{All-nil, All-push, All-same, All-weaker}
 use Rattle.exercise_model.specs.Recording.{PlainRecording}
-use Rattle.exercise_model.specs.History.{History}
 use Rattle.exercise_recording.specs.declared.format_fault.RecordingFault.{RecordingFault}
 use Rattle.exercise_recording.specs.declared.format_fault.RecordingFault.TheVariants as recordings
 use Rattle.exercise_recording.specs.Reading.{format_of}
 use Rattle.byte_files.specs.Fields.{Fails}
-use Rattle.exercise_audit.specs.declared.blocks.Block.{Block}
-use Rattle.exercise_audit.specs.Audit.{AreBlocks, IsBlocked}
 use Rattle.siman_console.specs.declared.fault.Fault.{Fault}
 use Rattle.siman_console.specs.declared.program.audit.Finding.{Finding}
 use Rattle.siman_console.specs.Program.Check.{Recorded}
@@ -20,24 +15,6 @@ use Rattle.exercise_recording.specs.declared.conversion.ConvertFault.{ConvertFau
 use Rattle.exercise_recording.specs.declared.conversion.ConvertFault.TheVariants as converts
 use Rattle.exercise_recording.specs.Conversion.{ConversionData, IsOld, IsUnconverted, Readies}
 use Rattle.siman_console.specs.Program.Convert.{converted_text, IsUncarried, CarriesTexts}
-
--- each block is of one of the stations
-are_within : (r : PlainRecording) (h : History) (n : ℕ) (blocks : List Block) → AreBlocks r h n blocks → All (λ (b : Block). b.station < n) blocks
-are_within r h zero blocks are = All-same (λ (b : Block). b.station < 0) blocks [] are (All-nil (λ (b : Block). b.station < 0))
-are_within r h (suc s) blocks (inl done) =
-    All-weaker (λ (b : Block). b.station < s) (λ (b : Block). b.station < suc s) (λ b within. omega (arith, within)) blocks (are_within r h s blocks done.1)
-are_within r h (suc s) blocks (inr more) =
-    let others = more.0 in
-    let last = more.1 in
-    let before = All-weaker (λ (b : Block). b.station < s) (λ (b : Block). b.station < suc s) (λ b within. omega (arith, within)) others
-    (are_within r h s others more.3) in
-    let here : last.station < suc s = let at = more.4.station in omega (arith, at) in
-    All-same (λ (b : Block). b.station < suc s) blocks (others ++ last ∷ []) more.2
-    (All-push (λ (b : Block). b.station < suc s) others last before here)
-
-pub blocks_within : (r : PlainRecording) (blocks : List Block) → IsBlocked r blocks → All (λ (b : Block). b.station < length r.setting.stations) blocks
-blocks_within r blocks blocked =
-    are_within r blocked.some_end.0 (length r.setting.stations) blocks (blocked.blocks_are blocked.some_end.0 blocked.some_end.1)
 
 -- a recording that could not be read
 pub unsearched : (recorded : Recorded) (fault : RecordingFault) → Fails (format_of fault) recorded → IsUnsearched recorded (of_recording fault)

@@ -5,6 +5,7 @@ use Rattle.std.specs.List.{AllByRecursion}
 use Rattle.std.specs.Io.KnownBytes.{Appends, Keeps, IsAtEnd}
 use Rattle.std.proofs.KnownBytes.{Appends-trans, Appends-kept, Appends-nil, Keeps-refl}
 use Rattle.std.proofs.lemmas.Bool.{cases_lt}
+use Rattle.siman_console.specs.declared.input.Unread.{Unread}
 use Rattle.byte_files.specs.Writing.{WritesPart}
 use Rattle.dis_records.specs.Header.{header_at}
 use Rattle.siman_pdus.specs.declared.fault.PduFault.{PduFault}
@@ -13,7 +14,7 @@ use Rattle.siman_pdus.specs.Reading.{pdu_from, refusal_of}
 use Rattle.siman_scripts.specs.Text.{lines_of}
 use Rattle.siman_console.specs.declared.hex_text.TheConstants.{LONGEST_HEX}
 use Rattle.siman_console.specs.declared.fault.Fault.{Fault}
-use Rattle.siman_console.specs.declared.fault.Fault.TheVariants.{NotBytePairs, Input, Output, Memory}
+use Rattle.siman_console.specs.declared.fault.Fault.TheVariants.{NotBytePairs, Output, Memory}
 use Rattle.siman_console.specs.declared.program.pdus.Stop.{Stop}
 use Rattle.siman_console.specs.declared.program.pdus.Stop.TheVariants as stops
 use Rattle.siman_console.specs.Answer.{not_byte_pairs, said_of_reading, said_of_bytes, said_of_hex, IsSaid}
@@ -116,8 +117,9 @@ stops-in lines others line n (stops.Untold failed) o p q e f g number before tol
   subst (λ k. WritesTorn (stream e g) (told_of 0 lines).errors (told_of_line k line).errors) number
       (torn-behind e f g _ _ before.1 told.1),
 )
+stops-in lines others line n (stops.Unread failed) o p q e f g number before told = absurd told
 stops-in lines others line n (stops.Fault fault) o p q e f g number before (kept, inl short) =
-    (Appends-kept e f g _ before.1 kept, inl (inr short.0, Appends-kept o p q _ before.0 short.1))
+    (Appends-kept e f g _ before.1 kept, inl (short.0, Appends-kept o p q _ before.0 short.1))
 stops-in lines others line n (stops.Fault fault) o p q e f g number before (kept, inr failed) = (
   Appends-kept e f g _ before.1 kept,
   inr (
@@ -151,6 +153,7 @@ line-bad number line (Ok status) o p e f some bad kept told =
 line-bad number line (Err (stops.Untold failed)) o p e f some bad kept told =
     let same = told_of_line-some number line some ∙ ap (told_of_said number) bad in
     subst (λ (t : LinesTold). TellsLine t (Err (stops.Untold failed)) (stream o p) (stream e f)) (sym same) (kept, told)
+line-bad number line (Err (stops.Unread failed)) o p e f some bad kept told = absurd told
 line-bad number line (Err (stops.Fault fault)) o p e f some bad kept told = absurd told
 
 -- a line that was not told whole
@@ -260,11 +263,10 @@ told-all {a} {b} {o} {p} {e} {f} {number} {worst} before end =
     (all.0, all.1, subst (λ (lines : List (List ℕ)). TellsLines lines (Ok worst) (stream o p) (stream e f)) (sym all.2) (before.status, before.written))
 
 -- a read failed
-pub told-unread : {a b o p e f : Option (List ℕ)} {number worst : ℕ} → ToldSoFar a b o p e f number worst
-    → TellsInput a (Err (stops.Fault Input)) (stream o p) (stream e f)
-told-unread {a} {b} {o} {p} {e} {f} before =
-    stopped-between a b before.lines (stops.Fault Input) (stream o p) (stream e f) before.read
-    (λ rest. (before.written.1, inl (inl refl, before.written.0)))
+pub told-unread : {a b o p e f : Option (List ℕ)} {number worst : ℕ} (failed : Unread) → ToldSoFar a b o p e f number worst
+    → TellsInput a (Err (stops.Unread failed)) (stream o p) (stream e f)
+told-unread {a} {b} {o} {p} {e} {f} failed before =
+    stopped-between a b before.lines (stops.Unread failed) (stream o p) (stream e f) before.read (λ rest. before.written)
 
 -- it stopped in a line
 pub told-short : {a b c o p e f : Option (List ℕ)} {number worst held : ℕ} {buffer : List ℕ} (q g : Option (List ℕ)) (stop : Stop) → ToldSoFar a b o p e f number worst
@@ -278,6 +280,11 @@ told-short {a} {b} {c} {o} {p} {e} {f} {number} q g stop before size holds told 
     let torn = stops-in lines left.2.0 line number stop o p q e f g before.count before.written of_line in
     (left.0, left.1, (lines, line ∷ left.2.0, left.2.1 ∙ append_assoc lines (line ∷ []) left.2.0, torn))
 
+-- of a line of the same number
+pub at_number : (n m : ℕ) (line : List ℕ) (result : Result ℕ Stop) (out errors : Stream) → n ≡ m → TellsLine (told_of_line n line) result out errors
+    → TellsLine (told_of_line m line) result out errors
+at_number n m line result out errors same told = subst (λ (k : ℕ). TellsLine (told_of_line k line) result out errors) same told
+
 -- what was passed on is told
 pub passed_on : (known : Option (List ℕ)) (stop : Stop) (result : Result ℕ Stop) (out errors : Stream) → IsErrAnd result (λ e. e ≡ stop)
     → TellsInput known (Err stop) out errors → TellsInput known result out errors
@@ -290,4 +297,4 @@ pub told-nothing : (known : Option (List ℕ)) (result : Result ℕ Stop) (o e :
 told-nothing known result o e passed =
     let none = written-none o e in
     passed_on known (stops.Fault Memory) result (stream o o) (stream e e) passed
-    (stopped-between known known [] (stops.Fault Memory) (stream o o) (stream e e) (reads-none known) (λ rest. (none.1, inl (inr refl, none.0))))
+    (stopped-between known known [] (stops.Fault Memory) (stream o o) (stream e e) (reads-none known) (λ rest. (none.1, inl (refl, none.0))))

@@ -10,6 +10,7 @@ use Rattle.exercise_recording.specs.declared.format_fault.RecordingFault.TheVari
 use Rattle.exercise_recording.specs.FaultText as recording_texts
 use Rattle.exercise_recording.specs.declared.conversion.ConvertFault.{ConvertFault}
 use Rattle.exercise_recording.specs.declared.conversion.ConvertFault.TheVariants as converts
+use Rattle.exercise_check.specs.declared.certificate_fault.CertificateFault.{CertificateFault}
 use Rattle.exercise_check.specs.declared.certificate_fault.CertificateFault.TheVariants as certificates
 use Rattle.exercise_check.specs.FaultText as certificate_texts
 use Rattle.siman_manager.specs.declared.fault.OrderFault.TheVariants as orders
@@ -29,6 +30,8 @@ use Rattle.siman_console.specs.declared.fault.Ended.{Ended}
 use Rattle.siman_console.specs.declared.fault.Fault.TheVariants.{NotBytePairs, HexLine, Input, File, Words, Recording, Already, Piece, OtherExercise, StationTwice, Joined, Certificate, Script, ScriptRead, World, LineFailed, Filter, OverLimit, Output, SameAs, Exists, Memory}
 use Rattle.siman_console.specs.declared.files_fault.FilesFault.{FilesFault}
 use Rattle.siman_console.specs.declared.files_fault.FilesFault.TheVariants as files
+use Rattle.siman_console.specs.declared.input.InputFault.{InputFault}
+use Rattle.siman_console.specs.declared.input.InputFault.TheVariants as inputs
 use Rattle.siman_console.specs.declared.trial_fault.TrialFault.{TrialFault}
 use Rattle.siman_console.specs.declared.trial_fault.TrialFault.TheVariants as trials
 use Rattle.siman_reports.specs.Records.{line_end}
@@ -73,7 +76,7 @@ told_as (Certificate certificates.Memory) = (codes "certificate: ", codes "memor
 told_as (Script (scripts.BadLine line)) = (codes "script: ", codes "bad-line", Some (Line line))
 told_as (Script (scripts.UnknownStation line)) = (codes "script: ", codes "unknown-station", Some (Line line))
 told_as (Script scripts.Memory) = (codes "script: ", codes "memory", None)
-told_as ScriptRead = (codes "script: ", codes "read", None)
+told_as (ScriptRead failed) = (codes "script: ", codes "read", None)
 told_as (World worlds.Stations) = (codes "world: ", codes "stations", None)
 told_as (World (worlds.Move number fault)) = (codes "world: ", move_fault_name fault, Some (Move number))
 told_as (World worlds.Memory) = (codes "world: ", codes "memory", None)
@@ -126,6 +129,10 @@ abbrev pub of_recording : RecordingFault → Fault
 of_recording recordings.Memory = Memory
 of_recording fault = Recording fault
 
+abbrev pub of_certificate : CertificateFault → Fault
+of_certificate certificates.Memory = Memory
+of_certificate fault = Certificate fault
+
 -- how it is told that a recording was not carried over to the second format
 abbrev pub of_convert : ConvertFault → Fault
 of_convert (converts.Recording fault) = of_recording fault
@@ -137,6 +144,11 @@ of_convert converts.Memory = Memory
 abbrev pub of_script : ScriptFault → Fault
 of_script scripts.Memory = Memory
 of_script fault = Script fault
+
+-- how it is told that a script was not read whole
+abbrev pub of_unread_script : InputFault → Fault
+of_unread_script (inputs.Unread failed) = ScriptRead failed
+of_unread_script inputs.Memory = Memory
 
 abbrev pub of_world : WorldFault → Fault
 of_world worlds.Memory = Memory
@@ -150,7 +162,7 @@ of_files files.Memory = Memory
 
 -- how the fault of a trial is told
 abbrev pub of_trial : TrialFault → Fault
-of_trial trials.Read = ScriptRead
+of_trial (trials.Read failed) = ScriptRead failed
 of_trial (trials.Script fault) = Script fault
 of_trial (trials.World fault) = World fault
 of_trial trials.Write = Output

@@ -10,6 +10,7 @@ pub mod Pdus
 pub mod Review
 pub mod Show
 pub mod ScriptTrial
+pub mod Why
 pub mod World
 use Rattle.std.specs.Prelude.{◌≡◌, ◌⊎◌, ℕ, List, [], Option, Some, None, Result, Ok, Err, map, string_bytes, Vec, String, Bool, true, false}
 use Rattle.std.specs.declared.alloc.Global.{Global}
@@ -43,6 +44,7 @@ use Rattle.siman_console.specs.Program.Review.{ReviewsNamed}
 use Rattle.siman_console.specs.Saying.{SaysOfFile, SaysOfFiles}
 use Rattle.siman_console.specs.Program.Show.{ShowsFile}
 use Rattle.siman_console.specs.Program.ScriptTrial.{TriesInput}
+use Rattle.siman_console.specs.Program.Why.{WhyNamed}
 use Rattle.siman_console.specs.Program.World.{RunsFile, MakesWorld}
 
 -- WHAT A COMMAND DOES: which files it opened and made, in their order, what it answered or the fault that it met, and what it left on the writer of answers
@@ -80,6 +82,7 @@ EndsTask told (One command word) deeds input o = EndsAs (DoesOne command word de
 EndsTask told (Two command first second) deeds input o = EndsTwo told command first second deeds o
 EndsTask told (asks.Join pieces made form) deeds input o = EndsAs (JoinsPieces pieces made (word_of form) deeds) o
 EndsTask told (View view recording filters spelling) deeds input o = EndsAs (DoesView view recording filters spelling deeds) o
+EndsTask told (asks.Why recording certificate spelling) deeds input o = EndsAs (WhyNamed spelling recording certificate deeds) o
 
 -- HOW WORDS END that ask for no task: with want of memory, with the help that they ask for, or as a fault of usage, which is told on the writer of faults
 abbrev pub EndsUsage : (helps : Bool) → Outcome → Type 0

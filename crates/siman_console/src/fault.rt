@@ -4,9 +4,10 @@ ghost use Rattle.std.specs.Prelude.{◌≡◌, Some};
 ghost use Rattle.std.specs.IoError.{error_kind};
 ghost use Rattle.byte_files.specs.Writing.{Writes};
 ghost use Rattle.siman_console.specs.declared.fault.Fault.TheVariants.{Memory};
-ghost use Rattle.siman_console.specs.Ending.{move_fault_name, told_as, place_text, fault_text, fault_line, fault_status, IsToldAs, of_recording, of_convert, of_files, of_script, of_world, of_trial, Ends};
+ghost use Rattle.siman_console.specs.Ending.{move_fault_name, told_as, place_text, fault_text, fault_line, fault_status, IsToldAs, of_recording, of_convert, of_files, of_script, of_world, of_trial, of_unread_script, of_certificate, Ends};
 
 use crate::files_fault::FilesFault;
+use crate::input::{InputFault, Unread};
 use crate::join_limit::JoinLimit;
 use crate::place::{Place, put_place};
 use crate::trial_fault::TrialFault;
@@ -51,7 +52,7 @@ pub enum Fault<'a> {
     /// The text is no script; never for want of memory.
     Script(ScriptFault),
     /// The script could not be read.
-    ScriptRead,
+    ScriptRead(Unread),
     /// The world of the script does not run; never for want of memory.
     World(WorldFault),
     /// A line of a station could not be had, or a call of it failed.
@@ -123,7 +124,7 @@ impl<'a> Fault<'a> {
                 ("script: ", "unknown-station", Some(Place::Line(line)))
             }
             Fault::Script(ScriptFault::Memory) => ("script: ", "memory", None),
-            Fault::ScriptRead => ("script: ", "read", None),
+            Fault::ScriptRead(_) => ("script: ", "read", None),
             Fault::World(WorldFault::Stations) => ("world: ", "stations", None),
             Fault::World(WorldFault::Move(number, fault)) => {
                 ("world: ", move_fault_name(fault), Some(Place::Move(number)))
@@ -196,6 +197,18 @@ impl<T: Drop> From<AllocFailed<T>> for Fault<'_> {
     }
 }
 
+/// Of what is read whole, and is a script.
+impl From<InputFault> for Fault<'_> {
+    ghost from_gives = { λ fault e. e ≡ of_unread_script fault };
+
+    fn from(fault: InputFault) -> Self {
+        match fault {
+            InputFault::Unread(failed) => Fault::ScriptRead(failed),
+            InputFault::Memory => Fault::Memory,
+        }
+    }
+}
+
 impl From<RecordingFault> for Fault<'_> {
     ghost from_gives = { λ fault e. e ≡ of_recording fault };
 
@@ -203,6 +216,17 @@ impl From<RecordingFault> for Fault<'_> {
         match fault {
             RecordingFault::Memory => Fault::Memory,
             RecordingFault::Format(_) | RecordingFault::Read => Fault::Recording(fault),
+        }
+    }
+}
+
+impl From<CertificateFault> for Fault<'_> {
+    ghost from_gives = { λ fault e. e ≡ of_certificate fault };
+
+    fn from(fault: CertificateFault) -> Self {
+        match fault {
+            CertificateFault::Memory => Fault::Memory,
+            CertificateFault::Format(_) | CertificateFault::Read => Fault::Certificate(fault),
         }
     }
 }
@@ -260,7 +284,7 @@ impl From<TrialFault> for Fault<'_> {
 
     fn from(fault: TrialFault) -> Self {
         match fault {
-            TrialFault::Read => Fault::ScriptRead,
+            TrialFault::Read(failed) => Fault::ScriptRead(failed),
             TrialFault::Script(fault) => Fault::Script(fault),
             TrialFault::World(fault) => Fault::World(fault),
             TrialFault::Write => Fault::Output,

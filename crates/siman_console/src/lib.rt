@@ -5,12 +5,12 @@
 //! the status, over what a program may do [`Outside`]. Over readers and writers there are
 //! [`pdu_command`] and [`pdus_command`] for datagrams in hex text, [`show_command`] for recordings,
 //! [`check_command`] for a recording and its certificate, [`audit_command`] for the search of a
-//! recording, [`world_command`] for a script and the recording of its world, and [`trial`] for a
-//! script and the report of its world. The lines that they print are those of `siman_reports` and
-//! `siman_logs`;
-//! [`filter_of`] reads the words that choose among them. The contracts of the commands give
-//! the status and the bytes on the writer of the answer; the writer of faults gets bytes only where
-//! the status is 2 or 3.
+//! recording, [`review_command`] and [`log_command`] for views of a recording, [`why_command`] and
+//! [`why_not_command`] for what contradicts what, [`world_command`] for a script and the recording of
+//! its world, and [`trial`] for a script and the report of its world. The lines that they print are
+//! those of `siman_reports`, `siman_logs` and `siman_conflicts`; [`filter_of`] reads the words that
+//! choose among them. The contracts of the commands give the status and the bytes on the writer of the
+//! answer; the writer of faults gets bytes only where the status is 2 or 3.
 #![tactic(auto)]
 
 mod answer;
@@ -36,6 +36,7 @@ pub use answer::answers_follow_the_grammar;
 pub use fault::Ended;
 pub use files_fault::FilesFault;
 pub use filter_words::filter_of;
+pub use input::Unread;
 pub use laws::conversion_keeps_answers;
 pub use outside::Outside;
 pub use program::audit::audit_command;
@@ -48,6 +49,7 @@ pub use program::review::review_command;
 pub use program::run;
 pub use program::script_trial::{perform, trial};
 pub use program::show::{LARGEST_RECORDING, show_command};
+pub use program::why::{why_command, why_not_command};
 pub use program::world::world_command;
 pub use siman_scripts::{
     Act, LARGEST_SCRIPT, Move, Script, ScriptFault, WorldStation, read_script,

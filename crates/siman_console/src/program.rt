@@ -20,6 +20,7 @@ pub(crate) mod pdus;
 pub(crate) mod review;
 pub(crate) mod script_trial;
 pub(crate) mod show;
+pub(crate) mod why;
 pub(crate) mod world;
 
 use crate::fault::{Ended, Fault, end, of_error};
@@ -37,6 +38,7 @@ use crate::program::pdus::end_lines;
 use crate::program::review::review_named;
 use crate::program::script_trial::TrialCommand;
 use crate::program::show::ShowCommand;
+use crate::program::why::why_named;
 use crate::saying::{OfFile, say_of_file, say_of_files};
 use crate::usage::end_usage;
 use exercise_model::Recording;
@@ -78,7 +80,7 @@ fn end_two<O: Outside, W: Write, E: Write>(
 {
     match command {
         TwoWords::Check => end(
-            say_of_files::<CheckCommand, O, W>(alloc, words, outside, out),
+            say_of_files(alloc, &CheckCommand, words, outside, out),
             errors,
         ),
         TwoWords::Audit => end(
@@ -150,6 +152,10 @@ fn end_task<'a, O: Outside, R: Read + Drop, W: Write, E: Write>(
         Task::View(view, recording, words, spelling) => {
             let words = (recording, words);
             end(do_view(alloc, view, words, spelling, outside, out), errors)
+        }
+        Task::Why(recording, certificate, spelling) => {
+            let names = (recording, certificate);
+            end(why_named(alloc, names, spelling, outside, out), errors)
         }
     }
 }

@@ -32,17 +32,18 @@ pub(crate) trait OfFile {
 /// A command that says something of two files.
 pub(crate) trait OfFiles {
     /// What is said of files that have these bytes, as of one.
-    ghost says: { (first second : Option (List ℕ)) → Result ℕ Fault → (out : Stream) → Type 0 };
+    ghost says: { Self → (first second : Option (List ℕ)) → Result ℕ Fault → (out : Stream) → Type 0 };
 
     /// Says what there is to say of what two readers have, and gives the status.
     fn say<R: Read + Drop, S: Read + Drop, W: Write>(
+        &self,
         alloc: Global,
         first: R,
         second: S,
         out: &mut W,
     ) -> Result<u8, Fault<'static>>
         ensures { let out : Stream = record { old = W.contents out.old; new = W.contents out.new } in
-            says (R.remaining first) (S.remaining second) result out };
+            says self.now (R.remaining first) (S.remaining second) result out };
 }
 
 /// Opens a file, and says of it what a command says.
@@ -69,12 +70,13 @@ pub(crate) fn say_of_file<'a, C: OfFile, O: Outside, W: Write>(
 /// command says.
 pub(crate) fn say_of_files<'a, C: OfFiles, O: Outside, W: Write>(
     alloc: Global,
+    command: &C,
     names: (&'a str, &'a str),
     outside: &mut O,
     out: &mut W,
 ) -> Result<u8, Fault<'a>>
     ensures { let out : Stream = record { old = W.contents out.old; new = W.contents out.new } in
-        (deeds : List Deed) × Adds (O.deeds outside.old) (O.deeds outside.new) deeds × All (WasHeld (O.holds outside.old)) deeds × SaysOfFiles C.says names.entry.0.now names.entry.1.now deeds result out }
+        (deeds : List Deed) × Adds (O.deeds outside.old) (O.deeds outside.new) deeds × All (WasHeld (O.holds outside.old)) deeds × SaysOfFiles (C.says command.now) names.entry.0.now names.entry.1.now deeds result out }
 {
     let (name, other) = names;
     let first = match outside.open(name) {
@@ -85,7 +87,7 @@ pub(crate) fn say_of_files<'a, C: OfFiles, O: Outside, W: Write>(
         Ok(second) => {
             let first = outside.read(first);
             let second = outside.read(second);
-            C::say(alloc, first, second, out)
+            command.say(alloc, first, second, out)
         }
         Err(error) => Err(unopened(other, &error)),
     }

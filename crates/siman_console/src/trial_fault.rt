@@ -3,9 +3,10 @@
 ghost use Rattle.std.specs.Prelude.{◌≡◌, Some};
 ghost use Rattle.siman_console.specs.declared.trial_fault.TrialFault.TheVariants.{Memory};
 ghost use Rattle.siman_console.specs.Ending.{fault_text, fault_status, of_trial};
-ghost use Rattle.siman_console.specs.Program.ScriptTrial.{script_refused, world_refused};
+ghost use Rattle.siman_console.specs.Program.ScriptTrial.{unread, script_refused, world_refused};
 
 use crate::fault::Fault;
+use crate::input::{InputFault, Unread};
 use siman_scripts::ScriptFault;
 use siman_worlds::WorldFault;
 use std::alloc::AllocError;
@@ -16,7 +17,7 @@ use std::fmt;
 #[derive(Clone, Copy, Debug, PartialEq, Eq)]
 pub enum TrialFault {
     /// The script could not be read.
-    Read,
+    Read(Unread),
     /// The text is no script; never for want of memory.
     Script(ScriptFault),
     /// The world of the script does not run; never for want of memory.
@@ -45,6 +46,17 @@ impl fmt::Display for TrialFault {
 }
 
 impl Error for TrialFault {}
+
+impl From<InputFault> for TrialFault {
+    ghost from_gives = { λ fault e. e ≡ unread fault };
+
+    fn from(fault: InputFault) -> TrialFault {
+        match fault {
+            InputFault::Unread(failed) => TrialFault::Read(failed),
+            InputFault::Memory => TrialFault::Memory,
+        }
+    }
+}
 
 impl From<ScriptFault> for TrialFault {
     ghost from_gives = { λ fault e. e ≡ script_refused fault };

@@ -1,7 +1,8 @@
 //! Entries that contradict their own log.
 
-ghost use Rattle.std.specs.Prelude.{IfSome, Option, Some, is_some, true, ℕ, ◌≡◌};
+ghost use Rattle.std.specs.Prelude.{IfSome, Option, Some, is_some, slice_index_or, true, ℕ, ◌≡◌};
 ghost use Rattle.dis_records.specs.declared.entity_state.EntityState.{EntityState};
+ghost use Rattle.exercise_check.specs.Goodness.{IsFirstBad, no_step};
 ghost use Rattle.exercise_conflict.specs.Earlier.{Contradicts};
 ghost use Rattle.exercise_conflict.specs.Wider.{HasFurtherSends, IsWider};
 ghost use Rattle.exercise_conflict.specs.declared.clash.Clash.TheVariants as clashes;
@@ -12,9 +13,10 @@ ghost use Rattle.exercise_model.specs.Run.{Explains};
 ghost use Rattle.exercise_model.specs.declared.cause.Cause.TheVariants.{ReusedIdentifier, WrongState};
 ghost use Rattle.exercise_review.specs.Life.{state_before};
 
+use exercise_check::Certificate;
 use exercise_conflict::{
-    Clash, clash_of, clashes_are_the_conflict, earlier_is_the_conflict, earlier_of, final_is_final,
-    own_causes_stand, own_causes_stay,
+    Clash, bad_steps_have_own_causes, clash_of, clashes_are_the_conflict, earlier_is_the_conflict,
+    earlier_of, final_is_final, own_causes_stand, own_causes_stay,
 };
 use exercise_findings::Findings;
 use exercise_model::{Cause, ExerciseLog};
@@ -66,4 +68,22 @@ pub fn is_set_right<L: ExerciseLog>(findings: &Findings<'_, L>, entry: usize) ->
 {
     clashes_are_the_conflict();
     clash_of(findings, entry)
+}
+
+/// Whether the cause against the first bad step of a certificate is one that its entry has by the log of
+/// its station. Then another order does not mend that, but for what was sent too late.
+pub fn is_the_cause_of_its_entry<L: ExerciseLog>(
+    findings: &Findings<'_, L>,
+    certificate: &Certificate,
+    step: usize,
+    cause: Cause,
+) -> bool
+    requires { IsFirstBad findings.now certificate.now.steps.items step cause }
+    ensures { result ≡ true → own_cause findings.now (slice_index_or certificate.now.steps.items step no_step).place ≡ Some cause }
+{
+    bad_steps_have_own_causes();
+    !matches!(
+        cause,
+        Cause::CountDiffers | Cause::NoSuchRecord | Cause::OutOfOrder | Cause::BadLink
+    )
 }

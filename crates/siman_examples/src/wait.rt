@@ -1,6 +1,6 @@
 //! Stations that wait for one another.
 
-ghost use Rattle.std.specs.Prelude.{IfOk, is_some, length, true, ℕ, ◌<◌, ◌≡◌, ◌⊎◌};
+ghost use Rattle.std.specs.Prelude.{IfOk, is_some, length, slice_get, Some, true, ℕ, ◌<◌, ◌≡◌, ◌⊎◌};
 ghost use Rattle.exercise_audit.specs.Audit.{IsBlocked};
 ghost use Rattle.exercise_conflict.specs.Cycles.{AreWaits, EndsAt, IsTold};
 ghost use Rattle.exercise_model.specs.History.{History};
@@ -8,7 +8,10 @@ ghost use Rattle.exercise_model.specs.Recording.{IsRecording};
 ghost use Rattle.exercise_model.specs.Run.{Explains};
 
 use exercise_audit::Block;
-use exercise_conflict::{Wait, cycle_at, cycles_block, waits_of, ways_are_blocked, ways_end};
+use exercise_conflict::{
+    Wait, Way, cycle_at, cycles_block, each_block_has_its_way, waits_of, way_of, ways_are_blocked,
+    ways_end,
+};
 use exercise_findings::Findings;
 use exercise_model::{ExerciseLog, Recording};
 use std::alloc::{AllocError, Global};
@@ -41,4 +44,16 @@ pub fn block_in_a_ring(
 {
     cycles_block();
     cycle_at(alloc, waits, station)
+}
+
+/// What a station of a blocked list comes to: there is always something.
+pub fn comes_to_something<L: ExerciseLog>(
+    findings: &Findings<'_, L>,
+    blocks: &[Block],
+    block: Block,
+) -> Option<Way>
+    ensures { (n : ℕ) → IsBlocked findings.now blocks.now → slice_get blocks.now n ≡ Some block → is_some result ≡ true }
+{
+    each_block_has_its_way();
+    way_of(findings, blocks, block)
 }

@@ -8,10 +8,12 @@
 //! made.
 
 mod files;
+mod reasons;
 mod reviews;
 mod scripts;
 
 use crate::refusals::files::Judging;
+use crate::refusals::reasons::{Asking, AskingOfSteps};
 use crate::refusals::reviews::{Reviewing, make_streams};
 use crate::refusals::scripts::{Performing, ReadingScript, RunningWorld, Trying};
 use siman_refusals::{put_call, put_library_calls, room};
@@ -24,6 +26,8 @@ pub(crate) fn put_calls<W: Write>(alloc: Global, out: &mut W) -> io::Result<()> 
     put_library_calls(alloc, out)?;
     put_call::<Judging, _, _>(alloc, "check_files", room(alloc), out)?;
     put_call::<Reviewing, _, _>(alloc, "review_command", make_streams(alloc), out)?;
+    put_call::<Asking, _, _>(alloc, "why_command", make_streams(alloc), out)?;
+    put_call::<AskingOfSteps, _, _>(alloc, "why_not_command", make_streams(alloc), out)?;
     put_call::<ReadingScript, _, _>(alloc, "read_script", Ok(()), out)?;
     put_call::<RunningWorld, _, _>(alloc, "run_world", Ok(()), out)?;
     put_call::<Performing, _, _>(alloc, "perform", room(alloc), out)?;

@@ -2,9 +2,13 @@
 
 use crate::call::{Call, Said, refused, usual};
 use exercise_audit::{Audit, Block, audit};
-use exercise_conflict::{Fault, Lack, Wait, cycle_at, fault_of, lacks_of, waits_of};
+use exercise_check::Certificate;
+use exercise_conflict::{
+    Conflict, Enough, Explanation, Fault, Lack, Refusal, Repair, RepairedLog, StepClash, Verdict,
+    Wait, conflict_of, cycle_at, fault_of, lacks_of, repair_of, verdict_of, waits_of,
+};
 use exercise_findings::Findings;
-use exercise_model::{ExerciseLog, Recording};
+use exercise_model::{Cause, ExerciseLog, Recording};
 use exercise_review::Missing;
 use std::alloc::{AllocError, Global};
 
@@ -72,6 +76,68 @@ fn is_lack_told<L: ExerciseLog>(
     Ok(lacks.as_slice() == [LACK].as_slice())
 }
 
+/// That one send is missing, and is not enough.
+const NOT_ENOUGH: Repair = Repair {
+    sends: 1,
+    enough: Enough::No,
+};
+
+/// Whether a conflict is that of the recording: two ways in one ring, and nothing beside.
+fn is_conflict(conflict: &Conflict) -> bool {
+    conflict.ways.len() == 2
+        && conflict.cycles.len() == 1
+        && conflict.also.is_empty()
+        && conflict.lacks.as_slice() == [LACK].as_slice()
+        && conflict.repair == NOT_ENOUGH
+}
+
+/// Whether all that the recording contradicts is told as one.
+fn is_whole_told<L: ExerciseLog>(
+    alloc: Global,
+    findings: &Findings<'_, L>,
+) -> Result<bool, AllocError> {
+    match conflict_of(alloc, findings)? {
+        Explanation::Contradicted(conflict) => Ok(is_conflict(&conflict)),
+        Explanation::Explained(_) => Ok(false),
+    }
+}
+
+/// Whether the recording with the missing send has one entry more, and is not explained either.
+fn is_repair_told<L: ExerciseLog>(
+    alloc: Global,
+    findings: &Findings<'_, L>,
+) -> Result<bool, AllocError> {
+    let repair = repair_of(alloc, findings)?;
+    match RepairedLog::of(alloc, findings)? {
+        Some(log) => Ok(log.entry_count() == 6 && repair == NOT_ENOUGH),
+        None => Ok(false),
+    }
+}
+
+/// Why a certificate without steps is refused.
+const WITHOUT_STEPS: Refusal = Refusal {
+    step: 0,
+    cause: Cause::CountDiffers,
+    clash: Some(StepClash::CountDiffers {
+        steps: 0,
+        records: 5,
+        missing: Some(0),
+        twice: None,
+    }),
+    fault: Fault::Recording,
+};
+
+/// Whether it is told why a certificate without steps is refused.
+fn is_refusal_told(alloc: Global, log: &Recording) -> Result<bool, AllocError> {
+    let certificate = Certificate {
+        steps: Vec::new(alloc),
+    };
+    match verdict_of(alloc, log, &certificate)? {
+        Verdict::Bad(refusal) => Ok(refusal == WITHOUT_STEPS),
+        Verdict::Good(_) => Ok(false),
+    }
+}
+
 /// Whether it is told that the two wait on each other, what is missing, and that this is the
 /// recording's fault.
 fn is_told_by<L: ExerciseLog>(
@@ -81,13 +147,17 @@ fn is_told_by<L: ExerciseLog>(
     let ring = is_ring_told(alloc, findings)?;
     let lack = is_lack_told(alloc, findings)?;
     let fault = fault_of(alloc, findings)?;
-    Ok(ring && lack && fault == Fault::Recording)
+    let whole = is_whole_told(alloc, findings)?;
+    let repair = is_repair_told(alloc, findings)?;
+    Ok(ring && lack && fault == Fault::Recording && whole && repair)
 }
 
 /// Whether this is told of a log.
 fn is_told(alloc: Global, log: &Recording) -> Result<bool, AllocError> {
     let findings = Findings::of(alloc, log)?;
-    is_told_by(alloc, &findings)
+    let told = is_told_by(alloc, &findings)?;
+    let refused = is_refusal_told(alloc, log)?;
+    Ok(told && refused)
 }
 
 impl Call<Recording> for Contradicting {

@@ -1,11 +1,8 @@
 -- What `audit` says of a recording, and how it ends.
-use Rattle.std.specs.Prelude.{◌≡◌, ◌⊎◌, ℕ, List, [], ◌∷◌, map, length, codes, string_bytes, Option, Result, Ok, Err}
+use Rattle.std.specs.Prelude.{◌≡◌, ◌⊎◌, ℕ, List, [], length, codes, string_bytes, Option, Result, Ok, Err}
 use Rattle.std.specs.Io.KnownBytes.{Appends, Keeps}
 use Rattle.byte_files.specs.Writing.{WritesPart}
-use Rattle.dis_records.specs.Address.{Pair}
-use Rattle.exercise_model.specs.Numbers.{cause_number, cause_text}
 use Rattle.exercise_model.specs.Recording.{PlainRecording}
-use Rattle.exercise_model.specs.History.{station_at}
 use Rattle.exercise_model.specs.Headline.{Holds}
 use Rattle.exercise_model.specs.Alike.{IsAlwaysAsSaid}
 use Rattle.exercise_recording.specs.declared.format_fault.FormatFault.{FormatFault}
@@ -27,8 +24,8 @@ use Rattle.siman_console.specs.Outside.{Has, Stream, Deed}
 use Rattle.siman_console.specs.Making.{WritesShort, MakesFile}
 use Rattle.siman_console.specs.declared.program.show.TheConstants.{LARGEST_RECORDING}
 use Rattle.exercise_recording.specs.Reading.{recording_at}
-use Rattle.siman_texts.specs.Line.{Number, Word, Bare, Keyed, Line, named_line}
-use Rattle.siman_texts.specs.Spelled.{address_text, line_text, lines_text}
+use Rattle.siman_texts.specs.Spelled.{line_text, lines_text}
+use Rattle.siman_conflicts.specs.Blocked.{blocked_lines}
 
 -- ---- the lines
 
@@ -36,19 +33,9 @@ use Rattle.siman_texts.specs.Spelled.{address_text, line_text, lines_text}
 abbrev pub explained_text : ℕ → List ℕ
 explained_text steps = line_text (counted (codes "explained") (codes "steps") steps)
 
--- blocked SITE:APPLICATION record=N cause=N NAME
-abbrev pub block_at : Pair → Block → Line
-block_at address b =
-    named_line (codes "blocked") (Bare (codes "address") (Word (address_text address)) ∷ Keyed (codes "record") (Number b.entry)
-    ∷ Keyed (codes "cause") (Number (cause_number b.cause)) ∷ Bare (codes "name") (Word (cause_text b.cause)) ∷ [])
-
--- with the address of its station
-abbrev pub block_line : PlainRecording → Block → Line
-block_line r b = block_at (station_at r b.station).address b
-
 -- THE BLOCKED LIST: blocked stations=N, and a line for each block, in their order
 abbrev pub blocked_text : PlainRecording → List Block → List ℕ
-blocked_text r blocks = lines_text (counted (codes "blocked") (codes "stations") (length blocks) ∷ map (block_line r) blocks)
+blocked_text r blocks = lines_text (blocked_lines r blocks)
 
 -- The text is the blocked list of a recording that no run explains.
 abbrev pub IsListOf : PlainRecording → (text : List ℕ) → Type 0

@@ -31,7 +31,7 @@ use Rattle.siman_scripts.specs.declared.act.Move.{Move}
 abbrev pub BeginsNone : Scripted → Fault → Type 0
 BeginsNone scripted (Script (scripts.BadLine line)) = scripted ≡ Err (scripts.BadLine line)
 BeginsNone scripted (Script (scripts.UnknownStation line)) = scripted ≡ Err (scripts.UnknownStation line)
-BeginsNone scripted ScriptRead = ⊤
+BeginsNone scripted (ScriptRead failed) = ⊤
 BeginsNone scripted (World worlds.Stations) = (s : ScriptData) × (scripted ≡ Ok s) × (are_world_stations s.stations ≡ false)
 BeginsNone scripted Memory = ⊤
 BeginsNone scripted other = ⊥

@@ -59,14 +59,15 @@ abbrev pub OfFirst : List (List ℕ) → (List ℕ → Type 0) → Type 0
 OfFirst [] Leaves = ⊥
 OfFirst (line ∷ lines) Leaves = Leaves line
 
--- WHERE IT STOPS after these lines, which are told whole, before the end of the rest: want of memory or a failed read leaves nothing of the next line, a failed write a prefix of what is told of it
+-- WHERE IT STOPS after these lines, which are told whole, before the end of the rest: a failed read or want of memory leaves nothing of the next line, a failed write a prefix of what is told of it
 abbrev pub StopsAfter : (whole rest : List (List ℕ)) → Stop → (out errors : Stream) → Type 0
 StopsAfter whole rest (stops.Untold failed) out errors =
     Appends out.old out.new (told_of 0 whole).out
     × OfFirst rest (λ line. WritesTorn errors (told_of 0 whole).errors (told_of_line (length whole + 1) line).errors)
+StopsAfter whole rest (stops.Unread failed) out errors = IsWritten (told_of 0 whole) out errors
 StopsAfter whole rest (stops.Fault fault) out errors =
     Appends errors.old errors.new (told_of 0 whole).errors
-    × ((((fault ≡ Input) ⊎ (fault ≡ Memory)) × Appends out.old out.new (told_of 0 whole).out)
+    × (((fault ≡ Memory) × Appends out.old out.new (told_of 0 whole).out)
     ⊎ ((fault ≡ Output) × OfFirst rest (λ line. WritesTorn out (told_of 0 whole).out (told_of_line (length whole + 1) line).out)))
 
 -- WHAT IS WRITTEN OF LINES: what is told of them, with the worst status of them; or of the first ones
@@ -79,12 +80,14 @@ TellsLines lines (Err stop) out errors =
 abbrev pub TellsBad : (number : ℕ) → Result ℕ Stop → (errors : Stream) → Type 0
 TellsBad number (Ok status) errors = (status ≡ 2) × Appends errors.old errors.new (fault_line (HexLine number))
 TellsBad number (Err (stops.Untold failed)) errors = WritesPart errors.old errors.new (fault_line (HexLine number))
+TellsBad number (Err (stops.Unread failed)) errors = ⊥
 TellsBad number (Err (stops.Fault fault)) errors = ⊥
 
 -- of one line, of which this is to be told: all of it, or of its text a prefix
 abbrev pub TellsLine : LinesTold → Result ℕ Stop → (out errors : Stream) → Type 0
 TellsLine told (Ok status) out errors = (status ≡ told.status) × IsWritten told out errors
 TellsLine told (Err (stops.Untold failed)) out errors = Keeps out.old out.new × WritesPart errors.old errors.new told.errors
+TellsLine told (Err (stops.Unread failed)) out errors = ⊥
 TellsLine told (Err (stops.Fault fault)) out errors =
     Keeps errors.old errors.new
     × (((fault ≡ Memory) × Keeps out.old out.new) ⊎ ((fault ≡ Output) × WritesPart out.old out.new told.out))
@@ -127,6 +130,7 @@ ReadsNext old new buffer (Some held) = HoldsLine old new buffer held
 abbrev pub EndsAt : Result ℕ Stop → Ended → (old new : Option (List ℕ)) → Type 0
 EndsAt (Ok status) ended old new = Ends (Ok status) ended old new
 EndsAt (Err (stops.Fault fault)) ended old new = Ends (Err fault) ended old new
+EndsAt (Err (stops.Unread failed)) ended old new = Ends (Err Input) ended old new
 EndsAt (Err (stops.Untold failed)) ended old new = (ended ≡ record { status = 2; written = Err failed }) × Keeps old new
 
 -- HOW `pdus` ENDS whose input has these lines: what it told of them is out and on the writer of faults, and it ends as that asks for

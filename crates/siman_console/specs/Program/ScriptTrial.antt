@@ -13,6 +13,8 @@ use Rattle.siman_worlds.specs.declared.world_fault.WorldFault.{WorldFault}
 use Rattle.siman_worlds.specs.declared.world_fault.WorldFault.TheVariants as worlds
 use Rattle.siman_scripts.specs.Script.{ScriptData}
 use Rattle.siman_console.specs.declared.fault.Fault.{Fault}
+use Rattle.siman_console.specs.declared.input.InputFault.{InputFault}
+use Rattle.siman_console.specs.declared.input.InputFault.TheVariants as inputs
 use Rattle.siman_console.specs.declared.trial_fault.TrialFault.{TrialFault}
 use Rattle.siman_console.specs.declared.trial_fault.TrialFault.TheVariants.{Read, Script, World, Write, Memory}
 use Rattle.siman_console.specs.Ending.{of_trial}
@@ -44,7 +46,7 @@ IsTriedInPart s old new = IsClosed s × WritesPart old new (trial_text (recordin
 abbrev pub Performs : ScriptData → Result Bool TrialFault → Option (List ℕ) → Option (List ℕ) → Type 0
 Performs s (Ok true) old new = IsTried s old new
 Performs s (Ok false) old new = ⊥
-Performs s (Err Read) old new = ⊥
+Performs s (Err (Read failed)) old new = ⊥
 Performs s (Err (Script fault)) old new = ⊥
 Performs s (Err (World worlds.Stations)) old new = (refusal_of s ≡ Some worlds.Stations) × Keeps old new
 Performs s (Err (World (worlds.Move number fault))) old new = (refusal_of s ≡ Some (worlds.Move number fault)) × Keeps old new
@@ -60,7 +62,7 @@ OfScript scripted Holds = (s : ScriptData) × (scripted ≡ Ok s) × Holds s
 abbrev pub Tries : Scripted → Result Bool TrialFault → Option (List ℕ) → Option (List ℕ) → Type 0
 Tries scripted (Ok true) old new = OfScript scripted (λ s. Performs s (Ok true) old new)
 Tries scripted (Ok false) old new = ⊥
-Tries scripted (Err Read) old new = Keeps old new
+Tries scripted (Err (Read failed)) old new = Keeps old new
 Tries scripted (Err (Script (scripts.BadLine line))) old new = (scripted ≡ Err (scripts.BadLine line)) × Keeps old new
 Tries scripted (Err (Script (scripts.UnknownStation line))) old new = (scripted ≡ Err (scripts.UnknownStation line)) × Keeps old new
 Tries scripted (Err (Script scripts.Memory)) old new = ⊥
@@ -68,7 +70,11 @@ Tries scripted (Err (World fault)) old new = OfScript scripted (λ s. Performs s
 Tries scripted (Err Write) old new = OfScript scripted (λ s. Performs s (Err Write) old new)
 Tries scripted (Err Memory) old new = Keeps old new
 
--- how the fault of a script, and that of its world, is passed on
+-- how it is passed on that a text was not read whole, the fault of a script, and that of its world
+abbrev pub unread : InputFault → TrialFault
+unread (inputs.Unread failed) = Read failed
+unread inputs.Memory = Memory
+
 abbrev pub script_refused : ScriptFault → TrialFault
 script_refused scripts.Memory = Memory
 script_refused fault = Script fault

@@ -53,7 +53,7 @@ Stops scripted fault = (s : ScriptData) × (scripted ≡ Ok s) × (refusal_of s 
 abbrev pub YieldsNone : Scripted → Fault → Type 0
 YieldsNone scripted (Script (scripts.BadLine line)) = scripted ≡ Err (scripts.BadLine line)
 YieldsNone scripted (Script (scripts.UnknownStation line)) = scripted ≡ Err (scripts.UnknownStation line)
-YieldsNone scripted ScriptRead = ⊤
+YieldsNone scripted (ScriptRead failed) = ⊤
 YieldsNone scripted (World worlds.Stations) = Stops scripted worlds.Stations
 YieldsNone scripted (World (worlds.Move number fault)) = Stops scripted (worlds.Move number fault)
 YieldsNone scripted Memory = ⊤

@@ -1,16 +1,14 @@
 //! The command `audit`: a recording, searched for an order that explains it.
 
-ghost use Rattle.std.specs.Prelude.{◌≡◌, ◌<◌, ◌≤◌, ◌++◌, ℕ, List, Option, map, length, All, Ok, IfOk, OnOk, string_bytes};
+ghost use Rattle.std.specs.Prelude.{◌≡◌, ◌≤◌, ℕ, List, Option, length, All, Ok, IfOk};
 ghost use Rattle.std.specs.Io.KnownBytes.{Keeps};
 ghost use Rattle.exercise_recording.specs.Reading.{recording_at};
 ghost use Rattle.exercise_check.specs.Certificate.{certificate_text};
 ghost use Rattle.exercise_check.specs.Goodness.{IsGood};
-ghost use Rattle.exercise_audit.specs.declared.blocks.Block.{Block as BlockData};
 ghost use Rattle.exercise_audit.specs.Audit.{IsBlocked};
 ghost use Rattle.siman_console.specs.declared.program.show.TheConstants.{LARGEST_RECORDING};
 ghost use Rattle.siman_console.specs.Outside.{Has, Stream, Deed, Found, Adds, WasHeld};
-ghost use Rattle.siman_texts.specs.Spelled.{lines_text};
-ghost use Rattle.siman_console.specs.Program.Audit.{block_line, Finds, Searches, PutsBlocked, PutsFinding, TellsAudit, EndsAudit, MakesFinding};
+ghost use Rattle.siman_console.specs.Program.Audit.{Finds, Searches, PutsBlocked, PutsFinding, TellsAudit, EndsAudit, MakesFinding};
 
 use crate::fault::{Fault, end};
 use crate::making::{Making, make_file, settle_and_say};
@@ -22,8 +20,9 @@ use exercise_audit::{Audit, Block, audit};
 use exercise_check::{Certificate, good_steps_have_no_cause, write_certificate};
 use exercise_model::{ExerciseLog, entries_stand, what_explains_holds};
 use exercise_recording::{RecordingView, fetch_recording};
+use siman_conflicts::put_blocked;
 use siman_reports::counted;
-use siman_texts::{Field, Line, Spelling, Value, put_line};
+use siman_texts::Spelling;
 use std::alloc::{AllocError, Global};
 use std::io::{Read, Write};
 
@@ -143,37 +142,14 @@ fn certificate_bytes(alloc: Global, certificate: &Certificate) -> Result<Vec<u8>
 }
 
 /// The blocked list of a recording that no order explains.
-#[tactic(auto, using(crate::proofs::Searches::blocks_within))]
+#[tactic(auto, using(siman_conflicts::proofs::Offered::blocks_within))]
 fn stuck<L: ExerciseLog>(alloc: Global, log: &L, blocks: &[Block]) -> Result<Finding, AllocError>
     requires { IsBlocked (L.recording log.now) blocks.now }
     ensures { IfOk result (Finds (Ok (L.recording log.now))) }
 {
-    let mut text = counted(alloc, "blocked", "stations", blocks.len())?;
-    put_blocks(alloc, &mut text, log, blocks)?;
+    let mut text = String::new(alloc);
+    put_blocked(alloc, &mut text, Spelling::Text, log, blocks)?;
     Ok(Finding::Stuck(text))
-}
-
-fn put_blocks<L: ExerciseLog>(
-    alloc: Global,
-    text: &mut String,
-    log: &L,
-    blocks: &[Block],
-) -> Result<(), AllocError>
-    requires { All (λ (b : BlockData). b.station < length (L.recording log.now).setting.stations) blocks.now }
-    ensures { OnOk result (string_bytes text.new ≡ string_bytes text.old ++ lines_text (map (block_line (L.recording log.now)) blocks.now)) }
-{
-    for block in blocks {
-        let (address, cause) = (log.station(block.station).address(), block.cause);
-        let name = format!(in alloc; "{cause}")?;
-        let fields = [
-            Field::Bare("address", Value::Address(address)),
-            Field::Keyed("record", Value::Number(block.entry as u64)),
-            Field::Keyed("cause", Value::Number(cause.number() as u64)),
-            Field::Bare("name", Value::Word(&name)),
-        ];
-        put_line(text, Spelling::Text, &Line::named("blocked", &fields))?;
-    }
-    Ok(())
 }
 
 /// Writes what was found, and gives the status.

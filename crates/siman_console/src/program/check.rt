@@ -77,11 +77,7 @@ pub fn check_command<R: Read + Drop, C: Read + Drop, W: Write, E: Write>(
         × EndsCheck (recording_at LARGEST_RECORDING bytes) (certificate_at LARGEST_CERTIFICATE text) result (W.contents out.old) (W.contents out.new) (E.contents errors.old) (E.contents errors.new)) }
     ensures silent { result ≤ 1 → Keeps (E.contents errors.old) (E.contents errors.new) }
 {
-    end(
-        CheckCommand::say(alloc, recording, certificate, out),
-        errors,
-    )
-    .status
+    end(CheckCommand.say(alloc, recording, certificate, out), errors).status
 }
 
 /// The command, which judges the recording of a file by the certificate of another.
@@ -90,9 +86,10 @@ pub(crate) struct CheckCommand;
 impl OfFiles for CheckCommand {
     ghost use Rattle.siman_console.specs.Program.Check.{ChecksFiles};
 
-    ghost says = { ChecksFiles };
+    ghost says = { λ _. ChecksFiles };
 
     fn say<R: Read + Drop, S: Read + Drop, W: Write>(
+        &self,
         alloc: Global,
         first: R,
         second: S,

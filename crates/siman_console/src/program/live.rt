@@ -47,7 +47,7 @@ fn begin_script<R: Read + Drop>(alloc: Global, script: R) -> Result<Begun, Fault
     ensures { (text : List ℕ) × Has (R.remaining script) text × Begins (script_at text) result }
 {
     let mut script = script;
-    let text = read_text(alloc, &mut script, LARGEST_SCRIPT, Fault::ScriptRead)?;
+    let text = read_text(alloc, &mut script, LARGEST_SCRIPT)?;
     begin_text(alloc, &text)
 }
 

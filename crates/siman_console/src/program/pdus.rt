@@ -4,7 +4,7 @@ ghost use Rattle.std.specs.Prelude.{◌≡◌, ◌+◌, ◌<◌, List, ℕ, leng
 ghost use Rattle.std.specs.Io.Buffered.{reader_remaining};
 ghost use Rattle.siman_scripts.specs.Text.{lines_of};
 ghost use Rattle.siman_console.specs.declared.hex_text.TheConstants.{LONGEST_HEX};
-ghost use Rattle.siman_console.specs.declared.fault.Fault.TheVariants.{Input, Memory};
+ghost use Rattle.siman_console.specs.declared.fault.Fault.TheVariants.{Memory};
 ghost use Rattle.siman_console.specs.declared.program.pdus.Stop.TheVariants as stops;
 ghost use Rattle.siman_console.specs.Ending.{Wrote};
 ghost use Rattle.siman_console.specs.Outside.{Has, Stream, Outcome};
@@ -12,16 +12,19 @@ ghost use Rattle.siman_console.specs.Program.Pdus.{told_of_line, TellsBad, Tells
 
 use crate::fault::{Ended, Fault, end, tell as tell_fault};
 use crate::hex_text::LONGEST_HEX;
+use crate::input::{Count, Unread, fill};
 use crate::program::pdu::tell;
-use byte_files::{ReadFailed, WriteFailed, fill};
+use byte_files::WriteFailed;
 use std::alloc::{AllocError, Global};
 use std::io::{BufReader, Read, Write};
 
 /// Why the lines of an input were not all told.
 #[derive(Clone, Copy)]
 pub(crate) enum Stop {
-    /// Memory ran out, a read failed, or an answer could not be written whole.
+    /// Memory ran out, or an answer could not be written whole.
     Fault(Fault<'static>),
+    /// A read failed.
+    Unread(Unread),
     /// The line that tells of a bad line could not be written whole.
     Untold(WriteFailed),
 }
@@ -34,11 +37,11 @@ impl From<AllocError> for Stop {
     }
 }
 
-impl From<ReadFailed> for Stop {
-    ghost from_gives = { λ _ stop. stop ≡ stops.Fault Input };
+impl From<Unread> for Stop {
+    ghost from_gives = { λ failed stop. stop ≡ stops.Unread failed };
 
-    fn from(_e: ReadFailed) -> Stop {
-        Stop::Fault(Fault::Input)
+    fn from(failed: Unread) -> Stop {
+        Stop::Unread(failed)
     }
 }
 
@@ -84,6 +87,7 @@ fn end_at<E: Write>(answered: Result<u8, Stop>, errors: &mut E) -> Ended
     match answered {
         Ok(status) => end(Ok(status), errors),
         Err(Stop::Fault(fault)) => end(Err(fault), errors),
+        Err(Stop::Unread(_)) => end(Err(Fault::Input), errors),
         Err(Stop::Untold(failed)) => Ended {
             status: 2,
             written: Err(failed),
@@ -132,24 +136,27 @@ fn tell_lines<R: Read, W: Write, E: Write>(
         (bytes : List ℕ) × Has (R.remaining reader.old) bytes × TellsLines (lines_of bytes) result out errors }
 {
     let mut worst = 0;
-    for number in 1..usize::MAX {
+    let mut count = Count::new();
+    loop {
+        let number = count.one_more()?;
         let Some(held) = read_line(reader, buffer)? else {
             return Ok(worst);
         };
         let status = tell_line(alloc, number, &buffer[..held], out, errors)?;
         worst = worst.max(status);
     }
-    Err(Stop::from(ReadFailed))
 }
 
 /// Reads the next line of a reader, which a line feed ends that the last may lack, and answers how
 /// many bytes of it the buffer has: all, or as many as it holds. None is the end.
-fn read_line<R: Read>(reader: &mut R, buffer: &mut [u8]) -> Result<Option<usize>, ReadFailed>
+fn read_line<R: Read>(reader: &mut R, buffer: &mut [u8]) -> Result<Option<usize>, Unread>
     requires { 0 < length buffer.old }
     ensures { IfOk result (ReadsNext (R.remaining reader.old) (R.remaining reader.new) buffer.new) }
 {
     let mut held = 0;
-    for _ in 0..u64::MAX {
+    let mut count = Count::new();
+    loop {
+        count.one_more()?;
         let mut byte = [0; 1];
         if fill(reader, &mut byte)? == 0 {
             return Ok(if held == 0 { None } else { Some(held) });
@@ -162,7 +169,6 @@ fn read_line<R: Read>(reader: &mut R, buffer: &mut [u8]) -> Result<Option<usize>
             held += 1;
         }
     }
-    Err(ReadFailed)
 }
 
 /// Tells a line, and gives its status.

@@ -59,11 +59,8 @@ pub fn trial<R: Read + Drop, W: Write>(
     ensures { (text : List ℕ) × Has (R.remaining input) text × Tries (script_at text) result (W.contents out.old) (W.contents out.new) }
 {
     let mut input = input;
-    match read_text(alloc, &mut input, LARGEST_SCRIPT, Fault::ScriptRead) {
-        Ok(text) => try_text(alloc, &text, out),
-        Err(Fault::Memory) => Err(TrialFault::Memory),
-        Err(_) => Err(TrialFault::Read),
-    }
+    let text = read_text(alloc, &mut input, LARGEST_SCRIPT)?;
+    try_text(alloc, &text, out)
 }
 
 /// What no words ask for: the script of standard input is tried, with status 0.

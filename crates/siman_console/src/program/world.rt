@@ -71,7 +71,7 @@ fn run_script<R: Read + Drop>(alloc: Global, script: R) -> Result<Recording, Fau
     ensures { (text : List ℕ) × Has (R.remaining script) text × Runs (script_at text) result }
 {
     let mut script = script;
-    let text = read_text(alloc, &mut script, LARGEST_SCRIPT, Fault::ScriptRead)?;
+    let text = read_text(alloc, &mut script, LARGEST_SCRIPT)?;
     run_text(alloc, &text)
 }
 

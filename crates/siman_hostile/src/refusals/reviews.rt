@@ -14,8 +14,8 @@ order 0 from=1:1 request=1 create-entity to=2:3:7 at=2:3 sends=1 receipts=1 got=
 /// What an answer and a fault are written to.
 #[derive(Drop)]
 pub(crate) struct Streams {
-    out: Vec<u8>,
-    errors: Vec<u8>,
+    pub out: Vec<u8>,
+    pub errors: Vec<u8>,
 }
 
 /// Room for an answer and for a fault.

@@ -1,6 +1,5 @@
 -- What standard input asks for is answered with no file; what words ask for, as their files have it.
 use Rattle.std.proofs.Common.{ℕ, List, [], Option, refl}
-use Rattle.std.proofs.KnownBytes.{Keeps-refl}
 use Rattle.std.proofs.lemmas.List.Elements.{All-nil}
 use Rattle.siman_words.specs.declared.commands.NoWord.{NoWord}
 use Rattle.siman_words.specs.declared.commands.NoWord.TheVariants.{Pdus}
@@ -45,3 +44,8 @@ pub returns-in-View : goal.returns-in-View
 returns-in-View g c =
     let did = c.do_view.ensures in
     rw c.in-View.is (did.0, did.1, did.2, (c.do_view.result, did.3, c.end-in-View.ensures))
+
+pub returns-in-Why : goal.returns-in-Why
+returns-in-Why g c =
+    let did = c.why_named.ensures in
+    rw c.in-Why.is (did.0, did.1, did.2, (c.why_named.result, did.3, c.end-in-Why.ensures))

@@ -1,5 +1,5 @@
 -- The first word that asks for no filter is told.
-use Rattle.std.proofs.Common.{◌≡◌, ◌++◌, List, ℕ, Option, None, sym, ap, ◌∙◌, inl, append-nil}
+use Rattle.std.proofs.Common.{◌≡◌, ◌++◌, None, sym, ap, ◌∙◌, inl, append-nil}
 use Rattle.std.specs.Prelude.{codes}
 use Rattle.siman_console.specs.FilterWords.{filter_of}
 use Rattle.siman_console.proofs.Reviewed.{first_bad}

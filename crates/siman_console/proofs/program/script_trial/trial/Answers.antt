@@ -1,25 +1,28 @@
 -- What was fetched is tried as all that there was would be.
 use Rattle.std.proofs.KnownBytes.{Keeps-refl}
-use Rattle.std.proofs.Common.{Err, subst}
+use Rattle.std.proofs.Common.{ℕ, List, Option, Err, subst}
 use Rattle.siman_scripts.specs.Script.{script_at}
-use Rattle.siman_console.specs.declared.trial_fault.TrialFault.TheVariants.{Read, Memory}
-use Rattle.siman_console.specs.Program.ScriptTrial.{Tries}
-use Rattle.siman_console.proofs.Inputs.{of_script, of_any}
+use Rattle.siman_console.specs.declared.input.InputFault.{InputFault}
+use Rattle.siman_console.specs.declared.input.InputFault.TheVariants as inputs
+use Rattle.siman_console.specs.Program.World.{Scripted}
+use Rattle.siman_console.specs.Program.ScriptTrial.{Tries, unread}
+use Rattle.siman_console.proofs.Inputs.{at_fault, of_script, of_any}
 use Rattle.siman_console.proofs.program.script_trial.trial.Goals as goal
 
-pub returns-in-Ok : goal.returns-in-Ok
-returns-in-Ok g c =
-    let w = g.W.Write.contents in
-    of_script (λ scripted. Tries scripted c.try_text.result (w c.args.out.now) (w c.try_text.new.out)) (g.R.Read.remaining c.args.input)
-    c.in-Ok.text.items c.in-Ok.ensures.text
-    (subst (λ text. Tries (script_at text) c.try_text.result (w c.args.out.now) (w c.try_text.new.out)) c.deref.ensures.value c.try_text.ensures)
+not_read : (scripted : Scripted) (fault : InputFault) (kept : Option (List ℕ)) → Tries scripted (Err (unread fault)) kept kept
+not_read scripted (inputs.Unread failed) kept = Keeps-refl kept
+not_read scripted inputs.Memory kept = Keeps-refl kept
 
-pub returns-in-Err-Memory : goal.returns-in-Err-Memory
-returns-in-Err-Memory g c =
+pub returns-in_err-text : goal.returns-in_err-text
+returns-in_err-text g c =
     let kept = g.W.Write.contents c.args.out.now in
-    of_any (λ text. Tries (script_at text) (Err Memory) kept kept) (g.R.Read.remaining c.args.input) (λ text. Keeps-refl kept)
+    of_any (λ text. Tries (script_at text) c.from_residual.result kept kept) (g.R.Read.remaining c.args.input)
+    (λ text. at_fault (λ r. Tries (script_at text) r kept kept) (unread c.in_err-text.field-0.0) _ c.from_residual.ensures.1
+    (not_read (script_at text) c.in_err-text.field-0.0 kept))
 
 pub returns : goal.returns
 returns g c =
-    let kept = g.W.Write.contents c.args.out.now in
-    of_any (λ text. Tries (script_at text) (Err Read) kept kept) (g.R.Read.remaining c.args.input) (λ text. Keeps-refl kept)
+    let w = g.W.Write.contents in
+    of_script (λ scripted. Tries scripted c.try_text.result (w c.args.out.now) (w c.try_text.new.out)) (g.R.Read.remaining c.args.input)
+    c.in_ok-text.text.items c.in_ok-text.ensures.text
+    (subst (λ text. Tries (script_at text) c.try_text.result (w c.args.out.now) (w c.try_text.new.out)) c.deref.ensures.value c.try_text.ensures)

@@ -4,7 +4,7 @@ use Rattle.siman_console.proofs.Inputs.{at_fault}
 use Rattle.siman_console.proofs.Moved.{hindered, served}
 use Rattle.siman_console.specs.Program.Live.Moves.{JudgedEnds}
 use Rattle.siman_console.proofs.Judged.{stands_at, judged_there, passes_on, on_any, served_any}
-use Rattle.siman_lines.proofs.Offered.{follows_none, follows_one, follows_then}
+use Rattle.siman_lines.proofs.Offered.{follows_one, follows_then}
 use Rattle.siman_console.proofs.program.live.moves.judge_and_make.Goals as goal
 
 pub returns-in_err-act_at-clause-fault : goal.returns-in_err-act_at-clause-fault

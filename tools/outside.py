@@ -3,10 +3,9 @@
 
 It runs every command on good and bad words, input and files, with streams that are full, closed or not read, and with
 memory refused at each allocation in turn, and compares the exit status and both streams with what the pages README.md,
-docs/TEXTS.md, docs/FORMATS.md, docs/LAYOUTS.md, docs/PROFILE.md, docs/MODEL.md, docs/LINES.md, docs/SCRIPTS.md,
-docs/ORDERS.md and docs/APPLICATION.md say.
-What they say is computed in pages/, which knows nothing of the program; the cases stand in cases/. The scripts of examples/ and
-tools/ that write recordings are tried with it. It is no part of the gate.
+READING.md, SCRIPTS.md and NETWORK.md of docs/staff/ and docs/integrators/FORMATS.md say. What they say is computed in
+pages/, which knows nothing of the program; the cases stand in cases/. The scripts of examples/ and tools/ that write
+recordings are tried with it. It is no part of the gate.
 
 Each wrong case is told in one line; the last line is `N tried, M wrong`, and the status is 1 if any is wrong.
 """
@@ -22,7 +21,7 @@ sys.dont_write_bytecode = True
 
 from cases import (
     audits, converts, datagrams, files, histories, joins, lives, logs, memory, mends, reviews, saving, scripts, sizes, sockets,
-    streams, words, worlds,
+    streams, whys, words, worlds,
 )  # fmt: skip
 from cases.examples import TOP, made_examples
 from cases.trials import Trials, described
@@ -46,7 +45,7 @@ def try_program(program, folder):
     trials = Trials(str(program), folder)
     examples = made_examples(folder)
     parts = (
-        words, datagrams, files, histories, audits, converts, mends, joins, reviews, logs, scripts, worlds, lives, sockets, sizes, saving,
+        words, datagrams, files, histories, audits, converts, mends, joins, reviews, logs, whys, scripts, worlds, lives, sockets, sizes, saving,
         streams, memory,
     )  # fmt: skip
     for part in parts:

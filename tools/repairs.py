@@ -2,25 +2,27 @@
 """Tries what `siman why` says of recordings that lack sends, on made-up recordings.
 
 It makes small recordings of two or three stations that no run explains: an exercise whose events are made up, of which
-one to three sends were left out, or a byte of a datagram changed, or two entries of a station swapped. Of each it works
-out by docs/MODEL.md alone (tools/pages/histories.py) which sends the logs lack, and searches for itself:
+one to three sends were left out, or a byte of a datagram changed, or two entries of a station swapped. Of each it takes
+the lines `missing` and `repair` that the program tells, and searches for itself as docs/staff/READING.md says
+(tools/pages):
 
-- the lines `missing` are these sends, at their places, and `repair sends=N` counts them;
+- the lines `missing` are the sends that the logs lack, at their places, and `repair sends=N` counts them;
 - where `repair` says `yes`, the recording with these sends at their places is explained, and it is not with one of them
-  left out;
-- where it says `no`, it is not, and neither with these sends at any other places (each place for one or two of them, made-up
-  places for more), nor with one of them sent twice;
+  left out; `siman audit` and `siman check` say the same of these recordings;
+- where it says `no`, it is not, as `audit` says too, and neither with these sends at any other places (each place for one
+  or two of them, made-up places for more), nor with one of them sent twice;
 - where it says `unknown`, it is not, and one of them is an Able.
 
     tools/repairs.py [PROGRAM] [--recordings N] [--seed N]
 
-Without PROGRAM, which has to be built, what the pages say is tried alone: the search agrees with what is worked out. It is
-no part of the gate. Each wrong answer is told in one line; the last line is `N tried, M wrong` with how many of each word
-there were, and the status is 1 if any is wrong.
+Without PROGRAM, which has to be built, the lines are those that tools/pages works out. It is no part of the gate. Each
+wrong answer is told in one line; the last line is `N tried, M wrong` with how many of each word there were, and the
+status is 1 if any is wrong.
 """
 import argparse
 import itertools
 import random
+import re
 import subprocess
 import sys
 import tempfile
@@ -29,83 +31,56 @@ from pathlib import Path
 
 sys.dont_write_bytecode = True
 
-from pages.datagrams import ABLE
-from pages.files import RECEIVED, SENT, TOLD, Entry, Recording, Station
-from pages.histories import Course, go_on, is_answer, request_of, response_of
+from cases.texts import DIRECTOR, fixed_datum, pdu, received, recording_text, sent, told
+from pages import (
+    ABLE, ACKNOWLEDGE, CREATE, DATA, DATA_QUERY, RUNNING, SENT, START, STOPPED, TOLD, UNABLE, Recording, Station, Story,
+    answer_to_why, missing_sends, response_of, searched, with_sends,
+)  # fmt: skip
 
 SITES = ((1, 1), (2, 3), (2, 4))
 PLACES = 60  # made-up places that are tried of three sends or more
+MISSING = re.compile(r"missing (\d+) at=(\d+):(\d+) after=(\d+|-)")
+REPAIR = re.compile(r"repair sends=(\d+) enough=(yes|no|unknown)")
 
 
-def head(kind, length, origin, target):
-    return bytes([7, 1, kind, 5, 0, 0, 0, 0]) + length.to_bytes(2, "big") + b"\0\0" + identifier(origin) + identifier(target)
-
-
-def identifier(parts):
-    return b"".join(part.to_bytes(2, "big") for part in parts)
-
-
-def create(asker, entity, request):
-    return head(11, 28, (*asker, 0), entity) + request.to_bytes(4, "big")
-
-
-def start(asker, entity, request):
-    return head(13, 44, (*asker, 0), entity) + bytes(16) + request.to_bytes(4, "big")
-
-
-def query(asker, entity, request):
-    return head(18, 40, (*asker, 0), entity) + request.to_bytes(4, "big") + bytes(12)
-
-
-def data(entity, asker, request):
-    return head(20, 40, entity, (*asker, 0)) + request.to_bytes(4, "big") + bytes(12)
-
-
-def acknowledge(entity, asker, flag, response, request):
-    return head(15, 32, entity, (*asker, 0)) + flag.to_bytes(2, "big") + response.to_bytes(2, "big") + request.to_bytes(4, "big")
-
+# Recordings that are made up.
 
 def comment(origin, target, mark):
     """A Comment with one fixed datum."""
-    return head(22, 40, (*origin, 0), (*target, 0)) + (1).to_bytes(4, "big") + bytes(4) + mark.to_bytes(4, "big") + bytes(4)
+    return pdu(22, (*origin, 0), (*target, 0), fixed=1, records=fixed_datum(mark, 0))
+
+
+def exchanged(chance, entity, request, states):
+    """An order of the first station for an entity, and an answer to it; what an Able changes is noted."""
+    kind = chance.choice((CREATE, START, DATA_QUERY))
+    order = pdu(kind, DIRECTOR, entity, request=request)
+    if kind == DATA_QUERY:
+        return order, pdu(DATA, entity, DIRECTOR, request=request)
+    may = entity not in states if kind == CREATE else entity in states
+    response = ABLE if may and chance.random() < 0.7 else UNABLE
+    if response == ABLE:
+        states[entity] = STOPPED if kind == CREATE else RUNNING
+    flag = 1 if kind == CREATE else 3
+    return order, pdu(ACKNOWLEDGE, entity, DIRECTOR, flag=flag, response=response, request=request)
 
 
 def made_exercise(chance):
-    """The entries of an exercise that ran: orders and answers of two or three stations, and comments."""
+    """An exercise that ran: orders and answers of two or three stations, and comments."""
     sites = SITES[: chance.choice((2, 2, 3))]
-    entries, states, manager = [], {}, sites[0]
+    entries, states = [], {}
     for request in range(1, chance.randint(2, 5)):
         place = chance.randrange(1, len(sites))
-        site = sites[place]
-        entity = (*site, chance.choice((7, 8)))
-        kind = chance.choice(("create", "start", "query", "comment", "comment back"))
-        if kind.startswith("comment"):
-            sender, getter = (0, place) if kind == "comment" else (place, 0)
+        entity = (*sites[place], chance.choice((7, 8)))
+        if chance.random() < 0.4:
+            sender, getter = chance.choice(((0, place), (place, 0)))
             datagram = comment(sites[sender], sites[getter], request)
             entries += [sent(sender, datagram), received(getter, datagram)]
             continue
-        order = {"create": create, "start": start, "query": query}[kind](manager, entity, request)
-        entries += [sent(0, order), received(place, order)]
-        if kind == "query":
-            answer = data(entity, manager, request)
-        else:
-            may = entity not in states if kind == "create" else entity in states
-            response = ABLE if may and chance.random() < 0.7 else 2
-            if response == ABLE:
-                states[entity] = 1 if kind == "create" else 2
-            answer = acknowledge(entity, manager, 1 if kind == "create" else 3, response, request)
-        entries += [sent(place, answer), received(0, answer)]
+        order, answer = exchanged(chance, entity, request, states)
+        entries += [sent(0, order), received(place, order), sent(place, answer), received(0, answer)]
         if entity in states and chance.random() < 0.3:
-            entries.append(Entry(TOLD, place, None, None, entity[2], states[entity]))
+            entries.append(told(place, entity[2], states[entity]))
     return Recording(1, [Station(*site, []) for site in sites], entries)
-
-
-def sent(station, datagram):
-    return Entry(SENT, station, 0, datagram, None, None)
-
-
-def received(station, datagram):
-    return Entry(RECEIVED, station, 0, datagram, None, None)
 
 
 def spoilt(chance, recording):
@@ -130,57 +105,58 @@ def spoilt(chance, recording):
 
 
 def is_explained(recording):
-    course = Course(recording)
-    while go_on(course):
-        pass
-    return len(course.taken) == len(course.entries)
+    return not searched(recording)[1]
 
 
-def missing_of(recording):
-    """For each datagram that a log lacks the send of: its first receipt, its station, and the entry before its place."""
-    course, found, told = Course(recording), [], set()
-    senders = {station[:2]: index for index, station in enumerate(recording.stations)}
-    for index, entry in enumerate(recording.entries):
-        pdu = course.meanings[index]
-        station = senders.get(tuple(pdu.origin[:2])) if pdu and entry.kind == RECEIVED else None
-        if station is None or entry.datagram in told:
-            continue
-        told.add(entry.datagram)
-        if not any(other.kind == SENT and other.station == station and other.datagram == entry.datagram for other in recording.entries):
-            found.append((index, station, place_of(course, station, pdu)))
-    return found
+# What is told, and what is wrong with it.
+
+class Pages:
+    """What the pages say, in the place of the program."""
+
+    def why(self, recording):
+        return answer_to_why(recording_text(recording)).out.decode()
+
+    def audit(self, recording):
+        return is_explained(recording)
 
 
-def place_of(course, station, pdu):
-    if not is_answer(pdu):
-        return None
-    course.taken = [index for index, _ in enumerate(course.entries)]
-    place = course.taken_up(station, pdu)
-    course.taken = []
-    return place
+class Program:
+    """The program, in a folder for its files."""
+
+    def __init__(self, program, folder):
+        self.program, self.path, self.made = program, Path(folder) / "made.dsrc", Path(folder) / "made.dsct"
+
+    def run(self, *words):
+        done = subprocess.run([self.program, *words], capture_output=True, text=True, timeout=60, check=False)
+        return done.stdout
+
+    def why(self, recording):
+        self.path.write_bytes(recording_text(recording))
+        return self.run("why", self.path)
+
+    def audit(self, recording):
+        """Whether the search finds an order, which the checker then takes."""
+        self.path.write_bytes(recording_text(recording))
+        explained = self.run("audit", self.path, self.made).startswith("explained ")
+        if explained and not self.run("check", self.path, self.made).startswith("yes "):
+            return None
+        return explained
 
 
-def with_sends(recording, sends):
-    """The recording with sends, each a station, a datagram and the entry that it stands behind (None: the start)."""
-    entries = [sent(station, datagram) for station, datagram, place in sends if place is None]
-    for index, entry in enumerate(recording.entries):
-        entries.append(entry)
-        entries += [sent(station, datagram) for station, datagram, place in sends if place == index]
-    return recording._replace(entries=entries)
-
-
-def text_of(recording):
-    """The file of a recording of the first form."""
-    text = bytearray(b"DSRC0001" + bytes([recording.exercise]) + len(recording.stations).to_bytes(2, "big"))
-    for station in recording.stations:
-        text += station.site.to_bytes(2, "big") + station.application.to_bytes(2, "big") + b"\0\0"
-    for entry in recording.entries:
-        text += bytes([entry.kind]) + entry.station.to_bytes(2, "big")
-        if entry.kind == TOLD:
-            text += entry.entity.to_bytes(2, "big") + bytes([entry.state])
-        else:
-            text += entry.stamp.to_bytes(8, "big") + len(entry.datagram).to_bytes(2, "big") + entry.datagram
-    return bytes(text + b"\0" + len(recording.entries).to_bytes(4, "big"))
+def told_of(recording, lines):
+    """What lines tell: the sends that are missing, each with its first receipt, sender and place; the word of `repair`."""
+    addresses = [station[:2] for station in recording.stations]
+    missing, word = [], None
+    for line in lines.splitlines():
+        found = MISSING.fullmatch(line)
+        if found:
+            index, site, application, place = found.groups()
+            sender = addresses.index((int(site), int(application)))
+            missing.append((int(index), sender, None if place == "-" else int(place)))
+        found = REPAIR.fullmatch(line)
+        if found and int(found[1]) == len(missing):
+            word = found[2]
+    return missing, word
 
 
 def places_for(recording, station):
@@ -197,39 +173,40 @@ def others(chance, recording, sends):
     for places in chosen:
         moved = [(station, datagram, place) for (station, datagram, _), place in zip(sends, places)]
         yield moved
-        yield moved + [chance.choice(moved)[:2] + (chance.choice(places_for(recording, moved[0][0])),)] if moved else moved
+        if moved:
+            station, datagram, _ = chance.choice(moved)
+            yield moved + [(station, datagram, chance.choice(places_for(recording, station)))]
 
 
-def word_of(chance, recording, lacks):
-    """What `repair` is to say, and what is wrong with that, if something is."""
-    sends = [(station, recording.entries[index].datagram, place) for index, station, place in lacks]
-    able = any(response_of(Course(recording).meanings[index]) == ABLE for index, _, _ in lacks)
-    if is_explained(with_sends(recording, sends)):
+def fault_of(chance, recording, story, missing, word, asked):
+    """What is wrong with the word of `repair`, or None."""
+    sends = [(station, recording.entries[index].datagram, place) for index, station, place in missing]
+    whole = with_sends(recording, sends)
+    if is_explained(whole) != (word == "yes") or asked.audit(whole) != (word == "yes"):
+        return f"`{word}`: with the sends the search says {is_explained(whole)}, audit {asked.audit(whole)}"
+    if word == "yes":
         for left in range(len(sends)):
-            if is_explained(with_sends(recording, sends[:left] + sends[left + 1 :])):
-                return "yes", f"it is explained without send {left} too"
-        return "yes", None
-    if able:
-        return "unknown", None
-    for other in others(chance, recording, sends):
+            fewer = with_sends(recording, sends[:left] + sends[left + 1 :])
+            if is_explained(fewer) or asked.audit(fewer):
+                return f"it is explained without send {left} too"
+        return None
+    if any(response_of(story.meanings[index]) == ABLE for index, _, _ in missing) != (word == "unknown"):
+        return f"`{word}`, and whether one of the sends is an Able says otherwise"
+    for other in others(chance, recording, sends) if word == "no" else ():
         if is_explained(with_sends(recording, other)):
-            return "no", f"it is explained with the sends behind {[place for _, _, place in other]}"
-    return "no", None
+            return f"it is explained with the sends behind {[place for _, _, place in other]}"
+    return None
 
 
-def expected_lines(recording, lacks, word):
-    lines = []
-    for index, station, place in lacks:
-        site, application = recording.stations[station][:2]
-        lines.append(f"missing {index} at={site}:{application} after={'-' if place is None else place}")
-    return lines + [f"repair sends={len(lacks)} enough={word}"]
-
-
-def told_lines(program, recording, folder):
-    path = Path(folder) / "made.dsrc"
-    path.write_bytes(text_of(recording))
-    done = subprocess.run([program, "why", path], capture_output=True, text=True, timeout=60)
-    return [line for line in done.stdout.splitlines() if line.split()[0] in ("missing", "repair")]
+def judged(chance, recording, asked):
+    """The word of `repair` for a recording, and what is wrong with what is told, or None."""
+    story, told = Story(recording), told_of(recording, asked.why(recording))
+    missing, word = told
+    if missing != missing_sends(story):
+        return word, f"missing are {missing_sends(story)}; told were {missing}"
+    if word is None:
+        return word, f"no `repair` with {len(missing)} sends"
+    return word, fault_of(chance, recording, story, missing, word, asked)
 
 
 def main():
@@ -241,22 +218,19 @@ def main():
     given = parser.parse_args()
     chance, tried, wrong, words = random.Random(given.seed), 0, 0, Counter()
     with tempfile.TemporaryDirectory() as folder:
+        asked = Program(given.program, folder) if given.program else Pages()
         while tried < given.recordings:
             recording = spoilt(chance, made_exercise(chance))
             if is_explained(recording):
                 continue
             tried += 1
-            lacks = missing_of(recording)
-            word, fault = word_of(chance, recording, lacks)
+            word, fault = judged(chance, recording, asked)
             words[word] += 1
-            if not fault and given.program:
-                expected, came = expected_lines(recording, lacks, word), told_lines(given.program, recording, folder)
-                fault = None if came == expected else f"expected {expected}; came {came}"
             if fault:
                 wrong += 1
                 print(f"wrong: recording {tried}: {fault}")
-    told = ", ".join(f"{count} {word}" for word, count in sorted(words.items()))
-    print(f"{tried} tried, {wrong} wrong ({told})")
+    counts = ", ".join(f"{count} {word}" for word, count in sorted(words.items(), key=str))
+    print(f"{tried} tried, {wrong} wrong ({counts})")
     return 1 if wrong else 0
 
 

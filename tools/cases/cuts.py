@@ -1,9 +1,9 @@
 """A datagram of each kind, cut to every length.
 
 Each stands here as hex text, with the places where its parts begin: its fixed part at 12, then each datum record or
-identifier. They were taken by hand from the tables of LAYOUTS.md and follow from nothing in this repository. A datagram
-that is cut is truncated under 12 bytes; from there on its length field tells; and where that is mended too, its body is
-short at the first part that is not wholly there.
+identifier. They were taken by hand from the layouts of FORMATS.md and follow from nothing in this repository. A
+datagram that is cut is truncated under 12 bytes; from there on its length field tells; and where that is mended too,
+its body is short at the first part that is not wholly there.
 """
 import struct
 

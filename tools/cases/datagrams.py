@@ -1,4 +1,4 @@
-"""Datagrams of each kind: whole, cut, longer, and with fields changed; and the tables of LAYOUTS.md."""
+"""Datagrams of each kind: whole, cut, longer, and with fields changed; and the layouts of FORMATS.md."""
 import re
 import struct
 
@@ -44,9 +44,10 @@ def try_largest_datagrams(trials):
 
 
 def tables_of_layouts():
-    """The offsets and sizes of the fields of each kind, as LAYOUTS.md has them from byte 24 on, without the records."""
+    """The offsets and sizes of the fields of each kind, as FORMATS.md has them from byte 24 on, without the records."""
     tables = {}
-    for section in (TOP / "docs" / "LAYOUTS.md").read_text(encoding="utf-8").split("\n## ")[1:]:
+    page = (TOP / "docs" / "integrators" / "FORMATS.md").read_text(encoding="utf-8")
+    for section in page.partition("\n## Layouts")[2].partition("\n## ")[0].split("\n### ")[1:]:
         fields = [(int(at), int(size)) for at, size in re.findall(r"^\| (\d+) \| (\d+) \|", section, re.MULTILINE)]
         for kind in re.findall(r"\((\d+)\)", section.splitlines()[0]):
             tables[int(kind)] = fields
@@ -58,7 +59,7 @@ def try_layouts(trials):
     for kind, (name, layout, contents) in pages.BODIES.items():
         sizes = [part for _, size in layout for part in ([4, 4] if size == 8 else [size])] + [4, 4] * bool(contents)
         fields = [(24 + sum(sizes[:place]), size) for place, size in enumerate(sizes)]
-        trials.state(f"the layout of {name} in LAYOUTS.md", fields, tables.get(kind))
+        trials.state(f"the layout of {name} in FORMATS.md", fields, tables.get(kind))
 
 
 def try_all(trials, _):

@@ -80,6 +80,53 @@ entry 27 1:1 received clock=152 acknowledge version=7 time=00:00.000000/relative
 entry 28 2:3 told entity=2:3:7 state=stopped
 entry 29 1:1 sent clock=160 remove-entity version=7 time=00:00.000000/relative status=0 from=1:1:0 to=2:4:8 request=7 receipts=0 order=29
 """
+# What why says of it without its entry 7, and with the answer of entry 14 unable; the latter with its certificate too.
+WHY_MISSING = b"""\
+blocked stations=3
+blocked 1:1 record=7 cause=12 never-sent
+blocked 2:3 record=9 cause=12 never-sent
+blocked 2:4 record=10 cause=12 never-sent
+rule 12 a datagram that is received was sent before
+clash 7 from=2:4 sent=- near=- differs=-
+waits 9 at=2:3 sent=8 on=1:1 next=7
+waits 10 at=2:4 sent=8 on=1:1 next=7
+also 14 at=2:4 cause=13 wrong-state
+missing 7 at=2:4 after=6
+repair sends=1 enough=yes
+entry 6 2:4 received clock=914 create-entity version=7 time=00:00.000016/relative status=0 from=1:1:0 to=2:4:9 request=2 source=5
+entry 7 1:1 received clock=115 acknowledge version=7 time=00:00.000000/relative status=0 from=2:4:9 to=1:1:0 flag=1(create-entity) response=1(able) request=2 source=-
+entry 8 1:1 sent clock=120 start-resume version=7 time=00:00.000000/relative status=0 from=1:1:0 to=65535:65535:65535 real=0/0 sim=0/0 request=3 receipts=2 order=8
+entry 9 2:3 received clock=521 start-resume version=7 time=00:00.000000/relative status=0 from=1:1:0 to=65535:65535:65535 real=0/0 sim=0/0 request=3 source=8
+entry 10 2:4 received clock=922 start-resume version=7 time=00:00.000000/relative status=0 from=1:1:0 to=65535:65535:65535 real=0/0 sim=0/0 request=3 source=8
+entry 14 2:4 told entity=2:4:9 state=running
+"""
+WHY_CHANGED = b"""\
+blocked stations=3
+blocked 1:1 record=14 cause=12 never-sent
+blocked 2:3 record=17 cause=12 never-sent
+blocked 2:4 record=21 cause=12 never-sent
+rule 12 a datagram that is received was sent before
+clash 14 from=2:3 sent=- near=12 differs=response
+waits 17 at=2:3 sent=16 on=1:1 next=14
+waits 21 at=2:4 sent=20 on=1:1 next=14
+missing 14 at=2:3 after=10
+repair sends=1 enough=no
+entry 10 2:3 received clock=521 start-resume version=7 time=00:00.000000/relative status=0 from=1:1:0 to=65535:65535:65535 real=0/0 sim=0/0 request=3 source=9
+entry 12 2:3 sent clock=521 acknowledge version=7 time=00:00.000000/relative status=0 from=2:3:0 to=1:1:0 flag=3(start-resume) response=1(able) request=3 receipts=0 answers=10
+entry 14 1:1 received clock=123 acknowledge version=7 time=00:00.000000/relative status=0 from=2:3:0 to=1:1:0 flag=3(start-resume) response=2(unable) request=3 source=-
+entry 16 1:1 sent clock=130 stop-freeze version=7 time=00:00.000000/relative status=0 from=1:1:0 to=2:3:5 real=0/0 reason=0(other) behaviour=0 request=4 receipts=1 order=16
+entry 17 2:3 received clock=531 stop-freeze version=7 time=00:00.000000/relative status=0 from=1:1:0 to=2:3:5 real=0/0 reason=0(other) behaviour=0 request=4 source=16
+entry 20 1:1 sent clock=140 data-query version=7 time=00:00.000000/relative status=0 from=1:1:0 to=2:4:0 request=5 interval=0 receipts=1 order=20
+entry 21 2:4 received clock=941 data-query version=7 time=00:00.000000/relative status=0 from=1:1:0 to=2:4:0 request=5 interval=0 source=20
+"""
+WHY_NOT_CHANGED = b"""\
+no step=15 cause=12 never-sent
+rule 12 a datagram that is received was sent before
+clash 14 from=2:3 sent=- near=12 differs=response step=-
+fault recording
+entry 12 2:3 sent clock=521 acknowledge version=7 time=00:00.000000/relative status=0 from=2:3:0 to=1:1:0 flag=3(start-resume) response=1(able) request=3 receipts=0 answers=10
+entry 14 1:1 received clock=123 acknowledge version=7 time=00:00.000000/relative status=0 from=2:3:0 to=1:1:0 flag=3(start-resume) response=2(unable) request=3 source=-
+"""
 OPEN_ORDER = (
     b"order 0 from=9:9 request=1 create-entity to=2:3:7 at=2:3 sends=- receipts=1 got=0 said=able answer=1 "
     b"heard=- news=- took=- change=1 fate=unknown\n"

@@ -333,7 +333,7 @@ def try_same(trials):
 
 
 def try_tour(trials):
-    """What the README says of the pieces among the examples."""
+    """What NETWORK.md says of the pieces among the examples."""
     pieces_of = [f"examples/piece_of_{name}.dsrc" for name in ("simulator", "manager")]
     joined = (Outcome(0, b"joined pieces=2 stations=2 records=7 form=closed\n", b""),)
     old = (trials.folder / "examples" / "logs_joined.dsrc").read_bytes()

@@ -1,4 +1,4 @@
-"""Moves of stations that begin with nothing, as scripts, and what their recordings hold, by SCRIPTS.md and LINES.md.
+"""Moves of stations that begin with nothing, as scripts, and what their recordings hold, by SCRIPTS.md and NETWORK.md.
 
 All is at time 0: orders to create entities, and states that are told. Station N, from 0, is N+1:1.
 """

@@ -17,7 +17,7 @@ def torn(fault, name):
 
 def try_worked(trials):
     """The script of the page, what its stations recorded, the order that explains it, and its report."""
-    page = (TOP / "docs" / "LINES.md").read_text(encoding="utf-8")
+    page = (TOP / "docs" / "staff" / "NETWORK.md").read_text(encoding="utf-8")
     report = re.search(r"(?s)check exercise.dsrc exercise.dsct\n(yes.*?)```", page).group(1).encode()
 
     def tried():

@@ -1,5 +1,5 @@
 """Recordings and certificates with each cause 1 to 13, and the answer to each stated by hand: the worked history of
-MODEL.md and what that page says of its variants, and more of each kind.
+READING.md and what that page says of its variants, and more of each kind.
 """
 from collections import namedtuple
 
@@ -33,7 +33,7 @@ def no(step, cause):
 
 
 def worked_history(answer=acknowledge(), state=STOPPED, repeat=None):
-    """The entries and the certificate of the worked history of MODEL.md."""
+    """The entries and the certificate of the worked history of READING.md."""
     repeat = repeat or answer
     entries = [
         received(APPLICATION, request()),
@@ -57,7 +57,7 @@ def worked_report():
 
 
 def worked_scenes():
-    """The worked history of MODEL.md, and what the page says of its variants."""
+    """The worked history of READING.md, and what the page says of its variants."""
     entries, steps = worked_history()
     report = worked_report()
     without = [(4, NO_LINK), (0, 2), (1, NO_LINK), (2, 4), (3, 2), (5, 0)]
@@ -160,7 +160,7 @@ def answering_scenes():
 
 
 def version_scenes():
-    """Exercises of protocol version 6, and of both versions: what MODEL.md says of them."""
+    """Exercises of protocol version 6, and of both versions: what READING.md says of them."""
     order, answer = request(version=6), acknowledge(version=6)
     report = "yes records=4 others=0\nanswer 2 request 1\nknown 3 change 2\nentity 2:3:7 stopped\n"
     none = [(0, NO_LINK), (1, NO_LINK)]

@@ -21,7 +21,7 @@ def read(trials, name):
 
 
 def try_recorder(trials):
-    page = (TOP / "docs" / "FORMATS.md").read_text(encoding="utf-8")
+    page = (TOP / "docs" / "integrators" / "FORMATS.md").read_text(encoding="utf-8")
     quoted = re.search(r"```python\n(.*?)```", page, re.DOTALL).group(1)
     recorder = (TOP / "examples" / "recorder.py").read_text(encoding="utf-8")
     trials.state("what FORMATS.md quotes stands in recorder.py", True, quoted.strip() in recorder)

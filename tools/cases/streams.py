@@ -49,7 +49,7 @@ def try_unreadable(trials, examples):
 def answers(trials, examples):
     """Words and what is given on standard input, with the usual outcome: an answer of each command."""
     good, certificate, wrong = examples
-    text = (trials.folder / good).read_bytes()
+    text, steps, wrong_text = ((trials.folder / name).read_bytes() for name in (good, certificate, wrong))
     shown, reviewed = pages.answer_to_show(text), pages.answer_to_review(text)
     in_json = pages.answer_to_review(text, ["fate=done"], pages.json_of)
     # What one call makes no other call makes: it would find it locked.
@@ -65,6 +65,10 @@ def answers(trials, examples):
         (["check", wrong, certificate], b"", Outcome(1, b"no step=8 cause=13 wrong-state\n", b"")),
         (["review", good], b"", reviewed),
         (["review", good, "fate=done", "--json"], b"", in_json),
+        (["why", good], b"", pages.answer_to_why(text)),
+        (["why", wrong], b"", pages.answer_to_why(wrong_text)),
+        (["why", good, certificate], b"", pages.answer_to_why_not(text, steps)),
+        (["why", wrong, certificate, "--json"], b"", pages.answer_to_why_not(wrong_text, steps, pages.log_json)),
         (["world", WORKED_SCRIPT, f"{new}.world"], b"", Outcome(0, WORKED_LINE, b"")),
         (["live", WORKED_SCRIPT, f"{new}.live"], b"", Outcome(0, b"live records=13\n", b"")),
         (["convert", good, f"{new}.convert"], b"", Outcome(0, b"converted records=9\n", b"")),
@@ -87,6 +91,9 @@ def faults(examples):
         (["review", "none"], b"", pages.fault("file: none")),
         (["review", certificate, "fate=lost"], b"", pages.fault("recording: magic at 0")),
         (["review", good, "fate=lots"], b"", pages.fault("filter: fate=lots")),
+        (["why", "none"], b"", pages.fault("file: none")),
+        (["why", certificate, certificate], b"", pages.fault("recording: magic at 0")),
+        (["why", good, good, "--json"], b"", pages.fault("certificate: magic at 0")),
         (["world", good, "none"], b"", pages.fault("script: bad-line at line 1")),
         (["show", b"\xff"], b"", pages.fault("words: not UTF-8")),
         (["check", good], b"", Outcome(2, b"", Some())),

@@ -23,6 +23,8 @@ def try_words(trials):
         ["convert"], ["convert", "a"], ["convert", "a", "b", "c"], ["convert", "-a", "b"], ["convert", recording, "-a"],
         ["mend"], ["mend", "a"], ["mend", "a", "b", "c"], ["mend", "-a", "b"], ["mend", recording, "-a"],
         ["review"], ["review", "-a"], ["review", "--json"], ["review", recording, "-a"], ["review", recording, "--json", "a"],
+        ["why"], ["why", "-a"], ["why", "--json"], ["why", recording, "-a"], ["why", recording, "--json", certificate],
+        ["why", recording, certificate, certificate],
         ["pdus", "07"], ["pdus", ""], ["pdus", "-x"], ["trial"], ["audit"], ["audit", recording], ["audit", recording, "a", "b"], ["audit", recording, "-a"],
     ]:  # fmt: skip
         trials.expect(words, usage)

@@ -28,7 +28,7 @@ def after(trials, words, accepted, name, is_right, **more):
 
 def try_worked(trials):
     """The script of the page, its recording shown, and that of other names for the file."""
-    page = (TOP / "docs" / "SCRIPTS.md").read_text(encoding="utf-8")
+    page = (TOP / "docs" / "staff" / "SCRIPTS.md").read_text(encoding="utf-8")
     shown = re.search(r"\$ \./siman show .*\n(exercise=(?:.*\n)*?)```", page).group(1).encode()
 
     def is_worked(left):

@@ -1,5 +1,5 @@
 """What `./siman` of a fresh clone answers with the real toolchain: words, standard input, standard output or how it
-begins, what stands in standard error, and the status, as README.md and docs/TEXTS.md say."""
+begins, what stands in standard error, and the status, as README.md and docs/staff/READING.md say."""
 
 LINE = "create-entity version=7 exercise=1 stamp=0 status=0 from=1:1:0 to=2:3:7 request=1\n"
 HEX = "07010B0500000000001C000000010001000000020003000700000001"
@@ -36,6 +36,11 @@ LOGGED = (
     "change 13 entity=2:4:65535 to=running by=1:1 request=3\n"
 )
 NO = "no step=3 cause=13 wrong-state\n"
+WHY = (
+    NO + "rule 13 a station tells the state that its entity has\n"
+    "clash 2 entity=2:3:7 state=stopped change=1\n"
+    "fault recording\n"
+)
 REAL = (
     (["pdu", HEX], None, LINE, "", 0),
     (["pdu", "07"], None, "refused ", "", 1),
@@ -46,6 +51,8 @@ REAL = (
     (["review", "examples/losses.dsrc", "fate=lost"], None, REVIEWED, "", 0),
     (["review", "examples/missing.dsrc", "--json"], None, "", "file: examples/missing.dsrc\n", 2),
     (["log", "examples/losses.dsrc", "request=1:1/3", "station=2:4"], None, LOGGED, "", 0),
+    (["why", "examples/logs_joined_wrong_state.dsrc", "examples/logs_joined.dsct"], None, WHY, "", 1),
+    (["why", "examples/missing.dsrc", "--json"], None, "", "file: examples/missing.dsrc\n", 2),
     (["show", "examples/missing.dsrc"], None, "", "file: examples/missing.dsrc\n", 2),
     ([], "examples/lost_copied_swapped.script", TRIAL, "", 0),
     (["--help"], None, "Shows Simulation Management PDUs", "", 0),

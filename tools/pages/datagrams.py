@@ -1,5 +1,5 @@
-"""Datagrams and hex text: the PDU that one spells or its refusal, by LAYOUTS.md and PROFILE.md, and the lines of it, by
-TEXTS.md.
+"""Datagrams and hex text: the PDU that one spells or its refusal, by FORMATS.md, and the lines of it, by
+READING.md.
 """
 import re
 from collections import namedtuple

@@ -1,4 +1,4 @@
-"""What check says of a recording and a certificate, by MODEL.md, and the report, by TEXTS.md."""
+"""What check says of a recording and a certificate, and its report, by READING.md."""
 from .datagrams import (
     ABLE, ACKNOWLEDGE, ACTION_REQUEST, ACTION_RESPONSE, CREATE, DATA, DATA_QUERY, FLAGS, REMOVE, REQUESTS, SET_DATA,
     START, UNABLE, Outcome, fault, identifier_text, number,
@@ -54,15 +54,18 @@ def key_of(pdu):
     return number(pdu.fields["flag"]), request_of(pdu), *pdu.target[:2], pdu.origin[2]
 
 
+def is_for_kind(answer, request):
+    """Whether the kind of a request is one that the answer is for."""
+    if answer.kind == ACKNOWLEDGE:
+        return request.kind == FLAGS[number(answer.fields["flag"])]
+    return request.kind in {ACTION_RESPONSE: {ACTION_REQUEST}, DATA: {DATA_QUERY, SET_DATA}}[answer.kind]
+
+
 def answers(answer, request):
     """Whether an answer answers the request that it takes up: by kind and by entity numbers."""
-    if answer.kind == ACKNOWLEDGE:
-        kinds = {FLAGS[number(answer.fields["flag"])]}
-    else:
-        kinds = {ACTION_RESPONSE: {ACTION_REQUEST}, DATA: {DATA_QUERY, SET_DATA}}[answer.kind]
     numbers = request.target[2], answer.origin[2]
     fit = numbers[0] == numbers[1] or any(is_open(entity, request.kind) for entity in numbers)
-    return request.kind in kinds and fit
+    return is_for_kind(answer, request) and fit
 
 
 def scope_of(answer, request):
@@ -202,17 +205,23 @@ class Course:
         return "".join(line + "\n" for line in lines)
 
 
-def verdict(recording, steps):
-    """What check says of a recording and the steps of a certificate."""
-    if len(steps) != len(recording.entries):
-        return refused_step(0, 1)
+def judged(recording, steps):
+    """The course of a certificate's steps, and the first bad one with its cause, or None."""
     course = Course(recording)
+    if len(steps) != len(recording.entries):
+        return course, (0, 1)
     for index, (place, link) in enumerate(steps):
         cause = course.cause_of_step(place, link)
         if cause:
-            return refused_step(index, cause)
+            return course, (index, cause)
         course.take(place)
-    return Outcome(0, course.report().encode(), b"")
+    return course, None
+
+
+def verdict(recording, steps):
+    """What check says of a recording and the steps of a certificate."""
+    course, bad = judged(recording, steps)
+    return refused_step(*bad) if bad else Outcome(0, course.report().encode(), b"")
 
 
 def refused_step(index, cause):
@@ -235,15 +244,21 @@ def go_on(course):
     return False
 
 
-def search(recording):
-    """What audit says of a recording."""
+def searched(recording):
+    """The course of a search, and the stations that it leaves blocked, each with its next entry."""
     course = Course(recording)
     while go_on(course):
         pass
-    if len(course.taken) == len(course.entries):
-        return Outcome(0, f"explained steps={len(course.entries)}\n".encode(), b"")
     blocks = [(station, next_entry(course, station)) for station in range(len(course.stations))]
-    lines = [blocked(course, station, index) for station, index in blocks if index is not None]
+    return course, [(station, index) for station, index in blocks if index is not None]
+
+
+def search(recording):
+    """What audit says of a recording."""
+    course, blocks = searched(recording)
+    if not blocks:
+        return Outcome(0, f"explained steps={len(course.entries)}\n".encode(), b"")
+    lines = [blocked(course, station, index) for station, index in blocks]
     return Outcome(1, f"blocked stations={len(lines)}\n{''.join(lines)}".encode(), b"")
 
 

@@ -1,4 +1,4 @@
-"""What log says of a recording, by LOG.md and TEXTS.md: each entry in names, with every datum and what goes with it."""
+"""What log says of a recording, by READING.md: each entry in names, with every datum and what goes with it."""
 import json
 
 from .datagrams import (
@@ -196,6 +196,8 @@ def log_word(value):
         return f"{value.number}({value.name})" if value.name else str(value.number)
     if isinstance(value, Clock):
         return str(value.ticks)
+    if isinstance(value, list):
+        return " ".join(value)
     return "-" if value is None else str(value)
 
 

@@ -1,4 +1,4 @@
-"""What review says of a recording, by REVIEW.md and TEXTS.md: what became of each order, and how each entity lived."""
+"""What review says of a recording, by READING.md: what became of each order, and how each entity lived."""
 import json
 import re
 from collections import namedtuple

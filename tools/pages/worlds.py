@@ -1,5 +1,5 @@
-"""What `world` answers to a script, and the recording that it makes, by SCRIPTS.md, ORDERS.md and APPLICATION.md; and
-what a script into `siman` comes to, by TEXTS.md.
+"""What `world` answers to a script, and the recording that it makes, by SCRIPTS.md and NETWORK.md; and what a
+script into `siman` comes to, by READING.md.
 """
 import struct
 from collections import Counter

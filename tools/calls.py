@@ -1,5 +1,5 @@
 #!/usr/bin/env python3
-"""Compares the table of the public calls in docs/PROMISES.md with the code.
+"""Compares the table of the public calls in docs/maintainers/PROMISES.md with the code.
 
 A public call is a `pub fn` that a crate's lib.rt exports, by itself or with its type, or a method of a trait that it
 exports. For each the script reads from the code what it refuses with: the variants of the fault that its return type
@@ -16,7 +16,7 @@ import sys
 from pathlib import Path
 
 TOP = Path(__file__).resolve().parent.parent
-PAGE = TOP / "docs" / "PROMISES.md"
+PAGE = TOP / "docs" / "maintainers" / "PROMISES.md"
 # Crates that offer no calls to others: programs and tests.
 NO_LIBRARIES = {
     "siman",
@@ -132,7 +132,7 @@ def last_argument(arguments):
 def rows_of(page):
     """Of each crate: the rows of its table, each with its calls and what it says of refusals."""
     found = {}
-    for section in page.split("\n### ")[1:]:
+    for section in page.partition("\n## The public calls")[2].split("\n### ")[1:]:
         crate = section.split("\n")[0].strip("` ")
         rows = re.findall(r"^\| (`.*?) \| (.*?) \| (.*?) \|$", section, re.MULTILINE)
         found[crate] = [(re.findall(r"`([^`]*)`", calls), refused.replace("`", ""), stands) for calls, refused, stands in rows]

@@ -12,8 +12,8 @@ from pathlib import Path
 
 TOP = Path(__file__).resolve().parent.parent
 # How usage has a word that may stand so often, and what may stand behind all words of a command.
-OFTEN = {"Once": "{}", "OnceOrMore": "{} ..", "AnyTimes": "[{} ..]"}
-BEHIND = {"Pieces": [r"[form=open\|form=closed]"], "View": ["[--json]"]}
+OFTEN = {"Once": "{}", "AtMostOnce": "[{}]", "OnceOrMore": "{} ..", "AnyTimes": "[{} ..]"}
+BEHIND = {"Pieces": [r"[form=open\|form=closed]"], "View": ["[--json]"], "PerhapsTwo": ["[--json]"]}
 TABLE = TOP / "crates" / "siman_words" / "src" / "commands.rt"
 
 

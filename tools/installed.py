@@ -55,6 +55,8 @@ TYPED = {
     "siman review exercise.dsrc fate=lost sta": "siman review exercise.dsrc fate=lost station=",
     "siman log exercise.dsrc kind=ev": "siman log exercise.dsrc kind=event-report",
     "siman log exercise.dsrc --j": "siman log exercise.dsrc --json",
+    "siman why exercise.dsrc exer": "siman why exercise.dsrc exercise.dsct",
+    "siman why exercise.dsrc --j": "siman why exercise.dsrc --json",
     "siman join exercise.dsrc exer": "siman join exercise.dsrc exercise.dsrc",
     "siman join a.dsrc b.dsrc form=o": "siman join a.dsrc b.dsrc form=open",
     "siman pdu ": "siman pdu",

@@ -1,6 +1,6 @@
 #!/bin/sh
-# Prints the table of sizes of docs/HOUSE.md: lines of code, definitions and proofs of each crate as wc counts them, and
-# the wrong bodies in must-fail; behind the sum those of the cases, of hostile use and of the tests.
+# Prints the table of sizes of docs/maintainers/HOUSE.md: lines of code, definitions and proofs of each crate as wc
+# counts them, and the wrong bodies in must-fail; behind the sum those of the cases, of hostile use and of the tests.
 set -eu
 cd -- "$(dirname -- "$0")/../crates"
 

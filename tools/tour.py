@@ -9,7 +9,8 @@ error, is compared with the lines that stand below it. A line `..` stands for li
 ` ..` at the end of a line for the rest of it. The README is taken as a newcomer would, in a fresh copy; in the copy of
 any other page the files of examples/ are made. A link has to lead to a file of the tree, and to a heading where it
 names one; and a source that the text names, as `laws.rt` or `tools/tour.py`, has to be there, with the folders before
-its name. A block without `$ `, and a link to another site, are not looked at.
+its name. The lines of a block of `rust` have to stand in a source of crates/siman_examples, in their order, with what a
+line `..` stands for between them. Any other block without `$ `, and a link to another site, are not looked at.
 
 Each command, link and name that is wrong is told with its page and line; the last line is `N tried, M wrong`, with
 status 1 where something is. Nothing is written outside of temporary copies.
@@ -27,6 +28,7 @@ from typing import NamedTuple
 
 TOP = Path(__file__).resolve().parent.parent
 PROGRAM = Path("crates", "siman", "out", "siman")
+EXAMPLES_OF_LAWS = Path("crates", "siman_examples", "src")
 LONGEST = 60  # seconds for a command
 # A source that a page names. A name in capitals stands for many.
 SOURCE = r"`([\w./-]+\.(?:rt|antt|py|sh|c|cases|edit|md|txt))`"
@@ -182,6 +184,31 @@ def wrong_commands(name, commands, folder):
             yield Wrong(name, command.line, f"`{command.text}`: {first_difference(command.lines, came)}")
 
 
+def quotes_of(page):
+    """The blocks of Rust of a page: the number of the first line of each, and its lines."""
+    for match in re.finditer(r"^```rust\n(.*?)^```$", page, re.MULTILINE | re.DOTALL):
+        yield page.count("\n", 0, match.start()) + 2, match[1].splitlines()
+
+
+def is_quoted(quote, source):
+    """Whether the parts of a quote stand in a source, one behind the other."""
+    place = 0
+    for part in "\n".join(quote).split("\n..\n"):
+        at = f"\n{source}".find(f"\n{part}\n", place)
+        if at < 0:
+            return False
+        place = at + len(part)
+    return True
+
+
+def wrong_quotes(tree, name, quotes):
+    """Those blocks of Rust of a page that stand in no example."""
+    sources = [path.read_text(encoding="utf-8") for path in sorted((tree / EXAMPLES_OF_LAWS).glob("*.rt"))]
+    for line, quote in quotes:
+        if not any(is_quoted(quote, source) for source in sources):
+            yield Wrong(name, line, f"no source of {EXAMPLES_OF_LAWS} has this")
+
+
 def links_of(page):
     """Where the links of a page lead, with their lines; links to other sites are left out."""
     for number, line, block in blocks_and_text(page):
@@ -248,12 +275,14 @@ def tour_of(pages, given, files, tree):
     for name in pages:
         page = (given.top / name).read_text(encoding="utf-8")
         commands, links, sources = commands_of(page), list(links_of(page)), list(sources_of(page))
+        quotes = list(quotes_of(page))
         wrong = [*wrong_links(given.top, set(files), name, links), *wrong_sources(files, name, sources)]
+        wrong.extend(wrong_quotes(given.top, name, quotes))
         if commands:
             with tempfile.TemporaryDirectory() as folder:
                 copy_for_page(tree, files if name == Path("README.md") else [*files, *made], Path(folder))
                 wrong.extend(wrong_commands(name, commands, folder))
-        yield len(commands) + len(links) + len(sources), sorted(wrong)
+        yield sum(map(len, [commands, links, sources, quotes])), sorted(wrong)
 
 
 def main():

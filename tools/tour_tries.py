@@ -38,7 +38,15 @@ four
 ```sh
 ./siman and no prompt
 ```
+
+```rust
+pub fn one() {
+..
+    three();
+}
+```
 """
+EXAMPLE = "/// One.\npub fn one() {\n    two();\n    three();\n}\n"
 OTHER = "# Another\n\n## A part, of `it`\n\n```\n$ cat examples/made\nx\n```\n"
 # What is another in a page, what stands there then, and what has to be told.
 LIES = [
@@ -54,6 +62,8 @@ LIES = [
     ("#a-part-of-it", "#none", "README.md:3: the link docs/OTHER.md#none leads to no heading of docs/OTHER.md"),
     ("`docs/OTHER.md`", "`other/OTHER.md`", "README.md:3: there is no file other/OTHER.md"),
     ("(#a-page)", "(#another)", "README.md:3: the link #another leads to no heading of README.md"),
+    ("    three();", "    four();", "README.md:28: no source of crates/siman_examples/src has this"),
+    ("pub fn one() {\n..", "pub fn one() {", "README.md:28: no source of crates/siman_examples/src has this"),
     ("./siman | head -1", "cat examples/made", "README.md:15: `cat examples/made`: it prints `cat: examples/made: No .."),
 ]  # fmt: skip
 
@@ -62,6 +72,7 @@ def made_tree(folder, page):
     """A tree with a program, a page and another one."""
     texts = {
         "README.md": page, "docs/OTHER.md": OTHER, "siman": WRAPPER, "crates/siman/out/siman": PROGRAM,
+        "crates/siman_examples/src/one.rt": EXAMPLE,
         "examples/make": "printf x >$(dirname $0)/made\n", ".gitignore": "out/\n/examples/made\n",
     }  # fmt: skip
     for name, text in texts.items():
@@ -87,10 +98,10 @@ def is_told(expected, came):
 
 
 def main():
-    tries = [(TRUE, ["9 tried, 0 wrong"], 0)]
+    tries = [(TRUE, ["10 tried, 0 wrong"], 0)]
     for old, new, told in LIES:
         assert TRUE.count(old) == 1, old
-        tries.append((TRUE.replace(old, new), [told, "9 tried, 1 wrong"], 1))
+        tries.append((TRUE.replace(old, new), [told, "10 tried, 1 wrong"], 1))
     tries.append(("# Nothing\n", ["1 tried, 0 wrong"], 0))
     wrong = 0
     for page, expected, status in tries:

@@ -16,7 +16,8 @@ NAMED = {
 
 
 class Word(NamedTuple):
-    """A word that a command takes: its name, whether it may stand more than once, and what it is."""
+    """A word that a command takes: its name, whether it may be left out or stand more than once, and what
+    it is."""
 
     name: str
     is_repeated: bool
@@ -73,7 +74,8 @@ def choices_of(usage, words):
     """The words that may stand behind the others: those of the usage in brackets, and those that a filter may be."""
     behind = [choice for part in re.findall(r"\[([^\]]+)\]", usage) for choice in part.split("|")]
     keys = [key for word in words if word.name == "FILTER" for key in re.findall(r"\b[a-z]+=[A-Z:/]+", word.about)]
-    return keys + [choice for choice in behind if not choice.startswith("FILTER")]
+    names = {word.name for word in words}
+    return keys + [choice for choice in behind if choice.split()[0] not in names]
 
 
 def program():

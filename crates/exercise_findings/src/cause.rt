@@ -8,13 +8,14 @@ ghost use Rattle.siman_pdus.specs.declared.pdu.Pdu.{Pdu};
 ghost use Rattle.exercise_model.specs.History.{station_at};
 ghost use Rattle.exercise_model.specs.Setting.{SettingData, is_from, is_recorded};
 ghost use Rattle.exercise_model.specs.State.{state_after};
+ghost use Rattle.exercise_model.specs.Change.{is_change};
 ghost use Rattle.exercise_model.specs.Cause.{is_reused, is_changed_answer, is_hopeless, is_hopeless_for, is_impossible, send_cause, get_cause, tell_rows, first_cause};
 ghost use Rattle.exercise_model.specs.Place.{log_before};
 ghost use Rattle.exercise_findings.specs.Firsts.{TellFirsts};
 ghost use Rattle.exercise_findings.specs.TakenUp.{request_of_sent};
 ghost use Rattle.exercise_findings.specs.Tables.{AreTied};
 
-use crate::change::{is_change, was_able, was_unable};
+use crate::change::{was_able, was_unable};
 use crate::firsts::Firsts;
 use crate::state::state_before;
 use crate::tables::Tables;
@@ -81,8 +82,8 @@ fn is_hopeless<L: ExerciseLog>(
     }
 }
 
-/// Whether a PDU that a station sends at an entry would be a change, and one that can't be made of
-/// the request that it answers.
+/// Whether a PDU that a station sends at an entry would be a change, which is the first Able under its
+/// key or not, and one that can't be made of the request that it answers.
 #[tactic(auto, unfolding(exercise_model::specs::Cause::is_impossible))]
 fn is_impossible<L: ExerciseLog>(
     log: &L,
@@ -90,21 +91,22 @@ fn is_impossible<L: ExerciseLog>(
     station: u16,
     before: usize,
     pdu: &PduView<'_>,
+    first: bool,
     request: &PduView<'_>,
 ) -> bool
     requires at { station < length (L.recording log.now).setting.stations }
     requires within { before ≤ length (L.recording log.now).entries }
     requires tied { AreTied (L.recording log.now) before tables.now }
+    requires first { let r = L.recording log.now in first ≡ is_change r.setting.exercise (pdu_of pdu.now) (log_before r station before) }
     requires answers { IsTrue (is_answer_to (pdu_of pdu.now) (pdu_of request.now)) }
     ensures { let r = L.recording log.now in result ≡ is_impossible r.setting.exercise (station_at r station) (log_before r station before) (pdu_of pdu.now) (pdu_of request.now) }
 {
-    is_change(log, &tables.firsts, station, before, pdu)
-        && is_hopeless(log, tables, station, before, Change::of(pdu, request))
+    first && is_hopeless(log, tables, station, before, Change::of(pdu, request))
 }
 
 /// The first cause against a PDU that a station sends at an entry, which comes from that station or
 /// not: a request that reuses its identifier or not, or an answer that takes up this request, if there
-/// is one.
+/// is one, and is the first Able under its key or not.
 #[tactic(auto, unfolding(exercise_model::specs::Cause::send_cause))]
 pub(crate) fn judge_sent<L: ExerciseLog>(
     log: &L,
@@ -114,6 +116,7 @@ pub(crate) fn judge_sent<L: ExerciseLog>(
     pdu: &PduView<'_>,
     from: bool,
     reused: bool,
+    first: bool,
     taken: &Option<(u32, PduView<'_>)>,
 ) -> Option<Cause>
     requires at { station < length (L.recording log.now).setting.stations }
@@ -121,6 +124,7 @@ pub(crate) fn judge_sent<L: ExerciseLog>(
     requires tied { AreTied (L.recording log.now) before tables.now }
     requires from { from ≡ is_from (station_at (L.recording log.now) station).address (pdu_of pdu.now) }
     requires reused { let r = L.recording log.now in reused ≡ (is_request_body (pdu_of pdu.now).body && is_reused r.setting.exercise (pdu_of pdu.now) (log_before r station before)) }
+    requires first { let r = L.recording log.now in first ≡ is_change r.setting.exercise (pdu_of pdu.now) (log_before r station before) }
     requires request { option_map (λ t. pdu_of t.1) taken.now ≡ request_of_sent (L.recording log.now) station before (pdu_of pdu.now) }
     ensures { let r = L.recording log.now in result ≡ send_cause r.setting.exercise (station_at r station) (log_before r station before) (pdu_of pdu.now) }
 {
@@ -140,7 +144,7 @@ pub(crate) fn judge_sent<L: ExerciseLog>(
         Some(Cause::WrongAnswer)
     } else if is_changed_answer(log, &tables.firsts, station, before, pdu) {
         Some(Cause::ChangedAnswer)
-    } else if is_impossible(log, tables, station, before, pdu, request) {
+    } else if is_impossible(log, tables, station, before, pdu, first, request) {
         Some(Cause::Impossible)
     } else {
         None

@@ -13,7 +13,7 @@ ghost use Rattle.exercise_findings.specs.Tables.{AreFindings, own_cause};
 use crate::account::Account;
 use crate::accounting::account;
 use crate::earlier::{request_in, source_kept};
-use crate::made::{change_made_at, state_made_before};
+use crate::made::state_made_before;
 use crate::pass::{Passed, find, settle};
 use dis_records::EntityState;
 use exercise_model::{Cause, Change, ExerciseLog};
@@ -105,7 +105,10 @@ impl<'a, L: ExerciseLog> Findings<'a, L> {
     pub fn change(&self, entry: usize) -> Option<Change>
         ensures { result ≡ change_at self.now entry }
     {
-        change_made_at(self.log, &self.found.tables.firsts, entry)
+        match self.found.changes.get(entry) {
+            Some(change) => *change,
+            None => None,
+        }
     }
 
     /// The state of an entity of a station before an entry; Absent for a number that no entity has.
@@ -115,7 +118,7 @@ impl<'a, L: ExerciseLog> Findings<'a, L> {
         requires within { entry ≤ length self.now.entries }
         ensures { result ≡ state_after self.now.setting.exercise (station_at self.now station) (log_before self.now station entry) entity }
     {
-        state_made_before(self.log, &self.found.tables.firsts, station, entity, entry)
+        state_made_before(self.log, &self.found.changes, station, entity, entry)
     }
 
     /// The account of the recording.

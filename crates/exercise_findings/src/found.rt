@@ -18,6 +18,7 @@ ghost use Rattle.exercise_findings.specs.Tables.{AreTied, IsFound};
 
 use crate::behind::key_behind;
 use crate::cause::{judge_sent, judge_unsent};
+use crate::change::is_change;
 use crate::exchange::taken_up;
 use crate::key::{Key, received_key, sent_key};
 use crate::requests::{Requests, note_request};
@@ -107,10 +108,13 @@ fn found_sent<L: ExerciseLog>(
     let address = log.station(usize::from(station)).address();
     let from = is_from(address, pdu);
     let taken = taken_up(log, &tables.firsts, station, entry, pdu);
+    let first = is_change(log, &tables.firsts, station, entry, pdu);
     Found {
-        cause: judge_sent(log, tables, station, entry, pdu, from, reused, &taken),
+        cause: judge_sent(
+            log, tables, station, entry, pdu, from, reused, first, &taken,
+        ),
         pair: pair_of(&taken),
-        change: change_by(log, &tables.firsts, station, entry, pdu, &taken),
+        change: change_by(log, station, entry, pdu, first, &taken),
         key: sent_key(station, pdu),
         behind: None,
         is_source: from,

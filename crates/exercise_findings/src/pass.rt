@@ -16,7 +16,7 @@ use crate::requests::{Requests, no_requests};
 use crate::senders::{Hints, Senders, no_hints, no_senders, note_sender};
 use crate::tables::{Tables, no_tables, note_key, note_tables};
 use dis_records::EntityState;
-use exercise_model::{Cause, EntryView, ExerciseLog};
+use exercise_model::{Cause, Change, EntryView, ExerciseLog};
 use std::alloc::{AllocError, Global};
 
 /// One source of so many entries that is yet to be found is many.
@@ -29,6 +29,8 @@ pub(crate) struct Pass<'a> {
     pub tables: Tables,
     /// The first cause that its station's log has against each entry.
     pub causes: Vec<Option<Cause>>,
+    /// What each entry changes at its station.
+    pub changes: Vec<Option<Change>>,
     /// The number of what each entry goes back to: of an answer the request that it takes up, of
     /// what was received its source, where that was found.
     pub earlier: Vec<u32>,
@@ -49,6 +51,8 @@ pub(crate) struct Passed<'a> {
     pub tables: Tables,
     /// The first cause that its station's log has against each entry.
     pub causes: Vec<Option<Cause>>,
+    /// What each entry changes at its station.
+    pub changes: Vec<Option<Change>>,
     /// The number of what each entry goes back to. Sources are yet to be found where it is kept where
     /// each datagram was sent first.
     pub earlier: Vec<u32>,
@@ -69,11 +73,13 @@ fn nothing_found<'a, L: ExerciseLog>(alloc: Global, log: &'a L) -> Result<Pass<'
 {
     let entries = log.entry_count();
     let causes = Vec::with_capacity(alloc, entries)?;
+    let changes = Vec::with_capacity(alloc, entries)?;
     let earlier = Vec::with_capacity(alloc, entries)?;
     let tables = no_tables(alloc, log)?;
     Ok(Pass {
         tables,
         causes,
+        changes,
         earlier,
         looks: Looks {
             misses: 0,
@@ -114,6 +120,7 @@ fn keep_sent<'a, L: ExerciseLog>(
 {
     let here = find_sent(log, &found.tables, requests, entry, station, bytes)?;
     found.causes.push(here.cause)?;
+    found.changes.push(here.change)?;
     found.earlier.push(entry_number(here.pair))?;
     found.others += one_if(here.other);
     note_sender(&mut found.senders, log, entry, bytes, here.is_source)?;
@@ -138,6 +145,7 @@ fn keep_received<L: ExerciseLog>(
 {
     let here = find_received(log, entry, station, bytes);
     found.causes.push(here.cause)?;
+    found.changes.push(here.change)?;
     let earlier = earlier_so_far(&found.senders, &mut found.looks, log, entry, bytes);
     found.earlier.push(earlier)?;
     found.others += one_if(here.other);
@@ -164,6 +172,7 @@ fn keep_told<L: ExerciseLog>(
 {
     let cause = judge_told(log, &found.tables, station, entry, entity, state);
     found.causes.push(cause)?;
+    found.changes.push(None)?;
     found.earlier.push(NO_ENTRY)?;
     Ok(())
 }
@@ -220,6 +229,7 @@ fn with_all_sources<'a, L: ExerciseLog>(log: &L, pass: Pass<'_>, hints: Hints) -
     let Pass {
         tables,
         causes,
+        changes,
         earlier,
         looks,
         ables,
@@ -230,6 +240,7 @@ fn with_all_sources<'a, L: ExerciseLog>(log: &L, pass: Pass<'_>, hints: Hints) -
     Passed {
         tables,
         causes,
+        changes,
         earlier: all_earlier(&senders, &mut hints, log, earlier, looks.later),
         senders: None,
         hints,
@@ -246,6 +257,7 @@ fn with_senders<'a, L: ExerciseLog>(log: &L, pass: Pass<'a>, hints: Hints) -> Pa
     let Pass {
         tables,
         causes,
+        changes,
         earlier,
         ables,
         senders,
@@ -255,6 +267,7 @@ fn with_senders<'a, L: ExerciseLog>(log: &L, pass: Pass<'a>, hints: Hints) -> Pa
     Passed {
         tables,
         causes,
+        changes,
         earlier,
         senders: Some(senders),
         hints,

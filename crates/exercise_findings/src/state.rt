@@ -4,16 +4,14 @@ ghost use Rattle.std.specs.Prelude.{◌≡◌, ◌<◌, ◌≤◌, ◌+◌, ◌*
 ghost use Rattle.siman_pdus.specs.Reading.{pdu_of};
 ghost use Rattle.exercise_model.specs.Station.{is_absent};
 ghost use Rattle.exercise_model.specs.History.{station_at};
+ghost use Rattle.exercise_model.specs.Change.{is_change};
 ghost use Rattle.exercise_model.specs.State.{change_by, state_after, present_below};
 ghost use Rattle.exercise_model.specs.Place.{log_before};
 ghost use Rattle.exercise_model.specs.Account.{entities_of};
-ghost use Rattle.exercise_findings.specs.Firsts.{TellFirsts};
 ghost use Rattle.exercise_findings.specs.TakenUp.{request_of_sent};
 ghost use Rattle.exercise_findings.specs.States.{has_page, known_in};
 ghost use Rattle.exercise_findings.specs.Tables.{AreTied};
 
-use crate::change::is_change;
-use crate::firsts::Firsts;
 use crate::states::{Held, PAGE, PAGES, States, known_in};
 use crate::tables::Tables;
 use dis_records::EntityState;
@@ -21,26 +19,25 @@ use exercise_model::{Change, ExerciseLog};
 use siman_pdus::PduView;
 use std::alloc::{AllocError, Global};
 
-/// What a PDU changes that a station sends at an entry, and that takes up this request, if there is
-/// one.
+/// What a PDU changes that a station sends at an entry, which is the first Able under its key or not,
+/// and that takes up this request, if there is one.
 #[tactic(auto, unfolding(exercise_model::specs::State::change_by))]
 pub(crate) fn change_by<L: ExerciseLog>(
     log: &L,
-    firsts: &Firsts,
     station: u16,
     before: usize,
     pdu: &PduView<'_>,
+    first: bool,
     taken: &Option<(u32, PduView<'_>)>,
 ) -> Option<Change>
     requires at { station < length (L.recording log.now).setting.stations }
-    requires tied { TellFirsts (L.recording log.now) before firsts.now }
+    requires first { let r = L.recording log.now in first ≡ is_change r.setting.exercise (pdu_of pdu.now) (log_before r station before) }
     requires request { option_map (λ t. pdu_of t.1) taken.now ≡ request_of_sent (L.recording log.now) station before (pdu_of pdu.now) }
     ensures { let r = L.recording log.now in result ≡ change_by r.setting.exercise (station_at r station) (log_before r station before) (pdu_of pdu.now) }
 {
+    let (_log, _station, _before) = (log, station, before);
     match taken {
-        Some((_, request)) if is_change(log, firsts, station, before, pdu) => {
-            Change::carried_out(pdu, request)
-        }
+        Some((_, request)) if first => Change::carried_out(pdu, request),
         _ => None,
     }
 }

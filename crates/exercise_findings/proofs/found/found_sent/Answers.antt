@@ -7,7 +7,7 @@ taken_up-taken-requires-clause-tied g c =
     let r = g.L.ExerciseLog.recording c.args.log.now in
     firsts_tell r c.args.entry c.args.entry c.args.tables.now.firsts (omega arith) c.requires.tied.firsts
 
-pub change_by-requires-clause-tied : goal.change_by-requires-clause-tied
-change_by-requires-clause-tied g c =
+pub is_change-first-requires-clause-tied : goal.is_change-first-requires-clause-tied
+is_change-first-requires-clause-tied g c =
     let r = g.L.ExerciseLog.recording c.args.log.now in
     firsts_tell r c.args.entry c.args.entry c.args.tables.now.firsts (omega arith) c.requires.tied.firsts

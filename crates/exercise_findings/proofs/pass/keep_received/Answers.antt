@@ -1,10 +1,11 @@
 use Rattle.std.proofs.Common.{◌≡◌, ◌+◌, ℕ, List, Option, Some, None, cond, refl, sym, ap, ◌∙◌, subst, arith}
 use Rattle.std.specs.Prelude.{slice_get}
 use Rattle.exercise_model.specs.declared.cause.Cause.{Cause}
+use Rattle.exercise_model.specs.declared.state.Change.{Change}
 use Rattle.exercise_model.specs.Entry.{Entry, Received}
 use Rattle.exercise_findings.specs.Column.{IsColumn}
 use Rattle.exercise_findings.specs.Earlier.{IsEarlierAt, IsSoFarAt}
-use Rattle.exercise_findings.specs.Tables.{IsOwnCause, other_at}
+use Rattle.exercise_findings.specs.Tables.{IsOwnCause, IsChangeAt, other_at}
 use Rattle.exercise_findings.proofs.Columns.{column_more, on_ok}
 use Rattle.exercise_findings.proofs.Looks.{change_here, at_most_one, others_next}
 use Rattle.exercise_findings.proofs.Sources.{not_sent, senders_still}
@@ -31,9 +32,11 @@ returns g c =
       tied = tied;
       causes = subst (λ (xs : List (Option Cause)). IsColumn None (IsOwnCause r) (n + 1) xs) (sym c.in_ok-push.ensures.items)
           (column_more None (IsOwnCause r) n _ c.find_received-here.result.cause was.causes here.cause);
-      earlier = subst (λ (xs : List ℕ). IsColumn 0 (IsSoFarAt r) (n + 1) xs) (sym c.in_ok-push-2.ensures.items)
+      changes = subst (λ (xs : List (Option Change)). IsColumn None (IsChangeAt r) (n + 1) xs) (sym c.in_ok-push-2.ensures.items)
+          (column_more None (IsChangeAt r) n _ c.find_received-here.result.change was.changes here.change);
+      earlier = subst (λ (xs : List ℕ). IsColumn 0 (IsSoFarAt r) (n + 1) xs) (sym c.in_ok-push-3.ensures.items)
           (column_more 0 (IsSoFarAt r) n _ c.earlier_so_far-earlier.result was.earlier earlier.so_far);
-      later = λ none. subst (λ (xs : List ℕ). IsColumn 0 (IsEarlierAt r) (n + 1) xs) (sym c.in_ok-push-2.ensures.items)
+      later = λ none. subst (λ (xs : List ℕ). IsColumn 0 (IsEarlierAt r) (n + 1) xs) (sym c.in_ok-push-3.ensures.items)
           (column_more 0 (IsEarlierAt r) n _ c.earlier_so_far-earlier.result (was.later (earlier.later none).0) (earlier.later none).1);
       ables = c.in_ok-note_behind.ensures;
       senders = senders_still r n c.args.found.now.senders (not_sent r n got at (λ b. refl)) was.senders;

@@ -1,11 +1,12 @@
 use Rattle.std.proofs.Common.{◌≡◌, ◌+◌, ℕ, List, Option, Some, None, cond, sym, ap, ◌∙◌, subst, arith}
 use Rattle.std.specs.Prelude.{slice_get}
 use Rattle.exercise_model.specs.declared.cause.Cause.{Cause}
+use Rattle.exercise_model.specs.declared.state.Change.{Change}
 use Rattle.exercise_model.specs.Entry.{Entry, Sent}
 use Rattle.exercise_findings.specs.Column.{IsColumn}
 use Rattle.exercise_findings.specs.Number.{entry_number}
 use Rattle.exercise_findings.specs.Earlier.{IsEarlierAt, IsSoFarAt}
-use Rattle.exercise_findings.specs.Tables.{IsOwnCause, other_at}
+use Rattle.exercise_findings.specs.Tables.{IsOwnCause, IsChangeAt, other_at}
 use Rattle.exercise_findings.proofs.Ables.{behind_still}
 use Rattle.exercise_findings.proofs.Columns.{column_more, on_ok}
 use Rattle.exercise_findings.proofs.EarlierEntries.{sent_earlier, known_so_far}
@@ -31,9 +32,11 @@ returns-clause-found g c =
       tied = tied;
       causes = subst (λ (xs : List (Option Cause)). IsColumn None (IsOwnCause r) (n + 1) xs) (sym c.in_ok-push.ensures.items)
           (column_more None (IsOwnCause r) n _ c.in_ok-here.here.cause was.causes here.cause);
-      earlier = subst (λ (xs : List ℕ). IsColumn 0 (IsSoFarAt r) (n + 1) xs) (sym c.in_ok-push-2.ensures.items)
+      changes = subst (λ (xs : List (Option Change)). IsColumn None (IsChangeAt r) (n + 1) xs) (sym c.in_ok-push-2.ensures.items)
+          (column_more None (IsChangeAt r) n _ c.in_ok-here.here.change was.changes here.change);
+      earlier = subst (λ (xs : List ℕ). IsColumn 0 (IsSoFarAt r) (n + 1) xs) (sym c.in_ok-push-3.ensures.items)
           (column_more 0 (IsSoFarAt r) n _ c.entry_number.result was.earlier (known_so_far r n c.entry_number.result earlier));
-      later = λ none. subst (λ (xs : List ℕ). IsColumn 0 (IsEarlierAt r) (n + 1) xs) (sym c.in_ok-push-2.ensures.items)
+      later = λ none. subst (λ (xs : List ℕ). IsColumn 0 (IsEarlierAt r) (n + 1) xs) (sym c.in_ok-push-3.ensures.items)
           (column_more 0 (IsEarlierAt r) n _ c.entry_number.result (was.later none) earlier);
       ables = behind_still r n c.args.found.now.ables.items (sym (behind_here r n sent at)) was.ables;
       senders = c.in_ok-note_sender.ensures;

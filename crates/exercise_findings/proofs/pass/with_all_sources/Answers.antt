@@ -5,6 +5,7 @@ pub returns : goal.returns
 returns g c = record {
   tied = c.requires.pass.tied;
   causes = c.requires.pass.causes;
+  changes = c.requires.pass.changes;
   earlier = all_so_far (g.L.ExerciseLog.recording c.args.log.now) c.all_earlier.result.items c.all_earlier.ensures;
   senders = tt;
   sources = c.all_earlier.ensures;

@@ -4,6 +4,7 @@ pub returns : goal.returns
 returns g c = record {
   tied = c.requires.tied;
   causes = c.requires.causes;
+  changes = c.requires.changes;
   earlier = c.requires.earlier;
   senders = c.requires.senders;
   sources = tt;

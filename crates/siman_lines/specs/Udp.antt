@@ -1,5 +1,5 @@
 -- What a line over UDP keeps, and what it passes over (profile). Which datagrams go through its socket, no contract of a socket says.
-use Rattle.std.specs.Prelude.{◌≡◌, ℕ, zero, suc, ◌+◌, ◌-◌, ◌^◌, ◌≤◌, ◌<◌, min, Option, Some, None, Result, Ok, Err}
+use Rattle.std.specs.Prelude.{◌≡◌, ℕ, true, zero, suc, ◌+◌, ◌-◌, ◌^◌, ◌≤◌, ◌<◌, min, Option, Some, None, Result, Ok, Err}
 use Rattle.siman_lines.specs.declared.line.LineFault.{LineFault}
 use Rattle.siman_lines.specs.declared.udp.TheConstants.{MOST_STRANGERS}
 use Rattle.siman_lines.specs.declared.udp.UdpLine.{UdpLine}
@@ -7,6 +7,7 @@ use Rattle.siman_lines.specs.declared.udp.UdpLine.{UdpLine}
 -- A send passes nothing over.
 pub record SendKeeps (old new : UdpLine) (result : Result (Unit {0}) LineFault) : Type 0 where
   pub peers : new.peers ≡ old.peers
+  pub anyone : new.anyone ≡ old.anyone
   pub strangers : new.strangers ≡ old.strangers
 
 -- A receive hands on a datagram, or fails, after it passed over fewer than 64 strangers; it finds nothing after it passed over at most 64.
@@ -20,8 +21,11 @@ abbrev pub counted_on : (before passed : ℕ) → ℕ
 counted_on before zero = before
 counted_on before (suc n) = min (counted_on before n + 1) (2 ^ 64 - 1)
 
+-- A receive passes strangers over, and none where the line hears anyone.
 pub record ReceivePasses (old new : UdpLine) (result : Result (Option ℕ) LineFault) : Type 0 where
   pub peers : new.peers ≡ old.peers
+  pub anyone : new.anyone ≡ old.anyone
   pub passed : ℕ
   pub within : Within passed result
+  pub none : old.anyone ≡ true → passed ≡ 0
   pub strangers : new.strangers ≡ counted_on old.strangers passed

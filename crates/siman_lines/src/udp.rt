@@ -9,23 +9,43 @@ use std::net::{SocketAddr, UdpSocket};
 const MOST_STRANGERS: u32 = 64;
 
 /// A socket whose receives never wait, and its peers: each datagram goes to each of them, and what
-/// comes from elsewhere is passed over.
+/// comes from elsewhere is passed over, unless the line hears anyone.
 #[derive(Drop)]
 pub struct UdpLine {
     socket: UdpSocket,
     peers: Vec<SocketAddr>,
+    anyone: bool,
     strangers: u64,
     failures: Log<(), ()>,
 }
 
 impl UdpLine {
-    ghost use Rattle.std.specs.Prelude.{◌≡◌, ◌+◌, length, IfOk};
+    ghost use Rattle.std.specs.Prelude.{◌≡◌, ◌+◌, length, true, false, IfOk};
 
     /// A line over the socket, which is set so that a receive does not wait. It sends to each of
     /// these peers, in their order, and hands on what comes from them alone. One receive passes over
     /// at most 64 datagrams from elsewhere, and then finds nothing.
     pub fn over(socket: UdpSocket, peers: Vec<SocketAddr>) -> Result<UdpLine, LineFault>
         ensures peers { IfOk result (λ l. l.peers ≡ peers) }
+        ensures anyone { IfOk result (λ l. l.anyone ≡ false) }
+        ensures strangers { IfOk result (λ l. l.strangers ≡ 0) }
+    {
+        UdpLine::open(socket, peers, false)
+    }
+
+    /// A line over the socket, as by [`over`](UdpLine::over), which hands on what comes from anyone:
+    /// nobody is a stranger to it.
+    pub fn hearing_anyone(socket: UdpSocket, peers: Vec<SocketAddr>) -> Result<UdpLine, LineFault>
+        ensures peers { IfOk result (λ l. l.peers ≡ peers) }
+        ensures anyone { IfOk result (λ l. l.anyone ≡ true) }
+        ensures strangers { IfOk result (λ l. l.strangers ≡ 0) }
+    {
+        UdpLine::open(socket, peers, true)
+    }
+
+    fn open(socket: UdpSocket, peers: Vec<SocketAddr>, anyone: bool) -> Result<UdpLine, LineFault>
+        ensures peers { IfOk result (λ l. l.peers ≡ peers) }
+        ensures anyone { IfOk result (λ l. l.anyone ≡ anyone) }
         ensures strangers { IfOk result (λ l. l.strangers ≡ 0) }
     {
         if socket.set_nonblocking(true).is_err() {
@@ -34,6 +54,7 @@ impl UdpLine {
         Ok(UdpLine {
             socket,
             peers,
+            anyone,
             strangers: 0,
             failures: Log::new(),
         })
@@ -42,6 +63,7 @@ impl UdpLine {
     fn fail(&mut self) -> LineFault
         ensures counted { length self.new.failures.items ≡ length self.old.failures.items + 1 }
         ensures peers { self.new.peers ≡ self.old.peers }
+        ensures anyone { self.new.anyone ≡ self.old.anyone }
         ensures strangers { self.new.strangers ≡ self.old.strangers }
     {
         self.failures = self.failures.and(&(), &());
@@ -78,7 +100,7 @@ impl Line for UdpLine {
         for _ in 0..MOST_STRANGERS {
             match self.socket.recv_from(buffer) {
                 Ok((taken, from)) => {
-                    if self.peers.contains(&from) {
+                    if self.anyone || self.peers.contains(&from) {
                         return Ok(Some(taken));
                     }
                     self.strangers = self.strangers.saturating_add(1);

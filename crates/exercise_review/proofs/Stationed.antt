@@ -1,12 +1,15 @@
 -- The parties of an order of which nobody outside can be one: recorded stations, whose addresses rise.
-use Rattle.std.proofs.Common.{◌≡◌, ◌≢◌, ⊎_elim, ℕ, zero, suc, ◌+◌, ◌<◌, ◌≤◌, List, [], ◌∷◌, ◌++◌, length, Bool, true, false, Option, Some, None, refl, sym, ap, ◌∙◌, arith}
-use Rattle.std.specs.Prelude.{◌&&◌, ◌||◌, not, is_some, nat_lt, nat_le, slice_index_or, if◌then◌else◌}
+use Rattle.std.proofs.Common.{◌≡◌, ◌≢◌, ⊎_elim, ℕ, zero, suc, ◌+◌, ◌-◌, ◌<◌, ◌≤◌, List, [], ◌∷◌, ◌++◌, length, Bool, true, false, Option, Some, None, refl, sym, ap, ◌∙◌, arith}
+use Rattle.std.specs.Prelude.{◌&&◌, ◌||◌, ◌==◌, not, is_some, nat_lt, nat_le, slice_index_or, if◌then◌else◌}
 use Rattle.std.specs.List.{list_all}
 use Rattle.std.specs.Option.{option_or, option_to_list}
 use Rattle.std.proofs.Math.Numerals.{add-one}
 use Rattle.std.proofs.lemmas.Bool.{lt-ltb, ltb-true, leb-true, eqb-true, eq-eqb, and_parts, or_cases, cases_lt}
 use Rattle.dis_records.specs.declared.address.TheConstants.{LARGEST_ADDRESS_PART}
 use Rattle.dis_records.specs.Address.{Pair, is_address_part, is_address}
+use Rattle.dis_records.specs.declared.entity.EntityId.{EntityId}
+use Rattle.dis_records.specs.Entity.{pair_of, is_addressed}
+use Rattle.siman_pdus.specs.Answers.{same_id}
 use Rattle.exercise_model.specs.declared.station.TheConstants.{MOST_STATIONS}
 use Rattle.exercise_model.specs.Station.{StationData, is_station, is_below, are_rising}
 use Rattle.exercise_model.specs.Recording.{PlainRecording, IsRecording}
@@ -16,8 +19,8 @@ use Rattle.exercise_model.specs.Place.{first_below}
 use Rattle.exercise_model.proofs.Offered.{first_found}
 use Rattle.exercise_review.specs.declared.party.Party.{Party}
 use Rattle.exercise_review.specs.declared.party.Party.TheVariants as parties
-use Rattle.exercise_review.specs.Order.{OrderData}
-use Rattle.exercise_review.specs.Party.{is_at, is_party, is_party_outside, is_recorded_at, names, is_told_from}
+use Rattle.exercise_review.specs.Order.{OrderData, is_meant}
+use Rattle.exercise_review.specs.Party.{first_copy, is_at, is_party, is_party_outside, is_recorded_at, names, is_told_from}
 use Rattle.exercise_review.specs.Parties.{number_of, pair_numbered, addresses, has_outsiders, party_by, party_at, parties_below, parties_of, AreNoParties}
 use Rattle.exercise_review.proofs.PartyPlaces.{number_back, at_station, skipped, no_parties}
 use Rattle.exercise_review.proofs.Lives.{append_none}
@@ -72,6 +75,21 @@ rises r is i j less l =
     let some = and_parts (nat_le 1 (length r.setting.stations)) (nat_le (length r.setting.stations) MOST_STATIONS && are_rising None r.setting.stations) is.setting.stations in
     let rising = and_parts (nat_le (length r.setting.stations) MOST_STATIONS) (are_rising None r.setting.stations) some.1 in
     rising_at None r.setting.stations is.setting.each_station rising.1 i j less l
+
+-- up to a station whose number is smaller all are, and from one on whose number is not none is
+pub all_below : (r : PlainRecording) → IsRecording r → (m number : ℕ) → m < length r.setting.stations → number_at r m < number
+    → (s : ℕ) → s < m + 1 → number_at r s < number
+all_below r is m number within less s l = ⊎_elim
+    (λ (before : s < m). let lower = rises r is s m before within in omega (arith, lower, less))
+    (λ (at : m ≤ s). let same : s ≡ m = omega (arith, l, at) in omega (arith, less, ap (number_at r) same))
+    (cases_lt s m)
+
+pub all_from : (r : PlainRecording) → IsRecording r → (m number : ℕ) → number ≤ number_at r m
+    → (s : ℕ) → m ≤ s → s < length r.setting.stations → number ≤ number_at r s
+all_from r is m number more s above l = ⊎_elim
+    (λ (behind : m < s). let higher = rises r is m s behind l in omega (arith, higher, more))
+    (λ (at : s ≤ m). let same : s ≡ m = omega (arith, above, at) in omega (arith, more, ap (number_at r) same))
+    (cases_lt m s)
 
 few_at : (r : PlainRecording) → IsRecording r → (s : ℕ) → s < length r.setting.stations → (station_at r s).address.application < 65536
 few_at r is s l = small_at r.setting.stations is.setting.each_station s l
@@ -226,6 +244,77 @@ with_station r is o none s l here old new so_far added = station_added r is o no
 pub no_station : (r : PlainRecording) → IsRecording r → (o : OrderData) → has_outsiders r o ≡ false → (s : ℕ) → s < length r.setting.stations → is_party r o s ≡ false
     → (old : List Party) → old ≡ parties_below r o (up_to r s) → old ≡ parties_below r o (up_to r (s + 1))
 no_station r is o none s l here old so_far = station_added r is o none s l false here old old so_far (sym (append_none old))
+
+-- stations that are no parties are passed over
+pub passed_over : (r : PlainRecording) → IsRecording r → (o : OrderData) → has_outsiders r o ≡ false → (a d : ℕ) → d + a ≤ length r.setting.stations
+    → ((s : ℕ) → a ≤ s → s < d + a → is_party r o s ≡ false) → (ps : List Party) → ps ≡ parties_below r o (up_to r a) → ps ≡ parties_below r o (up_to r (d + a))
+passed_over r is o none a zero l apart ps so_far = let same : 0 + a ≡ a = omega arith in so_far ∙ ap (λ n. parties_below r o (up_to r n)) (sym same)
+passed_over r is o none a (suc d) l apart ps so_far =
+    let next : suc d + a ≡ d + a + 1 = omega arith in
+    no_station r is o none (d + a) (omega (arith, l)) (apart (d + a) (omega arith) (omega arith)) ps
+    (passed_over r is o none a d (omega (arith, l)) (λ s above below. apart s above (omega (arith, below))) ps so_far)
+    ∙ ap (λ n. parties_below r o (up_to r n)) (sym next)
+
+-- no party is who is not addressed
+not_party : (r : PlainRecording) (o : OrderData) (s : ℕ) → (is_addressed o.request.target (station_at r s).address ≡ true → ⊥) → is_party r o s ≡ false
+unfolding is_party is_meant
+not_party r o s never =
+    elim (is_addressed o.request.target (station_at r s).address) as
+    (λ b. is_addressed o.request.target (station_at r s).address ≡ b
+    → ((nat_lt s (length r.setting.stations) && b) && (not (same_id o.maker (Some s)) || is_some (first_copy r o s))) ≡ false) [
+      | true ↦ λ here. absurd (never here)
+      | false ↦ λ _. elim (nat_lt s (length r.setting.stations)) as
+          (λ b. ((b && false) && (not (same_id o.maker (Some s)) || is_some (first_copy r o s))) ≡ false) [ true ↦ refl | false ↦ refl ]
+    ] refl
+
+-- from station `from` on, and before station `to`, stand all that the order addresses
+abbrev pub IsAmong : PlainRecording → OrderData → (from to : ℕ) → Type 0
+IsAmong r o from to = (s : ℕ) → s < length r.setting.stations → is_addressed o.request.target (station_at r s).address ≡ true → (from ≤ s) × (s < to)
+
+pub none_before : (r : PlainRecording) → IsRecording r → (o : OrderData) → has_outsiders r o ≡ false → (from to : ℕ) → from ≤ length r.setting.stations → IsAmong r o from to
+    → [] ≡ parties_below r o (up_to r from)
+none_before r is o none from to l among =
+    let whole : from + 0 ≡ from = omega arith in
+    passed_over r is o none 0 from (omega (arith, l))
+    (λ s _ below. not_party r o s (λ here. let among_these = among s (omega (arith, below, l)) here in omega (arith, among_these.0, below)))
+    [] (first_station r o)
+    ∙ ap (λ n. parties_below r o (up_to r n)) whole
+
+pub none_behind : (r : PlainRecording) → IsRecording r → (o : OrderData) → has_outsiders r o ≡ false → (from to : ℕ) → to ≤ length r.setting.stations → IsAmong r o from to
+    → (ps : List Party) → ps ≡ parties_below r o (up_to r to) → ps ≡ parties_below r o (up_to r (length r.setting.stations))
+none_behind r is o none from to l among ps so_far =
+    let n : ℕ = length r.setting.stations in
+    let whole : n - to + to ≡ n = omega (arith, l) in
+    passed_over r is o none to (n - to) (omega (arith, l))
+    (λ s above below. not_party r o s (λ here. let among_these = among s (omega (arith, below, l)) here in omega (arith, among_these.1, above)))
+    ps so_far
+    ∙ ap (λ m. parties_below r o (up_to r m)) whole
+
+-- the number of an address that an identifier names alone
+pub named_number : (id : EntityId) (a : Pair) → (id.site ≡ 0xFFFF → ⊥) → (id.application ≡ 0xFFFF → ⊥) → is_addressed id a ≡ true → number_of (pair_of id) ≡ number_of a
+named_number id a some one h =
+    let parts = and_parts ((id.site == a.site) || (id.site == 0xFFFF)) _ h in
+    let site : id.site ≡ a.site = ⊎_elim (λ same. eqb-true _ _ same) (λ all. absurd (some (eqb-true _ _ all))) (or_cases (id.site == a.site) _ parts.0) in
+    let application : id.application ≡ a.application =
+    ⊎_elim (λ same. eqb-true _ _ same) (λ all. absurd (one (eqb-true _ _ all))) (or_cases (id.application == a.application) _ parts.1) in
+    omega (arith, site, application)
+
+-- of those up to which all numbers are smaller and from which on none is, the first alone can be the one that an identifier names
+pub only_at : (r : PlainRecording) → IsRecording r → (id : EntityId) → (id.site ≡ 0xFFFF → ⊥) → (id.application ≡ 0xFFFF → ⊥) → (at : ℕ)
+    → ((s : ℕ) → s < at → number_at r s < number_of (pair_of id)) → ((s : ℕ) → at ≤ s → s < length r.setting.stations → number_of (pair_of id) ≤ number_at r s)
+    → (s : ℕ) → s < length r.setting.stations → is_addressed id (station_at r s).address ≡ true → s ≡ at
+only_at r is id some one at below from s l here =
+    let named = named_number id (station_at r s).address some one here in
+    ⊎_elim
+    (λ (before : s < at). let less = below s before in absurd (let no : ⊥ = omega (arith, less, named) in no))
+    (λ (not_before : at ≤ s). ⊎_elim
+    (λ (behind : at < s).
+    let less = rises r is at s behind l in
+    let most = from at (omega arith) (omega (arith, behind, l)) in
+    absurd (let no : ⊥ = omega (arith, less, most, named) in no))
+    (λ (most : s ≤ at). omega (arith, not_before, most))
+    (cases_lt at s))
+    (cases_lt s at)
 
 -- all of them
 pub all_stations : (r : PlainRecording) → IsRecording r → (o : OrderData) → has_outsiders r o ≡ false → (n : ℕ) → n ≡ length r.setting.stations

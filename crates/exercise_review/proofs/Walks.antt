@@ -1,6 +1,6 @@
 -- A way back through the entries under a key, and what it leaves out.
 use Rattle.std.proofs.Common.{◌≡◌, ℕ, zero, suc, ◌+◌, ◌<◌, Bool, true, false, Option, Some, None, refl, sym, ap, ◌∙◌, arith}
-use Rattle.std.specs.Prelude.{IfSome, if◌then◌else◌}
+use Rattle.std.specs.Prelude.{IfSome, is_some, if◌then◌else◌}
 use Rattle.std.specs.Option.{option_or}
 use Rattle.std.proofs.lemmas.Option.{same_Some}
 use Rattle.exercise_model.specs.Place.{first_below}
@@ -88,7 +88,7 @@ chain : (o p q : Option ℕ) → option_or (option_or o p) q ≡ option_or o (op
 chain None p q = refl
 chain (Some x) p q = refl
 
-first_on : (f h : ℕ → Bool) (n j : ℕ) (next first : Option ℕ) → ((i : ℕ) → f i ≡ true → h i ≡ true) → next ≡ last_below h j
+pub first_on : (f h : ℕ → Bool) (n j : ℕ) (next first : Option ℕ) → ((i : ℕ) → f i ≡ true → h i ≡ true) → next ≡ last_below h j
     → IsFirstOn f n (Some j) first → IsFirstOn f n next (option_or (if f j then Some j else None) first)
 unfolding first_below
 first_on f h n j next first under e so_far =
@@ -125,6 +125,45 @@ last_passes f n j passes so_far = sym (so_far ∙ ap (λ b. if b then Some j els
 pub last_ends : (f : ℕ → Bool) (n : ℕ) → IsLastOn f n None → None ≡ last_below f n
 unfolding last_below
 last_ends f n so_far = sym so_far
+
+-- the last of all is the last that was found behind an entry on the way, else the last up to it
+abbrev pub IsLatestOn : (ℕ → Bool) → (n : ℕ) → (next last : Option ℕ) → Type 0
+IsLatestOn f n next last = last_below f n ≡ option_or last (last_below f (past next))
+
+pub latest_starts : (f h : ℕ → Bool) (n : ℕ) (next : Option ℕ) → ((i : ℕ) → f i ≡ true → h i ≡ true) → next ≡ last_below h n → IsLatestOn f n next None
+latest_starts f h n next under e = last_starts f h n next under e
+
+pub latest_on : (f h : ℕ → Bool) (n j : ℕ) (next last : Option ℕ) → ((i : ℕ) → f i ≡ true → h i ≡ true) → next ≡ last_below h j
+    → IsLatestOn f n (Some j) last → IsLatestOn f n next (option_or last (if f j then Some j else None))
+unfolding last_below
+latest_on f h n j next last under e so_far =
+    so_far
+    ∙ ap (λ x. option_or last (if f j then Some j else x)) (jump (last_below f) f h under (last_still f) j ∙ ap (λ o. last_below f (past o)) (sym e))
+    ∙ chosen (f j) last
+  where
+    chosen : (b : Bool) (o : Option ℕ)
+        → option_or o (if b then Some j else last_below f (past next)) ≡ option_or (option_or o (if b then Some j else None)) (last_below f (past next))
+    chosen true None = refl
+    chosen true (Some x) = refl
+    chosen false None = refl
+    chosen false (Some x) = refl
+
+pub latest_ends : (f : ℕ → Bool) (n : ℕ) (last : Option ℕ) → IsLatestOn f n None last → last ≡ last_below f n
+unfolding last_below
+latest_ends f n last so_far = sym (so_far ∙ nothing last)
+  where
+    nothing : (o : Option ℕ) → option_or o None ≡ o
+    nothing None = refl
+    nothing (Some x) = refl
+
+-- where none passes up to n there is neither a first nor a last
+pub found_alike : (f : ℕ → Bool) (n : ℕ) → is_some (last_below f n) ≡ is_some (first_below f n)
+unfolding last_below first_below
+found_alike f zero = refl
+found_alike f (suc n) = elim (f n) as (λ b. is_some (if b then Some n else last_below f n) ≡ is_some (option_or (first_below f n) (if b then Some n else None))) [
+  | true ↦ elim (first_below f n) as (λ o. true ≡ is_some (option_or o (Some n))) [ None ↦ refl | Some x ↦ refl ]
+  | false ↦ found_alike f n ∙ elim (first_below f n) as (λ o. is_some o ≡ is_some (option_or o None)) [ None ↦ refl | Some x ↦ refl ]
+]
 
 pub count_starts : (f h : ℕ → Bool) (n : ℕ) (next : Option ℕ) → ((i : ℕ) → f i ≡ true → h i ≡ true) → next ≡ last_below h n → IsCountOn f n next 0
 count_starts f h n next under e =

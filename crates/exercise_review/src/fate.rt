@@ -1,16 +1,20 @@
 //! What became of an order at a party of it.
 
-ghost use Rattle.std.specs.Prelude.{◌≡◌};
+ghost use Rattle.std.specs.Prelude.{◌≡◌, length};
+ghost use Rattle.exercise_review.specs.Counted.{last_below};
 ghost use Rattle.exercise_review.specs.Order.{order_of};
-ghost use Rattle.exercise_review.specs.Fate.{fate_heard, fate_by, word_heard, has_replied, traces_of, fate_of, fate_text};
+ghost use Rattle.exercise_review.specs.Party.{first_copy};
+ghost use Rattle.exercise_review.specs.Reply.{is_reply, is_news};
+ghost use Rattle.exercise_review.specs.Word.{first_settling};
+ghost use Rattle.exercise_review.specs.Fate.{fate_heard, fate_by, traces_of, fate_of, fate_text};
 
-use crate::news::news_of;
+use crate::answered::{Replied, replied_to};
+use crate::news::{HeardNews, news_of};
 use crate::order::Order;
 use crate::party::{Party, first_copy};
 use crate::register::Register;
 use crate::reply::Replies;
-use crate::walk::first_entry;
-use crate::word::{Word, first_settling, word_at};
+use crate::word::{Word, word_of};
 use exercise_model::ExerciseLog;
 use std::fmt;
 
@@ -116,26 +120,31 @@ impl fmt::Display for Fate {
     }
 }
 
-/// Whether a station replied to an order.
-#[tactic(auto, using(crate::proofs::Under::under_steps))]
-fn has_replied<L: ExerciseLog>(replies: &Replies<'_, L>) -> bool
-    ensures { result ≡ has_replied replies.now.findings.now (order_of replies.now.order.now) replies.now.station }
+/// The traces of an order at a recorded station, where this was gathered there: how often it was
+/// received and where first, what was replied, and what the maker heard.
+#[tactic(auto, unfolding(crate::specs::Fate::traces_of), using(crate::proofs::Walks::found_alike))]
+pub(crate) fn traces_by<L: ExerciseLog>(
+    replies: &Replies<'_, L>,
+    got: Option<usize>,
+    replied: Replied,
+    news: HeardNews,
+) -> Traces
+    requires got { let q = replies.now in got ≡ first_copy q.findings.now (order_of q.order.now) q.station }
+    requires settled { let q = replies.now in replied.settled ≡ first_settling q.findings.now (is_reply q.findings.now (order_of q.order.now) q.station) }
+    requires last { let q = replies.now in replied.last ≡ last_below (is_reply q.findings.now (order_of q.order.now) q.station) (length q.findings.now.entries) }
+    requires news { let q = replies.now in news.settled ≡ first_settling q.findings.now (is_news q.findings.now (order_of q.order.now) q.station) }
+    ensures { let q = replies.now in result ≡ traces_of q.findings.now (order_of q.order.now) q.station }
 {
-    first_entry(replies.findings, replies.key(), replies).is_some()
-}
-
-/// The word of the first answer of a station that the maker heard and that settles.
-fn heard<L: ExerciseLog>(replies: &Replies<'_, L>) -> Option<Word>
-    ensures { result ≡ word_heard replies.now.findings.now (order_of replies.now.order.now) replies.now.station }
-{
-    match news_of(replies).settled {
-        Some(entry) => word_at(replies.findings, entry),
-        None => None,
+    Traces {
+        made: replies.order.maker.is_some(),
+        heard: word_of(replies.findings, news.settled),
+        settled: replied.settled.is_some(),
+        replied: replied.last.is_some(),
+        got: got.is_some(),
     }
 }
 
 /// The traces of an order at a recorded station. It takes no memory.
-#[tactic(auto, unfolding(crate::specs::Fate::traces_of), using(crate::proofs::Under::under_steps))]
 pub fn traces_of<L: ExerciseLog>(
     findings: &Register<'_, L>,
     order: &Order<'_>,
@@ -148,13 +157,15 @@ pub fn traces_of<L: ExerciseLog>(
         order,
         station,
     };
-    Traces {
-        made: order.maker.is_some(),
-        heard: heard(&replies),
-        settled: first_settling(findings, replies.key(), &replies).is_some(),
-        replied: has_replied(&replies),
-        got: first_copy(findings, order, station).is_some(),
-    }
+    let key = replies.key();
+    let replied = replied_to(&replies, key);
+    let news = news_of(&replies, key);
+    traces_by(
+        &replies,
+        first_copy(findings, order, station),
+        replied,
+        news,
+    )
 }
 
 /// The fate of an order at a party of it. It takes no memory.

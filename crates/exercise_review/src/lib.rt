@@ -20,6 +20,7 @@
 //! alone that have its digest there; what else is asked goes over the whole log.
 #![tactic(auto)]
 
+mod answered;
 mod change_laws;
 mod changes;
 mod conversion_laws;

@@ -133,9 +133,11 @@ fn news_under<L: ExerciseLog>(replies: &Replies<'_, L>, maker: u16, key: u64) ->
     news
 }
 
-/// What the maker of an order heard of the replies of a station; nothing where it came from outside.
+/// What the maker of an order heard of the replies of a station, where this is their key; nothing where
+/// it came from outside.
 #[tactic(auto, using(crate::proofs::Replied::none_settled, crate::proofs::Replied::none_last))]
-pub(crate) fn news_of<L: ExerciseLog>(replies: &Replies<'_, L>) -> HeardNews
+pub(crate) fn news_of<L: ExerciseLog>(replies: &Replies<'_, L>, key: Option<u64>) -> HeardNews
+    requires key { key ≡ order_key replies.now.station (order_of replies.now.order.now).request }
     ensures settled { let q = replies.now in result.settled ≡ first_settling q.findings.now (is_news q.findings.now (order_of q.order.now) q.station) }
     ensures last { let q = replies.now in result.last ≡ last_below (is_news q.findings.now (order_of q.order.now) q.station) (length q.findings.now.entries) }
 {
@@ -145,7 +147,7 @@ pub(crate) fn news_of<L: ExerciseLog>(replies: &Replies<'_, L>) -> HeardNews
             last: None,
         };
     };
-    match replies.key() {
+    match key {
         Some(key) => news_under(replies, maker, key),
         None => {
             let news = News { replies };
@@ -155,12 +157,4 @@ pub(crate) fn news_of<L: ExerciseLog>(replies: &Replies<'_, L>) -> HeardNews
             }
         }
     }
-}
-
-/// The entry whose word counts of what the maker of an order heard of the replies of a station.
-#[tactic(auto, unfolding(crate::specs::Word::telling))]
-pub(crate) fn news_told<L: ExerciseLog>(replies: &Replies<'_, L>) -> Option<usize>
-    ensures { let q = replies.now in result ≡ telling q.findings.now (is_news q.findings.now (order_of q.order.now) q.station) }
-{
-    news_of(replies).telling()
 }

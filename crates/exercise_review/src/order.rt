@@ -12,7 +12,7 @@ use crate::keys::{id_key, order_key};
 use crate::question::{Question, first_below};
 use crate::register::Register;
 use crate::stations::{is_for_station, is_outside};
-use crate::walk::{count_entries, first_entry};
+use crate::walk::{counted_entries, first_entry};
 use exercise_model::{EntryView, ExerciseLog};
 use siman_pdus::{PduView, is_request, is_under_identifier, same_order};
 
@@ -275,7 +275,7 @@ impl Order<'_> {
                     request: &self.request,
                 };
                 let key = order_key(station, &self.request);
-                count_entries(findings, key, &sends)
+                counted_entries(findings, key, &sends).count
             }
             None => 0,
         }

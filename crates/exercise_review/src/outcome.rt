@@ -1,21 +1,22 @@
 //! What is told of an order at each of its parties.
 
-ghost use Rattle.std.specs.Prelude.{◌≡◌, map, option_and_then, IfOk};
+ghost use Rattle.std.specs.Prelude.{◌≡◌, map, IfOk};
 ghost use Rattle.exercise_review.specs.Order.{order_of};
-ghost use Rattle.exercise_review.specs.Word.{word_at};
+ghost use Rattle.exercise_review.specs.Party.{first_copy};
+ghost use Rattle.exercise_review.specs.Register.{order_key};
 ghost use Rattle.exercise_review.specs.Outcome.{stamp_at, took_between, took, sends_told, receipts_of, outcome_here, outcome_outside, outcome_nowhere, outcome_at, outcomes_of};
 
+use crate::answered::replied_to;
 use crate::entries::entry_at;
-use crate::fate::{Fate, fate_of};
-use crate::keys::order_key;
-use crate::news::news_told;
+use crate::fate::{Fate, fate_of, traces_by};
+use crate::news::news_of;
 use crate::order::{Gets, Order};
 use crate::parties::parties_of;
-use crate::party::{Outsider, Party, ToldFrom, first_copy};
+use crate::party::{Outsider, Party, ToldFrom};
 use crate::register::Register;
-use crate::reply::{Replies, change_of_order};
-use crate::walk::count_entries;
-use crate::word::{Word, telling, word_at};
+use crate::reply::Replies;
+use crate::walk::{Counted, counted_entries};
+use crate::word::{Word, telling, word_of};
 use exercise_model::{EntryView, ExerciseLog};
 use std::alloc::{AllocError, Global};
 
@@ -87,16 +88,6 @@ fn took<L: ExerciseLog>(
     }
 }
 
-/// What an entry says that an answer stands at, if there is one.
-fn word_of<L: ExerciseLog>(findings: &Register<'_, L>, entry: Option<usize>) -> Option<Word>
-    ensures { result ≡ option_and_then (word_at findings.now) entry }
-{
-    match entry {
-        Some(entry) => word_at(findings, entry),
-        None => None,
-    }
-}
-
 /// How often an order was sent, if its maker is recorded.
 fn sends_told<L: ExerciseLog>(findings: &Register<'_, L>, order: &Order<'_>) -> Option<usize>
     ensures { result ≡ sends_told findings.now (order_of order.now) }
@@ -107,21 +98,29 @@ fn sends_told<L: ExerciseLog>(findings: &Register<'_, L>, order: &Order<'_>) -> 
     }
 }
 
-/// How often a station received an order.
-#[tactic(auto, using(crate::proofs::Under::under_steps))]
-fn receipts_of<L: ExerciseLog>(findings: &Register<'_, L>, order: &Order<'_>, station: u16) -> usize
-    ensures { result ≡ receipts_of findings.now (order_of order.now) station }
+/// How often a station received an order, and where first, where this is the key of that.
+#[tactic(auto, unfolding(crate::specs::Party::first_copy), using(crate::proofs::Under::under_steps))]
+fn copies_of<L: ExerciseLog>(
+    findings: &Register<'_, L>,
+    order: &Order<'_>,
+    station: u16,
+    key: Option<u64>,
+) -> Counted
+    requires key { key ≡ order_key station (order_of order.now).request }
+    ensures count { result.count ≡ receipts_of findings.now (order_of order.now) station }
+    ensures first { result.first ≡ first_copy findings.now (order_of order.now) station }
 {
     let gets = Gets {
         findings,
         station,
         request: &order.request,
     };
-    count_entries(findings, order_key(station, &order.request), &gets)
+    counted_entries(findings, key, &gets)
 }
 
-/// What is told of an order at a recorded station.
-#[tactic(auto, using(crate::proofs::Under::under_steps))]
+/// What is told of an order at a recorded station: its log is gone through by the key of the order
+/// there.
+#[tactic(auto, unfolding(crate::specs::Word::telling, crate::specs::Fate::fate_of))]
 fn outcome_here<L: ExerciseLog>(
     findings: &Register<'_, L>,
     order: &Order<'_>,
@@ -134,20 +133,22 @@ fn outcome_here<L: ExerciseLog>(
         order,
         station,
     };
-    let answer = telling(findings, replies.key(), &replies);
-    let news = news_told(&replies);
+    let key = replies.key();
+    let copies = copies_of(findings, order, station, key);
+    let replied = replied_to(&replies, key);
+    let news = news_of(&replies, key);
     Outcome {
         party: Some(Party::Station(station)),
         sends: sends_told(findings, order),
-        receipts: Some(receipts_of(findings, order, station)),
-        got: first_copy(findings, order, station),
-        said: word_of(findings, answer),
-        answer,
-        heard: word_of(findings, news),
-        news,
-        took: took(findings, order, news),
-        change: change_of_order(findings, order, station),
-        fate: fate_of(findings, order, Party::Station(station)),
+        receipts: Some(copies.count),
+        got: copies.first,
+        said: word_of(findings, replied.telling()),
+        answer: replied.telling(),
+        heard: word_of(findings, news.telling()),
+        news: news.telling(),
+        took: took(findings, order, news.telling()),
+        change: replied.change,
+        fate: Fate::of(&traces_by(&replies, copies.first, replied, news)),
     }
 }
 

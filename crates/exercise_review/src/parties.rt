@@ -1,8 +1,9 @@
 //! The parties of an order, one after the other by rising addresses.
 
-ghost use Rattle.std.specs.Prelude.{◌≡◌, ◌<◌, ◌+◌, false, length, option_map, IfOk, IfSome};
-ghost use Rattle.dis_records.specs.Entity.{pair_of};
+ghost use Rattle.std.specs.Prelude.{◌≡◌, ◌≢◌, ◌<◌, ◌≤◌, ◌+◌, ℕ, nat_lt, IsTrue, true, false, length, option_map, IfOk, IfSome};
+ghost use Rattle.dis_records.specs.Entity.{pair_of, is_addressed};
 ghost use Rattle.exercise_model.specs.History.{station_at};
+ghost use Rattle.exercise_model.specs.Recording.{IsRecording};
 ghost use Rattle.exercise_review.specs.Order.{order_of};
 ghost use Rattle.exercise_review.specs.Party.{pair_at};
 ghost use Rattle.exercise_review.specs.Parties.{number_of, addresses, maker_address, party_address, party_at, parties_of, has_outsiders, number_heard, candidate_at, nearer, IsNextParty};
@@ -15,6 +16,9 @@ use crate::register::Register;
 use dis_records::{Address, EntityId};
 use exercise_model::{ExerciseLog, Form};
 use std::alloc::{AllocError, Global};
+
+/// All sites or all applications, in its place (IEEE 1278.1-2012, 6.2.28).
+const ALL: u16 = 0xFFFF;
 
 /// The site and the application of an address.
 pub(crate) fn parts_of(address: Address) -> Outsider
@@ -208,6 +212,56 @@ fn parties_anywhere<L: ExerciseLog>(
     Ok(parties)
 }
 
+/// Whether a recorded station has an address of a smaller number than this.
+fn is_below<L: ExerciseLog>(log: &L, station: usize, number: u64) -> bool
+    requires { station < length (L.recording log.now).setting.stations }
+    ensures { result ≡ nat_lt (number_of (station_at (L.recording log.now) station).address) number }
+{
+    parts_of(log.station(station).address()).number() < number
+}
+
+/// How many recorded stations have an address of a smaller number than this.
+fn stations_below<L: ExerciseLog>(log: &L, number: u64) -> usize
+    ensures within { result ≤ length (L.recording log.now).setting.stations }
+    ensures below { (s : ℕ) → s < result → number_of (station_at (L.recording log.now) s).address < number }
+    ensures from { (s : ℕ) → result ≤ s → s < length (L.recording log.now).setting.stations → number ≤ number_of (station_at (L.recording log.now) s).address }
+{
+    let mut low = 0;
+    let mut high = log.station_count();
+    while low < high {
+        let middle = low + (high - low) / 2;
+        if is_below(log, middle, number) {
+            low = middle + 1;
+        } else {
+            high = middle;
+        }
+    }
+    low
+}
+
+/// Whether an identifier names one site and one application.
+fn names_one(target: EntityId) -> bool
+    ensures { IsTrue result → (target.site ≢ 65535) × (target.application ≢ 65535) }
+{
+    target.site != ALL && target.application != ALL
+}
+
+/// From which station on, and up to which, all stand that an identifier addresses: any where it names
+/// all sites or all applications, else the one at its address.
+fn addressed_among<L: ExerciseLog>(findings: &Register<'_, L>, target: EntityId) -> (usize, usize)
+    ensures limits { IsRecording findings.now }
+    ensures within { (result.0 ≤ result.1) × (result.1 ≤ length findings.now.setting.stations) }
+    ensures all { (s : ℕ) → s < length findings.now.setting.stations → is_addressed target (station_at findings.now s).address ≡ true → (result.0 ≤ s) × (s < result.1) }
+{
+    let log = findings.log();
+    let count = log.station_count();
+    if !names_one(target) {
+        return (0, count);
+    }
+    let at = stations_below(log, parts_in(target).number());
+    if at < count { (at, at + 1) } else { (at, at) }
+}
+
 /// The parties of an order of which nobody else can be one: recorded stations, whose addresses rise.
 fn station_parties<L: ExerciseLog>(
     alloc: Global,
@@ -217,8 +271,9 @@ fn station_parties<L: ExerciseLog>(
     requires { has_outsiders findings.now (order_of order.now) ≡ false }
     ensures { IfOk result (λ parties. parties.items ≡ parties_of findings.now (order_of order.now)) }
 {
+    let (from, to) = addressed_among(findings, order.request.target);
     let mut parties = Vec::new(alloc);
-    for station in 0..findings.log().station_count() {
+    for station in from..to {
         if is_party(findings, order, station as u16) {
             parties.push(Party::Station(station as u16))?;
         }

@@ -70,11 +70,12 @@ fn keep_receipt<'a>(
 ) -> Result<(), AllocError>
     ensures { OnOk result ((k : Receipt) → get same_receipt heard.new k ≡ (if same_receipt receipt.entry k then Some (record { first = first_kept entry (get same_receipt heard.old receipt.entry); last = entry }) else get same_receipt heard.old k)) }
 {
-    let first = match heard.get(&receipt) {
-        Some(kept) => kept.first,
-        None => entry,
+    let only = Receipts {
+        first: entry,
+        last: entry,
     };
-    heard.insert(receipt, Receipts { first, last: entry })?;
+    let kept = heard.entry(receipt)?.or_insert(only);
+    kept.last = entry;
     Ok(())
 }
 

@@ -50,26 +50,61 @@ fn last_under<L: ExerciseLog, Q: Question>(
     None
 }
 
-/// How many entries under a key pass.
-fn count_under<L: ExerciseLog, Q: Question>(
+/// How many entries pass, and the first of them.
+#[derive(Clone, Copy)]
+pub(crate) struct Counted {
+    pub count: usize,
+    pub first: Option<usize>,
+}
+
+/// How many entries under a key pass, and the first of them.
+fn counted_under<L: ExerciseLog, Q: Question>(
     register: &Register<'_, L>,
     key: u64,
     question: &Q,
-) -> usize
+) -> Counted
     requires { IsUnder register.now (Q.test question.now) key }
-    ensures count { result ≡ count_below (Q.test question.now) (length register.now.entries) }
-    ensures within { result ≤ length register.now.entries }
+    ensures count { result.count ≡ count_below (Q.test question.now) (length register.now.entries) }
+    ensures first { result.first ≡ first_below (Q.test question.now) (length register.now.entries) }
 {
     let _end = register.log().entry_count();
     let mut count = 0;
+    let mut found = None;
     let mut next = register.last_under(key);
     while let Some(entry) = next {
         if question.passes(entry) {
             count += 1;
+            found = Some(entry);
         }
         next = register.before(key, entry);
     }
-    count
+    Counted {
+        count,
+        first: found,
+    }
+}
+
+/// How many entries pass, and the first of them, where all that pass have this key; without a key all
+/// are asked.
+pub(crate) fn counted_entries<L: ExerciseLog, Q: Question>(
+    register: &Register<'_, L>,
+    key: Option<u64>,
+    question: &Q,
+) -> Counted
+    requires { IfSome key (IsUnder register.now (Q.test question.now)) }
+    ensures count { result.count ≡ count_below (Q.test question.now) (length register.now.entries) }
+    ensures first { result.first ≡ first_below (Q.test question.now) (length register.now.entries) }
+{
+    match key {
+        Some(key) => counted_under(register, key, question),
+        None => {
+            let end = register.log().entry_count();
+            Counted {
+                count: question::count_below(question, end),
+                first: question::first_below(question, end),
+            }
+        }
+    }
 }
 
 /// The first entry that passes, where all that pass have this key; without a key all are asked.
@@ -101,21 +136,5 @@ pub(crate) fn last_entry<L: ExerciseLog, Q: Question>(
     match key {
         Some(key) => last_under(register, key, question),
         None => question::last_below(question, register.log().entry_count()),
-    }
-}
-
-/// How many entries pass, where all that pass have this key; without a key all are asked.
-pub(crate) fn count_entries<L: ExerciseLog, Q: Question>(
-    register: &Register<'_, L>,
-    key: Option<u64>,
-    question: &Q,
-) -> usize
-    requires { IfSome key (IsUnder register.now (Q.test question.now)) }
-    ensures count { result ≡ count_below (Q.test question.now) (length register.now.entries) }
-    ensures within { result ≤ length register.now.entries }
-{
-    match key {
-        Some(key) => count_under(register, key, question),
-        None => question::count_below(question, register.log().entry_count()),
     }
 }

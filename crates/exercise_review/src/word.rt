@@ -1,6 +1,6 @@
 //! The words of answers, and which of several counts.
 
-ghost use Rattle.std.specs.Prelude.{◌≡◌, ◌<◌, length, option_map, IfSome};
+ghost use Rattle.std.specs.Prelude.{◌≡◌, ◌<◌, length, option_map, option_and_then, IfSome};
 ghost use Rattle.siman_pdus.specs.Reading.{body_of};
 ghost use Rattle.exercise_review.specs.Register.{IsUnder};
 ghost use Rattle.exercise_review.specs.Word.{response_word, status_word, word_of, settles, word_at, settles_at, is_settling, first_settling, telling, word_text};
@@ -125,6 +125,19 @@ pub fn word_at<L: ExerciseLog>(findings: &Register<'_, L>, entry: usize) -> Opti
 {
     match meant_at(findings, entry) {
         Some(pdu) => Word::of(&pdu.body),
+        None => None,
+    }
+}
+
+/// The word of an entry, if there is one.
+pub(crate) fn word_of<L: ExerciseLog>(
+    findings: &Register<'_, L>,
+    entry: Option<usize>,
+) -> Option<Word>
+    ensures { result ≡ option_and_then (word_at findings.now) entry }
+{
+    match entry {
+        Some(entry) => word_at(findings, entry),
         None => None,
     }
 }

@@ -1,23 +1,25 @@
-use Rattle.std.proofs.Common.{◌≡◌, ℕ, ◌+◌, ◌<◌, length, sym, ap, ◌∙◌, subst, arith}
+use Rattle.std.proofs.Common.{◌≡◌, ℕ, ◌+◌, ◌<◌, length, refl, sym, ap, ◌∙◌, arith}
 use Rattle.exercise_model.specs.Recording.{PlainRecording, IsRecording}
 use Rattle.exercise_review.specs.Order.{OrderData, order_of}
 use Rattle.exercise_review.specs.Parties.{parties_below}
-use Rattle.exercise_review.proofs.Stationed.{up_to, first_station, with_station, no_station, all_stations}
+use Rattle.exercise_review.proofs.Stationed.{up_to, with_station, no_station, none_before, none_behind, all_stations}
 use Rattle.exercise_review.proofs.parties.station_parties.Goals.{then-is_party+in_ok-push, else-is_party}
 use Rattle.exercise_review.proofs.parties.station_parties.Goals as goal
 
 pub loop-station-init : goal.loop-station-init
-loop-station-init g c = c.new-parties.ensures.items ∙ first_station c.args.findings.now (order_of c.args.order.now)
+loop-station-init g c =
+    let r : PlainRecording = c.args.findings.now in
+    let among = c.addressed_among-from.ensures in
+    c.new-parties.ensures.items
+    ∙ none_before r among.limits (order_of c.args.order.now) c.requires c.addressed_among-from.result.0 c.addressed_among-from.result.1 (omega (arith, among.within.0, among.within.1)) among.all
 
 pub loop-station-preserved : goal.loop-station-preserved
 loop-station-preserved g c =
     let r : PlainRecording = c.args.findings.now in
     let o : OrderData = order_of c.args.order.now in
     let s : ℕ = c.loop-station.station in
-    let is : IsRecording r = subst IsRecording c.log.ensures c.station_count-station-end.ensures.limits in
-    let count : c.station_count-station-end.result ≡ length r.setting.stations =
-    c.station_count-station-end.ensures.count ∙ ap (λ (x : PlainRecording). length x.setting.stations) c.log.ensures in
-    let within : s < length r.setting.stations = omega (arith, count, c.loop-station-test.true) in
+    let is : IsRecording r = c.addressed_among-from.ensures.limits in
+    let within : s < length r.setting.stations = omega (arith, c.addressed_among-from.ensures.within.1, c.loop-station-test.true) in
     elim c.if-is_party.branch as (λ _. c.if-is_party.parties.items ≡ parties_below r o (up_to r (s + 1))) [
       | then-is_party+in_ok-push w ↦
           with_station r is o c.requires s within (sym c.is_party.ensures ∙ w.if-is_party.true) c.loop-station.parties.items c.if-is_party.parties.items
@@ -30,8 +32,9 @@ loop-station-preserved g c =
 pub returns : goal.returns
 returns g c =
     let r : PlainRecording = c.args.findings.now in
-    let is : IsRecording r = subst IsRecording c.log.ensures c.station_count-station-end.ensures.limits in
-    let count : c.station_count-station-end.result ≡ length r.setting.stations =
-    c.station_count-station-end.ensures.count ∙ ap (λ (x : PlainRecording). length x.setting.stations) c.log.ensures in
-    let end : c.loop-station.station ≡ length r.setting.stations = omega (arith, count, c.loop-station-test.false, c.loop-station.auto.station-end) in
-    all_stations r is (order_of c.args.order.now) c.requires c.loop-station.station end c.loop-station.parties.items c.loop-station.invariant
+    let o : OrderData = order_of c.args.order.now in
+    let among = c.addressed_among-from.ensures in
+    let end : c.loop-station.station ≡ c.addressed_among-from.result.1 = omega (arith, among.within.0, c.loop-station-test.false, c.loop-station.auto.station-end) in
+    all_stations r among.limits o c.requires (length r.setting.stations) refl c.loop-station.parties.items
+    (none_behind r among.limits o c.requires c.addressed_among-from.result.0 c.addressed_among-from.result.1 among.within.1 among.all c.loop-station.parties.items
+    (c.loop-station.invariant ∙ ap (λ n. parties_below r o (up_to r n)) end))

@@ -1,9 +1,9 @@
 use Rattle.std.proofs.Common.{◌≤◌, ◌+◌, ℕ, length, sym, ap, ◌∙◌, subst, arith}
 use Rattle.exercise_model.specs.Recording.{PlainRecording}
 use Rattle.exercise_review.specs.Register.{has_key}
-use Rattle.exercise_review.proofs.Walks.{past, IsCountOn, on_last, lower, count_starts, count_passes, count_fails, count_ends}
-use Rattle.exercise_review.proofs.walk.count_under.Goals.{then-passes, else-passes}
-use Rattle.exercise_review.proofs.walk.count_under.Goals as goal
+use Rattle.exercise_review.proofs.Walks.{past, IsCountOn, IsFirstOn, on_last, lower, count_starts, count_passes, count_fails, count_ends, first_starts, first_passes, first_fails, first_ends}
+use Rattle.exercise_review.proofs.walk.counted_under.Goals.{then-passes, else-passes}
+use Rattle.exercise_review.proofs.walk.counted_under.Goals as goal
 
 pub loop-next-init : goal.loop-next-init
 loop-next-init g c =
@@ -13,6 +13,7 @@ loop-next-init g c =
     record {
       on = on_last h (length r.entries) (length r.entries) c.last_under-next.result c.last_under-next.ensures (omega arith);
       count = count_starts (g.Q.Question.test c.args.question.now) h (length r.entries) c.last_under-next.result c.requires c.last_under-next.ensures;
+      first = first_starts (g.Q.Question.test c.args.question.now) h (length r.entries) c.last_under-next.result c.requires c.last_under-next.ensures;
       room = omega (arith, less);
     }
 
@@ -34,7 +35,8 @@ loop-next-preserved g c =
     let h = has_key r c.args.key in
     let n : ℕ = length r.entries in
     let at = rw c.in-Some.is at c.loop-next.invariant.on in
-    let so_far = rw c.in-Some.is at c.loop-next.invariant.count in
+    let counted = rw c.in-Some.is at c.loop-next.invariant.count in
+    let so_far = rw c.in-Some.is at c.loop-next.invariant.first in
     let room = rw c.in-Some.is at c.loop-next.invariant.room in
     let less = lower h c.in-Some.entry c.before-next.result c.before-next.ensures in
     record {
@@ -42,10 +44,18 @@ loop-next-preserved g c =
       count = elim c.if-passes.branch as (λ _. IsCountOn f n c.before-next.result c.if-passes.count) [
         | then-passes w ↦
             subst (IsCountOn f n c.before-next.result) (sym w.count-is)
-            (count_passes f h n c.in-Some.entry c.loop-next.count c.before-next.result c.requires c.before-next.ensures (sym c.passes.ensures ∙ w.if-passes.true) so_far)
+            (count_passes f h n c.in-Some.entry c.loop-next.count c.before-next.result c.requires c.before-next.ensures (sym c.passes.ensures ∙ w.if-passes.true) counted)
         | else-passes w ↦
             subst (IsCountOn f n c.before-next.result) (sym w.count-is)
-            (count_fails f h n c.in-Some.entry c.loop-next.count c.before-next.result c.requires c.before-next.ensures (sym c.passes.ensures ∙ w.if-passes.false) so_far)
+            (count_fails f h n c.in-Some.entry c.loop-next.count c.before-next.result c.requires c.before-next.ensures (sym c.passes.ensures ∙ w.if-passes.false) counted)
+      ];
+      first = elim c.if-passes.branch as (λ _. IsFirstOn f n c.before-next.result c.if-passes.found) [
+        | then-passes w ↦
+            subst (IsFirstOn f n c.before-next.result) (sym w.found-is)
+            (first_passes f h n c.in-Some.entry c.before-next.result c.loop-next.found c.requires c.before-next.ensures (sym c.passes.ensures ∙ w.if-passes.true) so_far)
+        | else-passes w ↦
+            subst (IsFirstOn f n c.before-next.result) (sym w.found-is)
+            (first_fails f h n c.in-Some.entry c.before-next.result c.loop-next.found c.requires c.before-next.ensures (sym c.passes.ensures ∙ w.if-passes.false) so_far)
       ];
       room = elim c.if-passes.branch as (λ _. past c.before-next.result + c.if-passes.count ≤ n) [
         | then-passes w ↦ omega (arith, less, room, w.count-is)
@@ -56,3 +66,7 @@ loop-next-preserved g c =
 pub returns-clause-count : goal.returns-clause-count
 returns-clause-count g c =
     count_ends (g.Q.Question.test c.args.question.now) (length c.args.register.now.entries) c.loop-next.count (rw c.in_default.is at c.loop-next.invariant.count)
+
+pub returns-clause-first : goal.returns-clause-first
+returns-clause-first g c =
+    first_ends (g.Q.Question.test c.args.question.now) (length c.args.register.now.entries) c.loop-next.found (rw c.in_default.is at c.loop-next.invariant.first)

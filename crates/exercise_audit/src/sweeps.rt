@@ -9,6 +9,7 @@ ghost use Rattle.exercise_check.specs.Goodness.{IsGood};
 use crate::blocks::{Audit, Block};
 use crate::search::go_on_by_lists;
 use exercise_check::{Course, Progress};
+use exercise_findings::Findings;
 use exercise_model::ExerciseLog;
 use std::alloc::{AllocError, Global};
 
@@ -106,7 +107,8 @@ fn blocks<L: ExerciseLog>(
     stations: usize,
 ) -> Result<Vec<Block>, AllocError>
     requires { (s : ℕ) → s < stations → IsHeld course.old.recording (so_far course.old) s }
-    ensures { IfOk result (λ blocks. AreBlocks course.old.recording (so_far course.old) stations blocks.items) }
+    ensures blocks { IfOk result (λ blocks. AreBlocks course.old.recording (so_far course.old) stations blocks.items) }
+    ensures same { course.new ≡ course.old }
 {
     let mut blocks = Vec::new(alloc);
     for station in 0..stations {
@@ -128,6 +130,7 @@ fn held_up<L: ExerciseLog>(
     requires { course.old.recording ≡ L.recording log.now }
     ensures blocked { IfOk result (λ held. IfSome held (λ blocks. IsBlocked (L.recording log.now) blocks.items)) }
     ensures good { IfOk result (λ held. IfNone held (IsGood (L.recording log.now) course.new.steps)) }
+    ensures recording { course.new.recording ≡ L.recording log.now }
 {
     let (count, stations) = (log.entry_count(), log.station_count());
     go_on_to_the_end(alloc, log, course, stations)?;
@@ -137,6 +140,34 @@ fn held_up<L: ExerciseLog>(
     Ok(Some(blocks(alloc, course, stations)?))
 }
 
+/// What a search comes to, and what was found in the log that it looked at.
+#[derive(Drop)]
+pub struct Searched<'a, L: ExerciseLog> {
+    /// What it comes to.
+    pub audit: Audit,
+    /// What the log of each station says of its own entries.
+    pub findings: Findings<'a, L>,
+}
+
+/// As [`audit`], where what the log says is found already; it is given back.
+pub fn audit_found<'a, L: ExerciseLog>(
+    alloc: Global,
+    findings: Findings<'a, L>,
+) -> Result<Searched<'a, L>, AllocError>
+    ensures audit { IfOk result (λ searched. IsAuditOf findings.entry searched.audit) }
+    ensures findings { IfOk result (λ searched. searched.findings ≡ findings.entry) }
+{
+    let log = findings.log();
+    let mut course = Course::over(alloc, findings)?;
+    let held = held_up(alloc, log, &mut course)?;
+    let (findings, certificate) = course.apart();
+    let audit = match held {
+        Some(blocks) => Audit::Blocked(blocks),
+        None => Audit::Explained(certificate),
+    };
+    Ok(Searched { audit, findings })
+}
+
 /// Looks for an order of events that explains a recording. It finds a certificate, which the
 /// checker accepts, exactly where some order explains it; else it tells, for each station that has
 /// entries left when nothing can go on, its next entry and the first cause that stands in the way.
@@ -144,9 +175,6 @@ fn held_up<L: ExerciseLog>(
 pub fn audit<L: ExerciseLog>(alloc: Global, log: &L) -> Result<Audit, AllocError>
     ensures { IfOk result (IsAuditOf (L.recording log.now)) }
 {
-    let mut course = Course::begin(alloc, log)?;
-    match held_up(alloc, log, &mut course)? {
-        Some(blocks) => Ok(Audit::Blocked(blocks)),
-        None => Ok(Audit::Explained(course.into_certificate())),
-    }
+    let Searched { audit, .. } = audit_found(alloc, Findings::of(alloc, log)?)?;
+    Ok(audit)
 }

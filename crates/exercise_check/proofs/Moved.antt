@@ -17,7 +17,7 @@ use Rattle.exercise_check.proofs.Courses.{at_entry, from_entry}
 use Rattle.exercise_check.proofs.Orders.{length-entries-more, length-entries-none, length-order-more, length-order-none}
 
 -- a column in which one number was replaced
-replaced : (P Q : ℕ → ℕ → Type 0) (n at number : ℕ) (old new : List ℕ) → length new ≡ length old
+pub replaced : (P Q : ℕ → ℕ → Type 0) (n at number : ℕ) (old new : List ℕ) → length new ≡ length old
     → ((j : ℕ) → slice_index_or new j 0 ≡ (if j == at then number else slice_index_or old j 0))
     → Q at number → ((j : ℕ) → nat_eq j at ≡ false → P j (slice_index_or old j 0) → Q j (slice_index_or old j 0))
     → IsColumn 0 P n old → IsColumn 0 Q n new

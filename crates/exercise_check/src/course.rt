@@ -53,7 +53,14 @@ impl<'a, L: ExerciseLog> Course<'a, L> {
     pub fn begin(alloc: Global, log: &'a L) -> Result<Course<'a, L>, AllocError>
         ensures { IfOk result (λ course. course ≡ begun (L.recording log.now)) }
     {
-        let found = Findings::of(alloc, log)?;
+        Course::over(alloc, Findings::of(alloc, log)?)
+    }
+
+    /// The course over a log before its first step, where what the log says is found already.
+    pub fn over(alloc: Global, found: Findings<'a, L>) -> Result<Course<'a, L>, AllocError>
+        ensures { IfOk result (λ course. course ≡ begun found.entry) }
+    {
+        let log = found.log();
         let cursors = first_cursors(alloc, log)?;
         let steps = Vec::with_capacity(alloc, log.entry_count())?;
         Ok(Course {
@@ -150,5 +157,14 @@ impl<'a, L: ExerciseLog> Course<'a, L> {
     {
         let Course { steps, .. } = self;
         Certificate { steps }
+    }
+
+    /// What was found in the log, and the steps that were taken.
+    pub fn apart(self) -> (Findings<'a, L>, Certificate)
+        ensures found { result.0 ≡ self.entry.recording }
+        ensures steps { result.1.steps.items ≡ self.entry.steps }
+    {
+        let Course { found, steps, .. } = self;
+        (found, Certificate { steps })
     }
 }

@@ -44,7 +44,7 @@ loop-station-preserved g c =
           }
     ]
 
-pub returns : goal.returns
-returns g c =
+pub returns-clause-blocks : goal.returns-clause-blocks
+returns-clause-blocks g c =
     let end : c.loop-station.station ≡ c.args.stations = omega (arith, c.loop-station-test.false, c.loop-station.auto.station-end) in
     subst (λ (n : ℕ). AreBlocks c.args.course.now.recording (so_far c.args.course.now) n c.loop-station.blocks.items) end c.loop-station.invariant.blocks

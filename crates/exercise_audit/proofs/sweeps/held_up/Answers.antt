@@ -27,6 +27,6 @@ returns-clause-blocked g c =
     let entries : c.entry_count-count.result ≡ length v.recording.entries = c.entry_count-count.ensures.count ∙ ap (λ (r : PlainRecording). length r.entries)
     (sym same) in
     let less : length v.steps ≢ length v.recording.entries = λ e. c.if-len-count.false (c.len.ensures.steps ∙ e ∙ sym entries) in
-    let are = subst (λ (n : ℕ). AreBlocks v.recording (so_far v) n blocks) stations c.in_ok-blocks.ensures in
+    let are = subst (λ (n : ℕ). AreBlocks v.recording (so_far v) n blocks) stations c.in_ok-blocks.ensures.blocks in
     let held = λ (s : ℕ) (l : s < length v.recording.setting.stations). c.in_ok-go_on_to_the_end.ensures.stuck s (omega (arith, l, stations)) in
     subst (λ r. IsBlocked r blocks) same (blocked_from_held v c.len.ensures.course held less blocks are)

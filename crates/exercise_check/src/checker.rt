@@ -1,6 +1,6 @@
 //! The checker: it folds a course over the steps of a certificate.
 
-ghost use Rattle.std.specs.Prelude.{◌≡◌, ◌≢◌, length, OnOk, IfOk, IfNone, IfErr, Err};
+ghost use Rattle.std.specs.Prelude.{◌≡◌, ◌≢◌, length, OnOk, IfOk, IfSome, IfNone, IfErr, Err};
 ghost use Rattle.exercise_model.specs.Run.{Explains};
 ghost use Rattle.exercise_model.specs.Headline.{Holds};
 ghost use Rattle.exercise_model.specs.Alike.{IsAlwaysAsSaid};
@@ -12,7 +12,7 @@ ghost use Rattle.exercise_check.specs.Checked.{TellsKnowledge, TellsPairs};
 
 use crate::certificate::{Certificate, Step};
 use crate::course::{Course, Progress};
-use exercise_findings::Account;
+use exercise_findings::{Account, Findings};
 use exercise_model::{Cause, ExerciseLog};
 use std::alloc::{AllocError, Global};
 use std::error::Error;
@@ -143,4 +143,56 @@ pub fn check<L: ExerciseLog>(
     let mut course = Course::begin(alloc, log)?;
     take_steps(alloc, &mut course, entries, steps)?;
     Ok(course.into_account(alloc)?)
+}
+
+/// A step of a certificate that is bad.
+#[derive(Clone, Copy, Debug, PartialEq, Eq)]
+pub struct BadStep {
+    /// The step, from 0.
+    pub step: usize,
+    /// The first cause that holds there.
+    pub cause: Cause,
+}
+
+/// What a check comes to, and what was found in the log.
+#[derive(Drop)]
+pub struct Stepped<'a, L: ExerciseLog> {
+    /// The first bad step; `None` where the certificate is good.
+    pub bad: Option<BadStep>,
+    /// What the log of each station says of its own entries.
+    pub findings: Findings<'a, L>,
+}
+
+/// As [`check`], where what the log says is found already; it is given back.
+pub fn check_found<'a, L: ExerciseLog>(
+    alloc: Global,
+    findings: Findings<'a, L>,
+    certificate: &Certificate,
+) -> Result<Stepped<'a, L>, AllocError>
+    ensures good { IfOk result (λ stepped. IfNone stepped.bad (IsGood findings.entry certificate.now.steps.items)) }
+    ensures bad { IfOk result (λ stepped. IfSome stepped.bad (λ bad. Refuses findings.entry certificate.now.steps.items (CheckFault.Bad bad.step bad.cause))) }
+    ensures findings { IfOk result (λ stepped. stepped.findings ≡ findings.entry) }
+{
+    let steps = certificate.steps.as_slice();
+    let entries = findings.log().entry_count();
+    if entries != steps.len() {
+        let bad = BadStep {
+            step: 0,
+            cause: Cause::CountDiffers,
+        };
+        return Ok(Stepped {
+            bad: Some(bad),
+            findings,
+        });
+    }
+    let mut course = Course::over(alloc, findings)?;
+    let bad = match take_steps(alloc, &mut course, entries, steps) {
+        Ok(_) => None,
+        Err(CheckFault::Bad { step, cause }) => Some(BadStep { step, cause }),
+        Err(CheckFault::Memory) => return Err(AllocError),
+    };
+    Ok(Stepped {
+        bad,
+        findings: course.into_found(),
+    })
 }

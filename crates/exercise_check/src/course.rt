@@ -136,7 +136,7 @@ impl<'a, L: ExerciseLog> Course<'a, L> {
     }
 
     /// What was found in the log. What is kept of the steps is given back.
-    fn into_found(self) -> Findings<'a, L>
+    pub fn into_found(self) -> Findings<'a, L>
         ensures { result ≡ self.entry.recording }
     {
         let Course { found, .. } = self;

@@ -2,7 +2,8 @@
 //! the file format that keeps it, and the checker.
 //!
 //! [`check`] trusts nothing but a log and a certificate: a yes is a run that explains the recording,
-//! and a no names the first bad step and the first cause that holds there;
+//! and a no names the first bad step and the first cause that holds there; [`check_found`] does so
+//! where what the log says is found already, and gives that back;
 //! [`good_steps_have_no_cause`] ties the causes to good steps, and [`conversion_keeps_checks`] is the
 //! law of a recording that is carried over to the second format. It folds a [`Course`]: the steps taken
 //! so far over a log, which judges the next event of a station by them; the search of the crate
@@ -26,7 +27,7 @@ pub use certificate::{Certificate, NO_LINK, Step};
 pub use certificate_fault::{CertificateFault, CertificateFormatFault, CertificateWriterFault};
 pub use certificate_reading::{fetch_certificate, read_certificate};
 pub use certificate_text::write_certificate;
-pub use checker::{CheckFault, check};
+pub use checker::{BadStep, CheckFault, Stepped, check, check_found};
 pub use course::{Course, Progress};
 pub use exercise_findings::Account as Checked;
 pub use laws::{

@@ -56,7 +56,7 @@ pub state_there : (r : PlainRecording) (s e n : ℕ) → is_entity e ≡ true �
 unfolding state_after
 state_there r s e n is = ap (λ (b : Bool). if b then entity_state r.setting.exercise (station_at r s) (log_before r s n) e else states.Absent) is
 
-state_nowhere : (r : PlainRecording) (s e n : ℕ) → is_entity e ≡ false → state_before r s e n ≡ states.Absent
+pub state_nowhere : (r : PlainRecording) (s e n : ℕ) → is_entity e ≡ false → state_before r s e n ≡ states.Absent
 unfolding state_after
 state_nowhere r s e n is = ap (λ (b : Bool). if b then entity_state r.setting.exercise (station_at r s) (log_before r s n) e else states.Absent) is
 

@@ -28,3 +28,8 @@ mod Reaching
 mod Ends
 mod Nowhere
 mod Counted
+mod Unrepaired
+mod Owning
+mod Asked
+mod Likeness
+mod Unowned

@@ -42,16 +42,16 @@ first_on : (f : ℕ → Bool) (n : ℕ) → first_below f (n + 1) ≡ option_or 
 unfolding first_below
 first_on f n = ap (first_below f) (add-one n)
 
-kept_still : (f : ℕ → Bool) (n : ℕ) (o : Option ℕ) → f n ≡ false → o ≡ first_below f n → o ≡ first_below f (n + 1)
+pub kept_still : (f : ℕ → Bool) (n : ℕ) (o : Option ℕ) → f n ≡ false → o ≡ first_below f n → o ≡ first_below f (n + 1)
 kept_still f n o off is =
     is ∙ or_none (first_below f n) ∙ ap (λ (b : Bool). option_or (first_below f n) (if b then Some n else None)) (sym off) ∙ sym (first_on f n)
 
-kept_here : (f : ℕ → Bool) (n : ℕ) (o : Option ℕ) → f n ≡ true → o ≡ first_below f n → Some (unwrap_or o n) ≡ first_below f (n + 1)
+pub kept_here : (f : ℕ → Bool) (n : ℕ) (o : Option ℕ) → f n ≡ true → o ≡ first_below f n → Some (unwrap_or o n) ≡ first_below f (n + 1)
 kept_here f n o on is =
     ap (λ x. Some (unwrap_or x n)) is ∙ or_some (first_below f n) n
     ∙ ap (λ (b : Bool). option_or (first_below f n) (if b then Some n else None)) (sym on) ∙ sym (first_on f n)
 
-none_kept : (f : ℕ → Bool) → first_below f 0 ≡ None
+pub none_kept : (f : ℕ → Bool) → first_below f 0 ≡ None
 unfolding first_below
 none_kept f = refl
 
@@ -148,13 +148,13 @@ none_left (Some x) e = absurd (cc)
 
 -- ---- requests
 
-nat_eq-comm : (a b : ℕ) → nat_eq a b ≡ nat_eq b a
+pub nat_eq-comm : (a b : ℕ) → nat_eq a b ≡ nat_eq b a
 nat_eq-comm a b = grind (arith, nat_tests)
 
 ask_fields : (k l : Ask) → k.station ≡ l.station → k.request ≡ l.request → k.site ≡ l.site → k.application ≡ l.application → k ≡ l
 ask_fields k l a b c d = rw (a, b, c, d) refl
 
-both : (a b : Bool) → (a && b) ≡ true → (a ≡ true) × (b ≡ true)
+pub both : (a b : Bool) → (a && b) ≡ true → (a ≡ true) × (b ≡ true)
 both true b e = (refl, e)
 both false b e = absurd (cc)
 

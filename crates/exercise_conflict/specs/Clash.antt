@@ -70,6 +70,14 @@ asks_by r p (Told t e y) = false
 unfoldable pub asks_at : PlainRecording → Pdu → ℕ → Bool
 asks_at r p i = option_map_or (asks_by r p) (slice_get r.entries i) false
 
+-- the answer p goes to the station at this address
+abbrev pub goes_to : Pair → Pdu → Bool
+goes_to a p = is_from a (record p { origin = p.target })
+
+-- the station that it goes to
+abbrev pub asker_of : PlainRecording → Pdu → Option ℕ
+asker_of r p = sender_of r (record p { origin = p.target })
+
 -- ---- what is sent
 
 -- another order under the identifier of p, at entry k

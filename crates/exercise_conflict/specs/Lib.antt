@@ -17,3 +17,5 @@ pub mod Repair
 pub mod RepairText
 pub mod Whole
 pub mod Further
+pub mod Own
+pub mod Near

@@ -1,18 +1,20 @@
 //! What an entry contradicts, read from the logs.
 
-ghost use Rattle.std.specs.Prelude.{◌≡◌, ◌≤◌, ◌<◌, length, option_map};
+ghost use Rattle.std.specs.Prelude.{◌≡◌, ◌≤◌, ◌<◌, length, option_map, Some, None, if◌then◌else◌};
 ghost use Rattle.siman_pdus.specs.Answers.{matches_kind};
 ghost use Rattle.siman_pdus.specs.Reading.{pdu_of};
 ghost use Rattle.exercise_model.specs.Account.{pair_of_sent};
+ghost use Rattle.exercise_model.specs.Station.{is_entity};
 ghost use Rattle.exercise_review.specs.Life.{state_before};
-ghost use Rattle.exercise_conflict.specs.Clash.{reused_at, unfit_of, wrong_at, state_told, hopeless_for, impossible_at, clash_sent, clash_got, clash_told, clash_of};
+ghost use Rattle.exercise_conflict.specs.Clash.{reused_at, unfit_of, wrong_at, hopeless_for, impossible_at, clash_sent, clash_got, clash_told, clash_of};
 ghost use Rattle.exercise_conflict.specs.Earlier.{IsSentAt};
 
 use crate::clash::{Clash, Unfit};
 use crate::difference::order_difference;
 use crate::earlier::{earlier_sent, pair_of, sent_pdu};
+use crate::logs::Logs;
 use crate::near::unsent_by;
-use crate::since::made_since;
+use crate::since::made_before;
 use crate::unasked::{got_pdu, unasked_for};
 use dis_records::{EntityState, Kind, Scope};
 use exercise_findings::Findings;
@@ -78,44 +80,36 @@ fn wrong_at<L: ExerciseLog>(
     })
 }
 
-/// The state of a number before an entry, if an entity can have the number.
-fn state_told<L: ExerciseLog>(
-    findings: &Findings<'_, L>,
-    station: u16,
-    entity: u16,
-    entry: usize,
-) -> Option<EntityState>
-    requires at { station < length findings.now.setting.stations }
-    requires within { entry ≤ length findings.now.entries }
-    ensures { result ≡ state_told findings.now station entity entry }
+/// The state of a number, if an entity can have the number.
+fn state_told(entity: u16, state: EntityState) -> Option<EntityState>
+    ensures { result ≡ (if is_entity entity then Some state else None) }
 {
-    if is_entity(entity) {
-        Some(findings.state_before(station, entity, entry))
-    } else {
-        None
-    }
+    if is_entity(entity) { Some(state) } else { None }
 }
 
 /// What stands against a change of a scope.
 fn hopeless_for<L: ExerciseLog>(
-    findings: &Findings<'_, L>,
+    logs: &Logs<'_, '_, L>,
     station: u16,
     entry: usize,
     earlier: usize,
     scope: Scope,
 ) -> Clash
-    requires at { station < length findings.now.setting.stations }
-    requires within { entry ≤ length findings.now.entries }
-    ensures { result ≡ hopeless_for findings.now station entry earlier scope }
+    requires at { station < length logs.now.setting.stations }
+    requires within { entry ≤ length logs.now.entries }
+    ensures { result ≡ hopeless_for logs.now station entry earlier scope }
 {
     match scope {
-        Scope::One(entity) => Clash::Impossible {
-            earlier,
-            station,
-            entity,
-            state: state_told(findings, station, entity, entry),
-            change: made_since(findings, station, entity, entry),
-        },
+        Scope::One(entity) => {
+            let (state, change) = made_before(logs, station, entity, entry);
+            Clash::Impossible {
+                earlier,
+                station,
+                entity,
+                state: state_told(entity, state),
+                change,
+            }
+        }
         Scope::All => Clash::Impossible {
             earlier,
             station,
@@ -128,19 +122,19 @@ fn hopeless_for<L: ExerciseLog>(
 
 /// The request that an answer takes up, and what stands against the change that it asks for.
 fn impossible_at<L: ExerciseLog>(
-    findings: &Findings<'_, L>,
+    logs: &Logs<'_, '_, L>,
     station: u16,
     entry: usize,
     answer: &PduView<'_>,
     earlier: usize,
 ) -> Option<Clash>
-    requires at { station < length findings.now.setting.stations }
-    requires within { entry ≤ length findings.now.entries }
-    ensures { result ≡ impossible_at findings.now station entry (pdu_of answer.now) earlier }
+    requires at { station < length logs.now.setting.stations }
+    requires within { entry ≤ length logs.now.entries }
+    ensures { result ≡ impossible_at logs.now station entry (pdu_of answer.now) earlier }
 {
-    let request = got_pdu(findings, station, earlier)?;
+    let request = got_pdu(logs.findings(), station, earlier)?;
     let change = Change::carried_out(answer, &request)?;
-    Some(hopeless_for(findings, station, entry, earlier, change.scope))
+    Some(hopeless_for(logs, station, entry, earlier, change.scope))
 }
 
 /// The request that what a station sends takes up.
@@ -158,16 +152,16 @@ fn pair_of_sent<L: ExerciseLog>(
 
 /// What a station contradicts by a PDU that it sends at an entry, for this cause against it.
 fn clash_sent<L: ExerciseLog>(
-    findings: &Findings<'_, L>,
+    logs: &Logs<'_, '_, L>,
     station: u16,
     entry: usize,
     cause: Cause,
     pdu: &PduView<'_>,
 ) -> Option<Clash>
-    requires at { station < length findings.now.setting.stations }
-    requires within { entry ≤ length findings.now.entries }
-    requires sent { IsSentAt findings.now entry station (pdu_of pdu.now) }
-    ensures { result ≡ clash_sent findings.now entry station cause (pdu_of pdu.now) }
+    requires at { station < length logs.now.setting.stations }
+    requires within { entry ≤ length logs.now.entries }
+    requires sent { IsSentAt logs.now entry station (pdu_of pdu.now) }
+    ensures { result ≡ clash_sent logs.now entry station cause (pdu_of pdu.now) }
 {
     match cause {
         Cause::WrongSender => Some(Clash::WrongSender {
@@ -175,21 +169,21 @@ fn clash_sent<L: ExerciseLog>(
             station,
         }),
         Cause::ReusedIdentifier => {
-            let earlier = earlier_sent(findings, station, entry, cause, pdu)?;
-            reused_at(findings, station, pdu, earlier)
+            let earlier = earlier_sent(logs, station, entry, cause, pdu)?;
+            reused_at(logs.findings(), station, pdu, earlier)
         }
-        Cause::NoRequest => Some(unasked_for(findings, station, entry, pdu)),
+        Cause::NoRequest => Some(unasked_for(logs, station, entry, pdu)),
         Cause::WrongAnswer => {
-            let earlier = earlier_sent(findings, station, entry, cause, pdu)?;
-            wrong_at(findings, station, pdu, earlier)
+            let earlier = earlier_sent(logs, station, entry, cause, pdu)?;
+            wrong_at(logs.findings(), station, pdu, earlier)
         }
         Cause::ChangedAnswer => {
-            let earlier = earlier_sent(findings, station, entry, cause, pdu)?;
+            let earlier = earlier_sent(logs, station, entry, cause, pdu)?;
             Some(Clash::ChangedAnswer { earlier })
         }
         Cause::Impossible => {
-            let earlier = pair_of_sent(findings, station, entry, pdu)?;
-            impossible_at(findings, station, entry, pdu, earlier)
+            let earlier = pair_of_sent(logs.findings(), station, entry, pdu)?;
+            impossible_at(logs, station, entry, pdu, earlier)
         }
         _ => None,
     }
@@ -197,51 +191,53 @@ fn clash_sent<L: ExerciseLog>(
 
 /// What a station contradicts by receiving a datagram at an entry, for this cause against it.
 fn clash_got<L: ExerciseLog>(
-    findings: &Findings<'_, L>,
+    logs: &Logs<'_, '_, L>,
     entry: usize,
     bytes: &[u8],
     cause: Cause,
     pdu: &PduView<'_>,
 ) -> Option<Clash>
-    ensures { result ≡ clash_got findings.now entry bytes.now cause (pdu_of pdu.now) }
+    ensures { result ≡ clash_got logs.now entry bytes.now cause (pdu_of pdu.now) }
 {
     match cause {
         Cause::Stranger => Some(Clash::Stranger { from: pdu.origin }),
-        Cause::NeverSent => Some(unsent_by(findings, entry, bytes, pdu)),
+        Cause::NeverSent => Some(unsent_by(logs, entry, bytes, pdu)),
         _ => None,
     }
 }
 
 /// What a station contradicts by telling the state of an entity, for this cause against it.
 fn clash_told<L: ExerciseLog>(
-    findings: &Findings<'_, L>,
+    logs: &Logs<'_, '_, L>,
     station: u16,
     entry: usize,
     entity: u16,
     cause: Cause,
 ) -> Option<Clash>
-    requires at { station < length findings.now.setting.stations }
-    requires within { entry ≤ length findings.now.entries }
-    ensures { result ≡ clash_told findings.now entry station entity cause }
+    requires at { station < length logs.now.setting.stations }
+    requires within { entry ≤ length logs.now.entries }
+    ensures { result ≡ clash_told logs.now entry station entity cause }
 {
     match cause {
-        Cause::WrongState => Some(Clash::WrongState {
-            station,
-            entity,
-            state: findings.state_before(station, entity, entry),
-            change: made_since(findings, station, entity, entry),
-        }),
+        Cause::WrongState => {
+            let (state, change) = made_before(logs, station, entity, entry);
+            Some(Clash::WrongState {
+                station,
+                entity,
+                state,
+                change,
+            })
+        }
         _ => None,
     }
 }
 
-/// What an entry contradicts: the other side of the first cause that the log of its station has against
-/// it, where a datagram that was received is judged as if nothing had been sent. `None` where there is
-/// no cause, and past the last entry. It takes no memory.
+/// As [`clash_of`], where the logs are walked over as they were written down.
 #[tactic(auto, unfolding(crate::specs::Clash::clash_of))]
-pub fn clash_of<L: ExerciseLog>(findings: &Findings<'_, L>, entry: usize) -> Option<Clash>
-    ensures { result ≡ clash_of findings.now entry }
+pub(crate) fn clash_in<L: ExerciseLog>(logs: &Logs<'_, '_, L>, entry: usize) -> Option<Clash>
+    ensures { result ≡ clash_of logs.now entry }
 {
+    let findings = logs.findings();
     let cause = findings.cause(entry)?;
     let log = findings.log();
     if entry >= log.entry_count() {
@@ -250,16 +246,25 @@ pub fn clash_of<L: ExerciseLog>(findings: &Findings<'_, L>, entry: usize) -> Opt
     match log.entry(entry) {
         EntryView::Sent { station, bytes, .. } => {
             let pdu = meaning_view(log.exercise(), bytes)?;
-            clash_sent(findings, station, entry, cause, &pdu)
+            clash_sent(logs, station, entry, cause, &pdu)
         }
         EntryView::Received { bytes, .. } => {
             let pdu = meaning_view(log.exercise(), bytes)?;
-            clash_got(findings, entry, bytes, cause, &pdu)
+            clash_got(logs, entry, bytes, cause, &pdu)
         }
         EntryView::Told {
             station,
             entity,
             ..
-        } => clash_told(findings, station, entry, entity, cause),
+        } => clash_told(logs, station, entry, entity, cause),
     }
+}
+
+/// What an entry contradicts: the other side of the first cause that the log of its station has against
+/// it, where a datagram that was received is judged as if nothing had been sent. `None` where there is
+/// no cause, and past the last entry. It takes no memory.
+pub fn clash_of<L: ExerciseLog>(findings: &Findings<'_, L>, entry: usize) -> Option<Clash>
+    ensures { result ≡ clash_of findings.now entry }
+{
+    clash_in(&Logs::unwritten(findings), entry)
 }

@@ -5,9 +5,9 @@ ghost use Rattle.exercise_audit.specs.Audit.{IsBlocked};
 ghost use Rattle.exercise_conflict.specs.Whole.{IsConflictOf, IsExplanationOf};
 
 use crate::lacks::{Lack, lacks_of};
-use crate::repair::{Repair, repair_with};
+use crate::repair::{Repair, repair_unexplained};
 use crate::way::{Also, Way, all_also, cycles_of, ways_of};
-use exercise_audit::{Audit, Block, audit};
+use exercise_audit::{Audit, Block, Searched, audit, audit_found};
 use exercise_check::Certificate;
 use exercise_findings::Findings;
 use exercise_model::ExerciseLog;
@@ -53,7 +53,7 @@ fn contradicted<L: ExerciseLog>(
     let cycles = cycles_of(alloc, findings, &blocks)?;
     let also = all_also(alloc, findings, &blocks)?;
     let lacks = lacks_of(alloc, findings)?;
-    let repair = repair_with(alloc, findings, &lacks)?;
+    let repair = repair_unexplained(alloc, findings, &lacks)?;
     Ok(Conflict {
         blocks,
         ways,
@@ -80,4 +80,48 @@ pub fn conflict_of<L: ExerciseLog>(
             Ok(Explanation::Contradicted(conflict))
         }
     }
+}
+
+/// What is told of a recording alone, and what was found in its log.
+#[derive(Drop)]
+pub struct Explaining<'a, L: ExerciseLog> {
+    /// What is told.
+    pub explanation: Explanation,
+    /// What the log of each station says of its own entries.
+    pub findings: Findings<'a, L>,
+}
+
+/// Looks up where all that was received comes from, so that it is at hand.
+fn settle_sources<L: ExerciseLog>(findings: &mut Findings<'_, L>)
+    ensures { findings.new ≡ findings.old }
+{
+    for entry in 0..findings.log().entry_count() {
+        findings.settle_source(entry);
+    }
+}
+
+/// As [`conflict_of`], where what was found in the log is given back: each datagram is looked at once
+/// for the search and for all that is told.
+pub fn conflict_found<'a, L: ExerciseLog>(
+    alloc: Global,
+    findings: Findings<'a, L>,
+) -> Result<Explaining<'a, L>, AllocError>
+    ensures explanation { IfOk result (λ told. IsExplanationOf findings.entry told.explanation) }
+    ensures findings { IfOk result (λ told. told.findings ≡ findings.entry) }
+{
+    let Searched {
+        audit,
+        mut findings,
+    } = audit_found(alloc, findings)?;
+    let explanation = match audit {
+        Audit::Explained(certificate) => Explanation::Explained(certificate),
+        Audit::Blocked(blocks) => {
+            settle_sources(&mut findings);
+            Explanation::Contradicted(contradicted(alloc, &findings, blocks)?)
+        }
+    };
+    Ok(Explaining {
+        explanation,
+        findings,
+    })
 }

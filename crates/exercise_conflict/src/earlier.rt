@@ -5,7 +5,8 @@ ghost use Rattle.siman_pdus.specs.Reading.{pdu_of};
 ghost use Rattle.exercise_model.specs.Account.{pair_of};
 ghost use Rattle.exercise_conflict.specs.Earlier.{sent_pdu, sends_other_at, is_opposite, is_opposite_to, sends_opposite_at, earlier_sent, IsSentAt, earlier_of};
 
-use crate::question::{Question, first_below};
+use crate::logs::Logs;
+use crate::question::Question;
 use exercise_findings::Findings;
 use exercise_model::{
     AcknowledgeKey, Cause, EntryView, ExerciseLog, key_of, meaning_view, responds, responds_under,
@@ -109,32 +110,36 @@ pub(crate) fn pair_of<L: ExerciseLog>(findings: &Findings<'_, L>, entry: usize) 
 }
 
 /// What a PDU that a station sends at an entry contradicts, for this cause against it.
+#[tactic(auto, using(crate::proofs::Unowned::unowned_other, crate::proofs::Unowned::unowned_opposite, crate::proofs::Unowned::sent_within))]
 pub(crate) fn earlier_sent<L: ExerciseLog>(
-    findings: &Findings<'_, L>,
+    logs: &Logs<'_, '_, L>,
     station: u16,
     entry: usize,
     cause: Cause,
     pdu: &PduView<'_>,
 ) -> Option<usize>
-    requires { IsSentAt findings.now entry station (pdu_of pdu.now) }
-    ensures { result ≡ earlier_sent findings.now entry station cause (pdu_of pdu.now) }
+    requires { IsSentAt logs.now entry station (pdu_of pdu.now) }
+    ensures { result ≡ earlier_sent logs.now entry station cause (pdu_of pdu.now) }
 {
+    let findings = logs.findings();
     match cause {
-        Cause::ReusedIdentifier => first_below(
+        Cause::ReusedIdentifier => logs.first_own(
             &OtherOrder {
                 findings,
                 station,
                 pdu,
             },
+            station,
             entry,
         ),
         Cause::WrongAnswer => pair_of(findings, entry),
-        Cause::ChangedAnswer => first_below(
+        Cause::ChangedAnswer => logs.first_own(
             &Opposite {
                 findings,
                 station,
                 pdu,
             },
+            station,
             entry,
         ),
         _ => None,
@@ -156,7 +161,7 @@ pub fn earlier_of<L: ExerciseLog>(findings: &Findings<'_, L>, entry: usize) -> O
     match log.entry(entry) {
         EntryView::Sent { station, bytes, .. } => {
             let pdu = meaning_view(log.exercise(), bytes)?;
-            earlier_sent(findings, station, entry, cause, &pdu)
+            earlier_sent(&Logs::unwritten(findings), station, entry, cause, &pdu)
         }
         EntryView::Received { .. } | EntryView::Told { .. } => None,
     }

@@ -8,7 +8,7 @@ ghost use Rattle.exercise_conflict.specs.Wider.{HasFurtherSends};
 ghost use Rattle.exercise_conflict.specs.declared.fault.Fault.TheVariants.{Certificate, Recording};
 
 use crate::also::standing_cause;
-use exercise_audit::{Audit, audit};
+use exercise_audit::{Audit, Searched, audit, audit_found};
 use exercise_findings::Findings;
 use exercise_model::ExerciseLog;
 use std::alloc::{AllocError, Global};
@@ -53,5 +53,24 @@ pub fn fault_of<L: ExerciseLog>(
     match audit(alloc, findings.log())? {
         Audit::Explained(_) => Ok(Fault::Certificate),
         Audit::Blocked(_) => Ok(Fault::Recording),
+    }
+}
+
+/// As [`fault_of`], where what was found in the log is given back.
+pub(crate) fn fault_found<'a, L: ExerciseLog>(
+    alloc: Global,
+    findings: Findings<'a, L>,
+) -> Result<(Fault, Findings<'a, L>), AllocError>
+    ensures certificate { IfOk result (λ told. told.0 ≡ Certificate → (h : History) × Explains findings.entry h) }
+    ensures recording { IfOk result (λ told. told.0 ≡ Recording → (h : History) → Explains findings.entry h → ⊥) }
+    ensures findings { IfOk result (λ told. told.1 ≡ findings.entry) }
+{
+    if has_standing_cause(&findings) {
+        return Ok((Fault::Recording, findings));
+    }
+    let Searched { audit, findings } = audit_found(alloc, findings)?;
+    match audit {
+        Audit::Explained(_) => Ok((Fault::Certificate, findings)),
+        Audit::Blocked(_) => Ok((Fault::Recording, findings)),
     }
 }

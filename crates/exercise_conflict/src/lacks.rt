@@ -1,17 +1,18 @@
 //! All sends that the logs lack, in one pass.
 
-ghost use Rattle.std.specs.Prelude.{◌≡◌, ◌<◌, ◌+◌, ◌++◌, length, option_map, option_and_then, IfOk, OnOk};
+ghost use Rattle.std.specs.Prelude.{◌≡◌, ◌<◌, ◌+◌, ◌++◌, length, option_map, option_and_then, IfOk, IfSome, OnOk};
 ghost use Rattle.std.specs.Option.{option_to_list};
 ghost use Rattle.siman_pdus.specs.Reading.{pdu_of};
 ghost use Rattle.exercise_model.specs.Meaning.{meaning};
-ghost use Rattle.exercise_review.specs.Missing.{missing_pdu, missing_at};
+ghost use Rattle.exercise_model.specs.Recording.{IsRecording};
+ghost use Rattle.exercise_review.specs.Missing.{place_of, missing_pdu, missing_at};
 ghost use Rattle.exercise_conflict.specs.Lacks.{AreAsks, AreReceipts, lack_by, lacks_of};
 
 use crate::asks::{Asks, asks_of, place_of};
 use crate::near::sender_of;
 use crate::receipts::{Receipts, no_receipts, note_receipt};
 use exercise_findings::Findings;
-use exercise_model::{EntryView, ExerciseLog, meaning_view};
+use exercise_model::{EntryView, ExerciseLog, is_answer, meaning_view};
 use exercise_review::Missing;
 use siman_pdus::PduView;
 use std::alloc::{AllocError, Global};
@@ -25,51 +26,83 @@ pub struct Lack {
     pub missing: Missing,
 }
 
+/// Where the send of a PDU belongs in the log of a station. Only for an answer it is asked where requests
+/// were received, which is looked up once.
+#[tactic(auto, unfolding(exercise_review::specs::Missing::place_of))]
+fn place_in<L: ExerciseLog>(
+    alloc: Global,
+    findings: &Findings<'_, L>,
+    asks: &mut Option<Asks>,
+    station: u16,
+    pdu: &PduView<'_>,
+) -> Result<Option<usize>, AllocError>
+    requires { IfSome asks.old (AreAsks findings.now (length findings.now.entries)) }
+    ensures asks { OnOk result (IfSome asks.new (AreAsks findings.now (length findings.now.entries))) }
+    ensures place { IfOk result (λ place. place ≡ place_of findings.now station (pdu_of pdu.now)) }
+{
+    if !is_answer(pdu) {
+        return Ok(None);
+    }
+    if let Some(asks) = &*asks {
+        return Ok(place_of(findings, asks, station, pdu));
+    }
+    let made = asks_of(alloc, findings)?;
+    let place = place_of(findings, &made, station, pdu);
+    *asks = Some(made);
+    Ok(place)
+}
+
 /// The send of a PDU that the log of its sender lacks, where that is a recorded station.
 fn missing_pdu<L: ExerciseLog>(
+    alloc: Global,
     findings: &Findings<'_, L>,
-    asks: &Asks,
+    asks: &mut Option<Asks>,
     pdu: &PduView<'_>,
-) -> Option<Missing>
-    requires { AreAsks findings.now (length findings.now.entries) asks.now }
-    ensures { result ≡ missing_pdu findings.now (pdu_of pdu.now) }
+) -> Result<Option<Missing>, AllocError>
+    requires { IfSome asks.old (AreAsks findings.now (length findings.now.entries)) }
+    ensures asks { OnOk result (IfSome asks.new (AreAsks findings.now (length findings.now.entries))) }
+    ensures missing { IfOk result (λ missing. missing ≡ missing_pdu findings.now (pdu_of pdu.now)) }
 {
     match sender_of(findings, pdu) {
-        Some(sender) => Some(Missing {
+        Some(sender) => Ok(Some(Missing {
             sender,
-            after: place_of(findings, asks, sender, pdu),
-        }),
-        None => None,
+            after: place_in(alloc, findings, asks, sender, pdu)?,
+        })),
+        None => Ok(None),
     }
 }
 
 /// The send of a datagram that the log of its sender lacks.
 fn missing_bytes<L: ExerciseLog>(
+    alloc: Global,
     findings: &Findings<'_, L>,
-    asks: &Asks,
+    asks: &mut Option<Asks>,
     bytes: &[u8],
-) -> Option<Missing>
-    requires { AreAsks findings.now (length findings.now.entries) asks.now }
-    ensures { result ≡ option_and_then (missing_pdu findings.now) (meaning findings.now.setting.exercise bytes.now) }
+) -> Result<Option<Missing>, AllocError>
+    requires { IfSome asks.old (AreAsks findings.now (length findings.now.entries)) }
+    ensures asks { OnOk result (IfSome asks.new (AreAsks findings.now (length findings.now.entries))) }
+    ensures missing { IfOk result (λ missing. missing ≡ option_and_then (missing_pdu findings.now) (meaning findings.now.setting.exercise bytes.now)) }
 {
     match meaning_view(findings.log().exercise(), bytes) {
-        Some(pdu) => missing_pdu(findings, asks, &pdu),
-        None => None,
+        Some(pdu) => missing_pdu(alloc, findings, asks, &pdu),
+        None => Ok(None),
     }
 }
 
 /// The send that is missing by the next entry, which is noted where it receives what no log sends.
 #[tactic(auto, unfolding(exercise_review::specs::Missing::missing_at))]
 fn missing_next<'a, L: ExerciseLog>(
+    alloc: Global,
     findings: &Findings<'a, L>,
-    asks: &Asks,
+    asks: &mut Option<Asks>,
     receipts: &mut Receipts<'a>,
     entry: usize,
 ) -> Result<Option<Missing>, AllocError>
     requires within { entry < length findings.now.entries }
-    requires asks { AreAsks findings.now (length findings.now.entries) asks.now }
+    requires asks { IfSome asks.old (AreAsks findings.now (length findings.now.entries)) }
     requires tied { AreReceipts findings.now entry receipts.old }
     ensures missing { IfOk result (λ missing. missing ≡ missing_at findings.now entry) }
+    ensures asks { OnOk result (IfSome asks.new (AreAsks findings.now (length findings.now.entries))) }
     ensures tied { OnOk result (AreReceipts findings.now (entry + 1) receipts.new) }
 {
     if findings.source(entry).is_some() {
@@ -78,7 +111,7 @@ fn missing_next<'a, L: ExerciseLog>(
     match findings.log().entry(entry) {
         EntryView::Received { bytes, .. } => {
             if note_receipt(findings, receipts, entry, bytes)? {
-                Ok(missing_bytes(findings, asks, bytes))
+                missing_bytes(alloc, findings, asks, bytes)
             } else {
                 Ok(None)
             }
@@ -104,18 +137,19 @@ fn push_lack(
 
 /// All sends that the logs lack: of each datagram that was received from a recorded station and that no
 /// entry of that station sends, by rising entries of its first receipt. One pass and two look-ups for
-/// each entry without a source.
+/// each entry without a source; one pass more where an answer is among them.
 pub fn lacks_of<L: ExerciseLog>(
     alloc: Global,
     findings: &Findings<'_, L>,
 ) -> Result<Vec<Lack>, AllocError>
-    ensures { IfOk result (λ lacks. lacks.items ≡ lacks_of findings.now) }
+    ensures lacks { IfOk result (λ lacks. lacks.items ≡ lacks_of findings.now) }
+    ensures limits { OnOk result (IsRecording findings.now) }
 {
-    let asks = asks_of(alloc, findings)?;
+    let mut asks = None;
     let mut receipts = no_receipts(alloc);
     let mut lacks = Vec::new(alloc);
     for entry in 0..findings.log().entry_count() {
-        let missing = missing_next(findings, &asks, &mut receipts, entry)?;
+        let missing = missing_next(alloc, findings, &mut asks, &mut receipts, entry)?;
         push_lack(&mut lacks, entry, missing)?;
     }
     Ok(lacks)

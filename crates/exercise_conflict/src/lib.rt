@@ -17,7 +17,9 @@
 //! one of its event. [`RepairedLog`] is a log with the sends that it lacks, [`repair_of`] says whether
 //! these are enough, and [`enough_is_one_word`], [`fewer_do_not_do`] and [`nowhere_else`] what that comes
 //! to. [`verdict_of`] tells all of a recording with a certificate, and [`conflict_of`] all of a recording
-//! alone, where each blocked station comes to something ([`each_block_has_its_way`]).
+//! alone, where each blocked station comes to something ([`each_block_has_its_way`]); [`conflict_found`]
+//! tells the same and gives back what was found in the log, and [`refusal_found`] why a certificate is
+//! refused.
 #![tactic(auto)]
 
 mod also;
@@ -32,7 +34,10 @@ mod fault;
 mod field;
 mod lacks;
 mod laws;
+mod logs;
 mod near;
+mod nears;
+mod own;
 mod question;
 mod receipts;
 mod repair;
@@ -49,7 +54,7 @@ mod way;
 pub use also::{also_at, standing_cause};
 pub use clash::{Clash, Unfit};
 pub use clashing::clash_of;
-pub use conflict::{Conflict, Explanation, conflict_of};
+pub use conflict::{Conflict, Explaining, Explanation, conflict_found, conflict_of};
 pub use cycles::cycle_at;
 pub use difference::{order_difference, pdu_difference};
 pub use earlier::earlier_of;
@@ -67,6 +72,6 @@ pub use repaired::RepairedLog;
 pub use since::made_since;
 pub use step_clash::StepClash;
 pub use step_clashing::step_clash_of;
-pub use verdict::{Refusal, Verdict, verdict_of};
+pub use verdict::{Judged, Refusal, Verdict, refusal_found, verdict_of};
 pub use waits::{Wait, wait_of, waits_of};
 pub use way::{Also, Way, all_also, cycles_of, way_of, ways_of};

@@ -10,7 +10,8 @@ use crate::clash::Clash;
 use crate::difference::pdu_difference;
 use crate::earlier::sent_pdu;
 use crate::field::Field;
-use crate::question::{Question, first_below};
+use crate::logs::Logs;
+use crate::question::Question;
 use exercise_findings::Findings;
 use exercise_model::{EntryView, ExerciseLog, is_from, meaning_view};
 use siman_pdus::{Message, PduView, is_under_identifier, request_id, same_order};
@@ -65,16 +66,21 @@ impl<L: ExerciseLog> Question for SendsNear<'_, L> {
 }
 
 /// The first entry of the station that a PDU comes from which sends one that is like it.
-fn near_of<L: ExerciseLog>(findings: &Findings<'_, L>, pdu: &PduView<'_>) -> Option<usize>
-    ensures { result ≡ near_of findings.now (pdu_of pdu.now) }
+#[tactic(auto, using(crate::proofs::Unowned::unowned_near))]
+fn near_of<L: ExerciseLog>(logs: &Logs<'_, '_, L>, pdu: &PduView<'_>) -> Option<usize>
+    ensures { result ≡ near_of logs.now (pdu_of pdu.now) }
 {
+    let findings = logs.findings();
     let station = sender_of(findings, pdu)?;
+    if let Some(found) = logs.first_near(station, pdu) {
+        return found;
+    }
     let near = SendsNear {
         findings,
         station,
         pdu,
     };
-    first_below(&near, findings.log().entry_count())
+    logs.first_own(&near, station, findings.log().entry_count())
 }
 
 /// Bytes that no field has, where no field differs.
@@ -123,14 +129,15 @@ fn source_of<L: ExerciseLog>(findings: &Findings<'_, L>, entry: usize) -> Option
 
 /// What there is of a datagram that an entry received and that was never sent.
 pub(crate) fn unsent_by<L: ExerciseLog>(
-    findings: &Findings<'_, L>,
+    logs: &Logs<'_, '_, L>,
     entry: usize,
     bytes: &[u8],
     pdu: &PduView<'_>,
 ) -> Clash
-    ensures { result ≡ unsent_by findings.now entry bytes.now (pdu_of pdu.now) }
+    ensures { result ≡ unsent_by logs.now entry bytes.now (pdu_of pdu.now) }
 {
-    let near = near_of(findings, pdu);
+    let findings = logs.findings();
+    let near = near_of(logs, pdu);
     let differs = match near {
         Some(near) => differs_at(findings, bytes, pdu, near),
         None => None,

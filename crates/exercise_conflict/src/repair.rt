@@ -3,7 +3,7 @@
 ghost use Rattle.std.specs.Prelude.{◌≡◌, false, IfOk};
 ghost use Rattle.exercise_model.specs.Recording.{IsRecording};
 ghost use Rattle.exercise_conflict.specs.Lacks.{lacks_of};
-ghost use Rattle.exercise_conflict.specs.Repair.{repaired, is_too_long, is_able_at, lacks_able, IsEnough, IsRepairOf};
+ghost use Rattle.exercise_conflict.specs.Repair.{repaired, is_too_long, is_able_at, lacks_able, IsUnexplained, IsEnough, IsRepairOf};
 ghost use Rattle.exercise_conflict.specs.RepairText.{enough_text};
 
 use crate::fault::has_standing_cause;
@@ -159,6 +159,28 @@ pub(crate) fn repair_with<L: ExerciseLog>(
         sends: lacks.len(),
         enough: enough_of(alloc, findings, lacks)?,
     })
+}
+
+/// As [`repair_with`], of a recording that no run explains: where its logs lack nothing, what would be
+/// searched is the recording itself, so the search is spared.
+#[tactic(auto, using(crate::proofs::Unrepaired::nothing_repairs))]
+pub(crate) fn repair_unexplained<L: ExerciseLog>(
+    alloc: Global,
+    findings: &Findings<'_, L>,
+    lacks: &[Lack],
+) -> Result<Repair, AllocError>
+    requires lacks { lacks.now ≡ lacks_of findings.now }
+    requires limits { IsRecording findings.now }
+    requires unexplained { IsUnexplained findings.now }
+    ensures { IfOk result (IsRepairOf findings.now) }
+{
+    if lacks.is_empty() {
+        return Ok(Repair {
+            sends: 0,
+            enough: Enough::No,
+        });
+    }
+    repair_with(alloc, findings, lacks)
 }
 
 /// How many sends the logs of a recording lack, and whether some run explains the recording with them,

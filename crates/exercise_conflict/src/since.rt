@@ -6,8 +6,10 @@ ghost use Rattle.exercise_model.specs.History.{station_at};
 ghost use Rattle.exercise_model.specs.State.{change_made, changed};
 ghost use Rattle.exercise_model.specs.Cause.{same_state};
 ghost use Rattle.exercise_model.specs.Place.{log_before, own_event};
+ghost use Rattle.exercise_review.specs.Life.{state_before};
 ghost use Rattle.exercise_conflict.specs.Since.{made_since};
 
+use crate::logs::Logs;
 use dis_records::EntityState;
 use exercise_findings::Findings;
 use exercise_model::{Change, ExerciseLog, is_entity, listed_state, scope_has, state_made};
@@ -45,6 +47,37 @@ fn is_same(next: EntityState, state: EntityState) -> bool
     next == state
 }
 
+/// The state of an entity of a station before an entry, and the entry of the change that made it.
+pub(crate) fn made_before<L: ExerciseLog>(
+    logs: &Logs<'_, '_, L>,
+    station: u16,
+    entity: u16,
+    before: usize,
+) -> (EntityState, Option<usize>)
+    requires at { station < length logs.now.setting.stations }
+    requires within { before ≤ length logs.now.entries }
+    ensures state { result.0 ≡ state_before logs.now station entity before }
+    ensures since { result.1 ≡ made_since logs.now station entity before }
+{
+    if !is_entity(entity) {
+        return (EntityState::Absent, None);
+    }
+    let findings = logs.findings();
+    let opening = findings.log().station(usize::from(station)).opening();
+    let mut state = listed_state(opening, entity);
+    let mut since = None;
+    let mut entry = logs.first(station, before);
+    while entry < before {
+        let next = changed(entity, state, own_change(findings, station, entry));
+        if !is_same(next, state) {
+            since = Some(entry);
+        }
+        state = next;
+        entry = logs.follower(station, entry, before);
+    }
+    (state, since)
+}
+
 /// The entry of the change that made the state which an entity of a station has before an entry: the last
 /// one that left it in another state than it had. `None` where it has the state of the start, and for a
 /// number that no entity has. It looks at each entry before, and takes no memory.
@@ -58,18 +91,6 @@ pub fn made_since<L: ExerciseLog>(
     requires within { before ≤ length findings.now.entries }
     ensures { result ≡ made_since findings.now station entity before }
 {
-    if !is_entity(entity) {
-        return None;
-    }
-    let opening = findings.log().station(usize::from(station)).opening();
-    let mut state = listed_state(opening, entity);
-    let mut since = None;
-    for entry in 0..before {
-        let next = changed(entity, state, own_change(findings, station, entry));
-        if !is_same(next, state) {
-            since = Some(entry);
-        }
-        state = next;
-    }
+    let (_, since) = made_before(&Logs::unwritten(findings), station, entity, before);
     since
 }

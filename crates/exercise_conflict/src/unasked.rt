@@ -1,13 +1,14 @@
 //! An answer without a request: where its request stands after all.
 
-ghost use Rattle.std.specs.Prelude.{◌≡◌, ◌<◌, length, option_map};
+ghost use Rattle.std.specs.Prelude.{◌≡◌, ◌<◌, ◌≤◌, length, option_map};
 ghost use Rattle.siman_pdus.specs.Reading.{pdu_of};
 ghost use Rattle.exercise_model.specs.History.{station_at};
-ghost use Rattle.exercise_model.specs.Place.{brings_request, entry_taken_up};
-ghost use Rattle.exercise_conflict.specs.Clash.{got_pdu, is_asking, is_overheard, overhears_at, asks_at, unasked_for};
+ghost use Rattle.exercise_model.specs.Place.{brings_request, entry_taken_up, first_below};
+ghost use Rattle.exercise_conflict.specs.Clash.{got_pdu, is_asking, is_overheard, overhears_at, asks_at, goes_to, asker_of, unasked_for};
 
 use crate::clash::Clash;
-use crate::question::{Question, first_below};
+use crate::logs::Logs;
+use crate::question::Question;
 use dis_records::{Address, addressed};
 use exercise_findings::Findings;
 use exercise_model::{EntryView, ExerciseLog, is_asked, is_from, meaning_view};
@@ -128,17 +129,54 @@ impl<L: ExerciseLog> Question for Asks<'_, L> {
     }
 }
 
+/// Whether an answer goes to the station at an address.
+fn goes_to(address: Address, answer: &PduView<'_>) -> bool
+    ensures { result ≡ goes_to address (pdu_of answer.now) }
+{
+    let to = answer.target;
+    to.site == address.site() && to.application == address.application()
+}
+
+/// The station that an answer goes to.
+#[tactic(auto, unfolding(exercise_model::specs::Account::sender_of), using(crate::proofs::Steps::question_steps))]
+fn asker_of<L: ExerciseLog>(findings: &Findings<'_, L>, answer: &PduView<'_>) -> Option<u16>
+    ensures { result ≡ asker_of findings.now (pdu_of answer.now) }
+{
+    for station in 0..findings.log().station_count() {
+        if goes_to(findings.log().station(station).address(), answer) {
+            return Some(station as u16);
+        }
+    }
+    None
+}
+
+/// Where a request for an answer is sent, which stands in the log of the station that the answer goes
+/// to.
+#[tactic(auto, using(crate::proofs::Asked::nobody_asks, crate::proofs::Asked::asker_asks))]
+fn asked_at<L: ExerciseLog>(logs: &Logs<'_, '_, L>, answer: &PduView<'_>) -> Option<usize>
+    ensures { result ≡ first_below (asks_at logs.now (pdu_of answer.now)) (length logs.now.entries) }
+{
+    let findings = logs.findings();
+    let entries = findings.log().entry_count();
+    match asker_of(findings, answer) {
+        Some(asker) => logs.first_own(&Asks { findings, answer }, asker, entries),
+        None => None,
+    }
+}
+
 /// Where the requests stand for which an answer was sent too early.
-#[tactic(auto, unfolding(exercise_model::specs::Place::entry_taken_up))]
+#[tactic(auto, unfolding(exercise_model::specs::Place::entry_taken_up), using(crate::proofs::Unowned::unowned_request, crate::proofs::Unowned::unowned_overheard))]
 pub(crate) fn unasked_for<L: ExerciseLog>(
-    findings: &Findings<'_, L>,
+    logs: &Logs<'_, '_, L>,
     station: u16,
     entry: usize,
     answer: &PduView<'_>,
 ) -> Clash
-    requires { station < length findings.now.setting.stations }
-    ensures { result ≡ unasked_for findings.now station entry (pdu_of answer.now) }
+    requires at { station < length logs.now.setting.stations }
+    requires within { entry ≤ length logs.now.entries }
+    ensures { result ≡ unasked_for logs.now station entry (pdu_of answer.now) }
 {
+    let findings = logs.findings();
     let log = findings.log();
     let address = log.station(usize::from(station)).address();
     let brings = Brings {
@@ -153,10 +191,9 @@ pub(crate) fn unasked_for<L: ExerciseLog>(
         address,
         answer,
     };
-    let asks = Asks { findings, answer };
     Clash::NoRequest {
-        later: first_below(&brings, log.entry_count()),
-        overheard: first_below(&overhears, entry),
-        sent: first_below(&asks, log.entry_count()),
+        later: logs.first_own(&brings, station, log.entry_count()),
+        overheard: logs.first_own(&overhears, station, entry),
+        sent: asked_at(logs, answer),
     }
 }

@@ -1,14 +1,14 @@
 //! Why a certificate is refused, as one value.
 
-ghost use Rattle.std.specs.Prelude.{◌≡◌, IfOk};
-ghost use Rattle.exercise_check.specs.Goodness.{Refuses};
-ghost use Rattle.exercise_check.specs.declared.checker.CheckFault.TheVariants.{Bad as BadStep};
+ghost use Rattle.std.specs.Prelude.{◌≡◌, true, is_some, IfOk, IfSome, IfNone};
+ghost use Rattle.exercise_check.specs.Goodness.{IsGood, Refuses};
+ghost use Rattle.exercise_check.specs.declared.checker.CheckFault.TheVariants.{Bad as FirstBad};
 ghost use Rattle.exercise_conflict.specs.Whole.{IsRefusalOf, IsVerdictOf};
 
-use crate::fault::{Fault, fault_of};
+use crate::fault::{Fault, fault_found};
 use crate::step_clash::StepClash;
 use crate::step_clashing::step_clash_of;
-use exercise_check::{Certificate, CheckFault, check};
+use exercise_check::{BadStep, Certificate, Stepped, check_found};
 use exercise_findings::{Account, Findings};
 use exercise_model::{Cause, ExerciseLog};
 use std::alloc::{AllocError, Global};
@@ -35,25 +35,61 @@ pub enum Verdict {
     Bad(Refusal),
 }
 
+/// Why a certificate is refused, if it is, and what was found in the log.
+#[derive(Drop)]
+pub struct Judged<'a, L: ExerciseLog> {
+    /// Why; `None` where the certificate is good.
+    pub refusal: Option<Refusal>,
+    /// What the log of each station says of its own entries.
+    pub findings: Findings<'a, L>,
+}
+
 /// Why a certificate is refused whose first bad step this is.
-fn refusal_of<L: ExerciseLog>(
+fn refusal_of<'a, L: ExerciseLog>(
     alloc: Global,
-    findings: &Findings<'_, L>,
+    findings: Findings<'a, L>,
     certificate: &Certificate,
-    step: usize,
-    cause: Cause,
-) -> Result<Refusal, AllocError>
-    requires { Refuses findings.now certificate.now.steps.items (BadStep step cause) }
-    ensures { IfOk result (IsRefusalOf findings.now certificate.now.steps.items) }
+    bad: BadStep,
+) -> Result<Judged<'a, L>, AllocError>
+    requires { Refuses findings certificate.now.steps.items (FirstBad bad.step bad.cause) }
+    ensures refusal { IfOk result (λ judged. IfSome judged.refusal (IsRefusalOf findings.entry certificate.now.steps.items)) }
+    ensures some { IfOk result (λ judged. is_some judged.refusal ≡ true) }
+    ensures findings { IfOk result (λ judged. judged.findings ≡ findings.entry) }
 {
-    let clash = step_clash_of(alloc, findings, certificate, step, cause)?;
-    let fault = fault_of(alloc, findings)?;
-    Ok(Refusal {
+    let BadStep { step, cause } = bad;
+    let clash = step_clash_of(alloc, &findings, certificate, step, cause)?;
+    let (fault, findings) = fault_found(alloc, findings)?;
+    let refusal = Refusal {
         step,
         cause,
         clash,
         fault,
+    };
+    Ok(Judged {
+        refusal: Some(refusal),
+        findings,
     })
+}
+
+/// As [`verdict_of`], where what the log says is found already; it is given back, so that each datagram
+/// is looked at once for the check, the search and all that is told.
+pub fn refusal_found<'a, L: ExerciseLog>(
+    alloc: Global,
+    findings: Findings<'a, L>,
+    certificate: &Certificate,
+) -> Result<Judged<'a, L>, AllocError>
+    ensures refused { IfOk result (λ judged. IfSome judged.refusal (IsRefusalOf findings.entry certificate.now.steps.items)) }
+    ensures good { IfOk result (λ judged. IfNone judged.refusal (IsGood findings.entry certificate.now.steps.items)) }
+    ensures findings { IfOk result (λ judged. judged.findings ≡ findings.entry) }
+{
+    let Stepped { bad, findings } = check_found(alloc, findings, certificate)?;
+    match bad {
+        Some(bad) => refusal_of(alloc, findings, certificate, bad),
+        None => Ok(Judged {
+            refusal: None,
+            findings,
+        }),
+    }
 }
 
 /// Checks a certificate against the logs of an exercise, and where it is not good tells what its first
@@ -66,13 +102,13 @@ pub fn verdict_of<L: ExerciseLog>(
 ) -> Result<Verdict, AllocError>
     ensures { IfOk result (IsVerdictOf (L.recording log.now) certificate.now.steps.items) }
 {
-    match check(alloc, log, certificate) {
-        Ok(account) => Ok(Verdict::Good(account)),
-        Err(CheckFault::Memory) => Err(AllocError),
-        Err(CheckFault::Bad { step, cause }) => {
-            let findings = Findings::of(alloc, log)?;
-            let refusal = refusal_of(alloc, &findings, certificate, step, cause)?;
-            Ok(Verdict::Bad(refusal))
-        }
+    let Judged { refusal, findings } = refusal_found(
+        alloc,
+        Findings::of(alloc, log)?,
+        certificate,
+    )?;
+    match refusal {
+        Some(refusal) => Ok(Verdict::Bad(refusal)),
+        None => Ok(Verdict::Good(findings.into_account(alloc)?)),
     }
 }

@@ -8,8 +8,9 @@ ghost use Rattle.exercise_conflict.specs.Ways.{stations_in, way_of, ways_of, cyc
 
 use crate::also::also_at;
 use crate::clash::Clash;
-use crate::clashing::clash_of;
+use crate::clashing::clash_in;
 use crate::cycles::cycle_at;
+use crate::logs::Logs;
 use crate::waits::{Wait, wait_of, waits_of};
 use exercise_audit::Block;
 use exercise_findings::Findings;
@@ -51,20 +52,15 @@ fn is_final(cause: Cause) -> bool
     )
 }
 
-/// What the station of a block comes to: its wait, else what its next entry contradicts. It takes no
-/// memory.
+/// As [`way_of`], where the logs are walked over as they were written down.
 #[tactic(auto, unfolding(crate::specs::Ways::way_of))]
-pub fn way_of<L: ExerciseLog>(
-    findings: &Findings<'_, L>,
-    blocks: &[Block],
-    block: Block,
-) -> Option<Way>
-    ensures { result ≡ way_of findings.now blocks.now block }
+fn way_in<L: ExerciseLog>(logs: &Logs<'_, '_, L>, blocks: &[Block], block: Block) -> Option<Way>
+    ensures { result ≡ way_of logs.now blocks.now block }
 {
-    if let Some(wait) = wait_of(findings, blocks, block) {
+    if let Some(wait) = wait_of(logs.findings(), blocks, block) {
         return Some(Way::Waits(wait));
     }
-    let clash = clash_of(findings, block.entry)?;
+    let clash = clash_in(logs, block.entry)?;
     Some(Way::Clash {
         entry: block.entry,
         clash,
@@ -72,7 +68,33 @@ pub fn way_of<L: ExerciseLog>(
     })
 }
 
-/// What the stations of a blocked list come to, in its order.
+/// What the station of a block comes to: its wait, else what its next entry contradicts. It takes no
+/// memory.
+pub fn way_of<L: ExerciseLog>(
+    findings: &Findings<'_, L>,
+    blocks: &[Block],
+    block: Block,
+) -> Option<Way>
+    ensures { result ≡ way_of findings.now blocks.now block }
+{
+    way_in(&Logs::unwritten(findings), blocks, block)
+}
+
+/// So many stations that are to receive what was never sent are many.
+const MANY: usize = 8;
+
+/// Whether many stations are to receive what was never sent.
+fn lack_many(blocks: &[Block]) -> bool {
+    let lacking = blocks
+        .iter()
+        .filter(|block| block.cause == Cause::NeverSent)
+        .count();
+    lacking > MANY
+}
+
+/// What the stations of a blocked list come to, in its order. How the entries of each station follow one
+/// another is written down first, so that all of them are walked over once; and what each sent first,
+/// where many are to receive what was never sent.
 pub fn ways_of<L: ExerciseLog>(
     alloc: Global,
     findings: &Findings<'_, L>,
@@ -80,9 +102,10 @@ pub fn ways_of<L: ExerciseLog>(
 ) -> Result<Vec<Way>, AllocError>
     ensures { IfOk result (λ ways. ways.items ≡ ways_of findings.now blocks.now) }
 {
+    let logs = Logs::written(alloc, findings, lack_many(blocks))?;
     let mut ways = Vec::new(alloc);
     for block in blocks {
-        if let Some(way) = way_of(findings, blocks, *block) {
+        if let Some(way) = way_in(&logs, blocks, *block) {
             ways.push(way)?;
         }
     }

@@ -1,8 +1,11 @@
-use Rattle.std.proofs.Common.{◌∙◌}
+use Rattle.std.proofs.Common.{◌∙◌, ap}
 use Rattle.siman_pdus.specs.Reading.{pdu_of}
+use Rattle.exercise_model.specs.Recording.{PlainRecording}
+use Rattle.exercise_model.specs.Account.{pair_of}
 use Rattle.exercise_conflict.proofs.Contradicting.{pair_is}
 use Rattle.exercise_conflict.proofs.earlier.earlier_sent.Goals as goal
 
 pub returns-in-WrongAnswer : goal.returns-in-WrongAnswer
 returns-in-WrongAnswer g c =
-    rw c.in-WrongAnswer.is (c.pair_of.ensures ∙ pair_is c.args.findings.now c.args.entry c.args.station (pdu_of c.args.pdu.now) c.requires)
+    rw c.in-WrongAnswer.is (c.pair_of.ensures ∙ ap (λ (r : PlainRecording). pair_of r c.args.entry) c.findings-findings.ensures
+    ∙ pair_is c.args.logs.now c.args.entry c.args.station (pdu_of c.args.pdu.now) c.requires)

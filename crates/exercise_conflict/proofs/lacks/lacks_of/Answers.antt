@@ -9,6 +9,7 @@ use Rattle.exercise_conflict.proofs.lacks.lacks_of.Goals as goal
 pub loop-entry-init : goal.loop-entry-init
 loop-entry-init g c = record {
   lacks = c.new-lacks.ensures.items ∙ sym (lacks_none c.args.findings.now);
+  asks = tt;
   receipts = no_receipts c.args.findings.now c.no_receipts-receipts.result c.no_receipts-receipts.ensures;
 }
 
@@ -21,5 +22,6 @@ loop-entry-preserved g c =
           ∙ ap (λ xs. xs ++ option_to_list (option_map (lack_by n) c.in_ok-missing.missing)) c.loop-entry.invariant.lacks
           ∙ ap (λ o. lacks_below r n ++ option_to_list (option_map (lack_by n) o)) c.in_ok-missing.ensures.missing
           ∙ sym (lacks_more r n);
+      asks = c.in_ok-missing.ensures.asks;
       receipts = c.in_ok-missing.ensures.tied;
     }

@@ -33,6 +33,7 @@ returns-in-Sent g c =
     let idle = ap (λ v. is_receipt (shown v)) c.in-Sent.is in
     record {
       missing = sym (idle_missing r n e at idle);
+      asks = c.requires.asks;
       tied = receipts_still r n c.args.receipts.now (λ b _. idle_gets r n e at idle b) c.requires.tied;
     }
 
@@ -45,5 +46,6 @@ returns-in-Told g c =
     let idle = ap (λ v. is_receipt (shown v)) c.in-Told.is in
     record {
       missing = sym (idle_missing r n e at idle);
+      asks = c.requires.asks;
       tied = receipts_still r n c.args.receipts.now (λ b _. idle_gets r n e at idle b) c.requires.tied;
     }

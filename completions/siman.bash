@@ -26,11 +26,11 @@ _siman() {
     current=${words[-1]%.}
     COMPREPLY=()
     if ((${#words[@]} == 2)); then
-        _siman_words 'pdu pdus show check audit world live convert mend join review log why help --help --version'
+        _siman_words 'pdu pdus show check audit world live convert mend join review log why chart help --help --version'
         return
     fi
     case ${words[1]}:$((${#words[@]} - 3)) in
-        help:0) _siman_words 'pdu pdus show check audit world live convert mend join review log why help' ;;
+        help:0) _siman_words 'pdu pdus show check audit world live convert mend join review log why chart help' ;;
         show:0) _siman_files dsrc ;;
         check:0) _siman_files dsrc ;;
         check:1) _siman_files dsct ;;
@@ -51,6 +51,10 @@ _siman() {
         log:*) _siman_words 'station= entity= request= kind=create-entity kind=remove-entity kind=start-resume kind=stop-freeze kind=acknowledge kind=action-request kind=action-response kind=data-query kind=set-data kind=data kind=event-report kind=comment kind=told kind=other --json' ;;
         why:0) _siman_files dsrc ;;
         why:*) _siman_files dsct; _siman_words '--json' ;;
+        chart:0) _siman_files dsrc ;;
+        chart:1) _siman_files dsct ;;
+        chart:2) _siman_files svg ;;
+        chart:*) _siman_words 'from= to=' ;;
     esac
 }
 

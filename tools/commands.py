@@ -13,7 +13,10 @@ from pathlib import Path
 TOP = Path(__file__).resolve().parent.parent
 # How usage has a word that may stand so often, and what may stand behind all words of a command.
 OFTEN = {"Once": "{}", "AtMostOnce": "[{}]", "OnceOrMore": "{} ..", "AnyTimes": "[{} ..]"}
-BEHIND = {"Pieces": [r"[form=open\|form=closed]"], "View": ["[--json]"], "PerhapsTwo": ["[--json]"]}
+BEHIND = {
+    "Pieces": [r"[form=open\|form=closed]"], "View": ["[--json]"], "PerhapsTwo": ["[--json]"],
+    "Picture": ["[from=STEP]", "[to=STEP]"],  # in the place of the word STEP
+}  # fmt: skip
 TABLE = TOP / "crates" / "siman_words" / "src" / "commands.rt"
 
 
@@ -25,7 +28,8 @@ def rows_of_program():
         name = re.search(r'name: "([^"]+)"', row)[1]
         takes = re.search(r"takes: Takes::(\w+)", row)[1]
         words = re.findall(r'name: "([A-Z]+)",\s*often: Often::(\w+)', row.partition("words:")[2])
-        found.append(" ".join([name, *(OFTEN[often].format(word) for word, often in words), *BEHIND.get(takes, [])]))
+        told = [OFTEN[often].format(word) for word, often in words if word != "STEP"]
+        found.append(" ".join([name, *told, *BEHIND.get(takes, [])]))
     return found
 
 

@@ -31,6 +31,8 @@ pub data Asked : Type 0 where
   View : ViewWord → (recording : List ℕ) → (filters : List (List ℕ)) → Spelling → Asked
   -- what contradicts what in a recording, or in a certificate of it, where the words name one
   Why : (recording : List ℕ) → (certificate : Option (List ℕ)) → Spelling → Asked
+  -- the picture of a recording in the order of a certificate, the file that is to be made of it, and the words that say which steps are shown
+  Chart : (recording certificate picture : List ℕ) → (steps : List (List ℕ)) → Asked
 
 -- words have the text that `text` gives
 abbrev pub asked_by : {S : Type 0} → (text : S → List ℕ) → Task S → Asked
@@ -41,6 +43,7 @@ asked_by text (tasks.Two command first second) = Two command first.now second.no
 asked_by text (tasks.Join pieces made form) = Join (map text pieces.now) made.now form
 asked_by text (tasks.View view recording filters spelling) = View view recording.now (map text filters.now) spelling
 asked_by text (tasks.Why recording certificate spelling) = Why recording.now (option_map (λ word. word.now) certificate) spelling
+asked_by text (tasks.Chart recording certificate picture steps) = Chart recording.now certificate.now picture.now (map text steps.now)
 
 -- a word that begins with a hyphen, and has more, is an option
 abbrev pub is_option : List ℕ → Bool
@@ -56,7 +59,8 @@ unfoldable pub takes_named : List ℕ → Option Takes
 takes_named = takes_of (
     (codes "pdu", shapes.One Pdu) ∷ (codes "pdus", shapes.Nothing Pdus) ∷ (codes "show", shapes.One Show) ∷ (codes "check", shapes.Two Check)
     ∷ (codes "audit", shapes.Two Audit) ∷ (codes "world", shapes.Two World) ∷ (codes "live", shapes.Two Live) ∷ (codes "convert", shapes.Two Convert) ∷ (codes "mend", shapes.Two Mend)
-    ∷ (codes "join", shapes.Pieces) ∷ (codes "review", shapes.View Review) ∷ (codes "log", shapes.View Log) ∷ (codes "why", shapes.PerhapsTwo) ∷ [])
+    ∷ (codes "join", shapes.Pieces) ∷ (codes "review", shapes.View Review) ∷ (codes "log", shapes.View Log) ∷ (codes "why", shapes.PerhapsTwo)
+    ∷ (codes "chart", shapes.Picture) ∷ [])
 
 -- a command is asked for where it has the words that it takes, none of them an option
 abbrev pub bare_asked : NoWord → List (List ℕ) → Option Asked
@@ -139,6 +143,12 @@ named_why spelling words = None
 abbrev pub why_asked : List (List ℕ) → Option Asked
 why_asked words = let p = spelling_apart words in named_why p.1 p.0
 
+-- A PICTURE IS ASKED FOR of a recording and its certificate; behind the file that is to be made stand the words that say which steps are shown
+abbrev pub chart_asked : List (List ℕ) → Option Asked
+chart_asked (recording ∷ certificate ∷ picture ∷ steps) =
+    if has_option (recording ∷ certificate ∷ picture ∷ steps) then None else Some (Chart recording certificate picture steps)
+chart_asked words = None
+
 abbrev pub taken : Option Takes → List (List ℕ) → Option Asked
 taken None words = None
 taken (Some (shapes.Nothing command)) words = bare_asked command words
@@ -147,6 +157,7 @@ taken (Some (shapes.Two command)) words = two_asked command words
 taken (Some shapes.Pieces) words = join_asked words
 taken (Some (shapes.View view)) words = view_asked view words
 taken (Some shapes.PerhapsTwo) words = why_asked words
+taken (Some shapes.Picture) words = chart_asked words
 
 -- WHAT WORDS ASK FOR, the program's name first; other words ask for help, or break the usage
 abbrev pub asked : List (List ℕ) → Option Asked
@@ -185,6 +196,7 @@ helps (Some (shapes.Two command)) words = helps_behind 2 words
 helps (Some shapes.Pieces) words = helps_behind (length words) words
 helps (Some (shapes.View view)) words = helps_within (length words) false words
 helps (Some shapes.PerhapsTwo) words = helps_within 2 false words
+helps (Some shapes.Picture) words = helps_behind (length words) words
 
 -- `help` stands alone, or before the name of a command or itself
 abbrev pub is_topic : List (List ℕ) → Bool

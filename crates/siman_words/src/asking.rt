@@ -1,7 +1,7 @@
 //! Reading words by the table of commands: the task that they ask for, or whether they ask for help.
 
 ghost use Rattle.std.specs.Prelude.{◌≡◌, false, length, map, option_map};
-ghost use Rattle.siman_words.specs.Words.{asked_by, is_option, takes_of, takes_named, bare_asked, one_asked, two_asked, taken, asked, is_short, is_help, is_version, helps_behind, helps_within, is_topic, helps, asks_help, last_apart, has_option, is_form_word, form_named, form_apart, are_names, pieces_asked, join_asked, spelling_apart, view_asked, named_why, why_asked};
+ghost use Rattle.siman_words.specs.Words.{asked_by, is_option, takes_of, takes_named, bare_asked, one_asked, two_asked, taken, asked, is_short, is_help, is_version, helps_behind, helps_within, is_topic, helps, asks_help, last_apart, has_option, is_form_word, form_named, form_apart, are_names, pieces_asked, join_asked, spelling_apart, view_asked, named_why, why_asked, chart_asked};
 
 use crate::commands::{JoinForm, NoWord, OneWord, ROWS, Row, Takes, Task, TwoWords, ViewWord};
 use siman_texts::Spelling;
@@ -207,6 +207,24 @@ fn why_words<S: AsStr>(words: &[S]) -> Option<Task<'_, S>>
     named_why(spelling, names)
 }
 
+/// The picture of a recording in the order of a certificate, and the words that say which steps are
+/// shown.
+fn chart_words<S: AsStr>(words: &[S]) -> Option<Task<'_, S>>
+    ensures { option_map (asked_by S.text) result ≡ chart_asked (map S.text words.now) }
+{
+    match words {
+        [recording, certificate, picture, steps @ ..] if !has_option(words) => {
+            Some(Task::Chart(
+                recording.as_str(),
+                certificate.as_str(),
+                picture.as_str(),
+                steps,
+            ))
+        }
+        _ => None,
+    }
+}
+
 /// The task of a command, where it takes just these words.
 fn taken<S: AsStr>(takes: Option<Takes>, words: &[S]) -> Option<Task<'_, S>>
     ensures { option_map (asked_by S.text) result ≡ taken takes (map S.text words.now) }
@@ -219,6 +237,7 @@ fn taken<S: AsStr>(takes: Option<Takes>, words: &[S]) -> Option<Task<'_, S>>
         Some(Takes::Pieces) => join_words(words),
         Some(Takes::View(view)) => view_words(view, words),
         Some(Takes::PerhapsTwo) => why_words(words),
+        Some(Takes::Picture) => chart_words(words),
     }
 }
 
@@ -310,7 +329,7 @@ fn helps<S: AsStr>(takes: Option<Takes>, words: &[S]) -> bool
         Some(Takes::Nothing(_)) => helps_behind(0, words),
         Some(Takes::One(_)) => helps_behind(1, words),
         Some(Takes::Two(_)) => helps_behind(2, words),
-        Some(Takes::Pieces) => helps_behind(words.len(), words),
+        Some(Takes::Pieces) | Some(Takes::Picture) => helps_behind(words.len(), words),
         Some(Takes::View(_)) => helps_within(words.len(), words),
         Some(Takes::PerhapsTwo) => helps_within(2, words),
     }

@@ -76,6 +76,9 @@ pub enum Task<'a, S> {
     /// What contradicts what: the file of the recording, that of a certificate where the words name
     /// one, and how the lines are spelled.
     Why(&'a str, Option<&'a str>, Spelling),
+    /// The picture of an exercise: the file of the recording, that of its certificate, the file that is
+    /// made, and the words that say which steps are shown.
+    Chart(&'a str, &'a str, &'a str, &'a [S]),
 }
 
 /// What a command takes, and so what it is.
@@ -90,6 +93,9 @@ pub enum Takes {
     View(ViewWord),
     /// The file of a recording, perhaps that of a certificate, and perhaps `--json`.
     PerhapsTwo,
+    /// The file of a recording, that of a certificate, the file that is made, and words that say which
+    /// steps are shown.
+    Picture,
 }
 
 /// How often a word of a command may stand.
@@ -121,7 +127,7 @@ pub(crate) struct Row {
 }
 
 /// The table of the commands, in the order of the help.
-pub(crate) const ROWS: [Row; 13] = [
+pub(crate) const ROWS: [Row; 14] = [
     Row {
         name: "pdu",
         takes: Takes::One(OneWord::Pdu),
@@ -331,6 +337,34 @@ pub(crate) const ROWS: [Row; 13] = [
             },
         ],
     },
+    Row {
+        name: "chart",
+        takes: Takes::Picture,
+        about: "Draws an exercise in the order of its certificate, and writes the picture",
+        example: "Example:\n  siman chart exercise.dsrc exercise.dsct exercise.svg",
+        words: &[
+            Word {
+                name: "REC",
+                often: Often::Once,
+                about: "The file of the recording",
+            },
+            Word {
+                name: "CERT",
+                often: Often::Once,
+                about: "The file of the certificate",
+            },
+            Word {
+                name: "SVG",
+                often: Often::Once,
+                about: "The file of the picture, in SVG, which is made anew",
+            },
+            Word {
+                name: "STEP",
+                often: Often::AnyTimes,
+                about: "Which steps of the certificate are shown, counted from 0: from=STEP says the first, to=STEP the last; each may stand once",
+            },
+        ],
+    },
 ];
 
 /// The version of the program.
@@ -343,7 +377,7 @@ pub(crate) const ABOUT: &str =
 /// What the exit statuses tell, for the help, and the example of no words; those of the table follow.
 pub(crate) const STATUSES: &str = "Exit status:
   0  the answer is on standard output; of `check` or `why` it is yes, of `audit` or `why` explained
-  1  a datagram is refused, or the answer of `check` or `why` is no, of `audit` or `why` blocked
+  1  a datagram is refused, or the answer of `check`, `why` or `chart` is no, of `audit` or `why` blocked
   2  a fault of usage, hex text, files, scripts, worlds, lines or writing, told on standard error
   3  memory ran out
 

@@ -57,6 +57,9 @@ fn command<'a>(alloc: Global, row: Row) -> Result<Command<'a>, AllocError> {
             command.override_usage("siman log <REC> [FILTER]... [--json]")
         }
         Takes::PerhapsTwo => command.override_usage("siman why <REC> [CERT] [--json]"),
+        Takes::Picture => command.override_usage(
+            "siman chart <REC> <CERT> <SVG> [from=STEP] [to=STEP]",
+        ),
         Takes::Nothing(_) | Takes::One(_) | Takes::Two(_) => command,
     };
     command.args(arguments)

@@ -96,7 +96,11 @@ impl Outside for Disk<'_> {
 
     fn open(&mut self, name: &str) -> io::Result<File> {
         let file = File::open(self.rt, name)?;
-        self.opened.push(identity(&file.metadata()?))?;
+        let known = file.metadata()?;
+        if known.is_dir() {
+            return Err(io::Error::from(ErrorKind::IsADirectory));
+        }
+        self.opened.push(identity(&known))?;
         Ok(file)
     }
 

@@ -19,3 +19,4 @@ mod Reviewed
 mod Logged
 mod Reasons
 mod Said
+mod Pictured

@@ -28,7 +28,7 @@ unjudged spelling recorded certified fault (Ok told) passed why = absurd passed
 unjudged spelling recorded certified fault (Err e) passed why = rw passed (inl (unsearched recorded fault why))
 
 -- a certificate that could not be read
-uncertified : (certified : Certified) (fault : CertificateFault) → Fails (certificate.format_of fault) certified → IsUncertified certified (of_certificate fault)
+pub uncertified : (certified : Certified) (fault : CertificateFault) → Fails (certificate.format_of fault) certified → IsUncertified certified (of_certificate fault)
 uncertified certified (certificates.Format f) why = inl (f, why, refl)
 uncertified certified certificates.Read why = inr (inl refl)
 uncertified certified certificates.Memory why = inr (inr refl)

@@ -2,7 +2,7 @@
 use Rattle.std.specs.Prelude.{◌≡◌, ◌≢◌, ◌⊎◌, ℕ, List, [], ◌++◌, codes, decimal, Option, Some, None, Result, Ok, Err}
 use Rattle.std.specs.Io.KnownBytes.{Keeps}
 use Rattle.std.specs.declared.io.ErrorKind.{ErrorKind}
-use Rattle.std.specs.declared.io.ErrorKind.TheVariants.{OutOfMemory}
+use Rattle.std.specs.declared.io.ErrorKind.TheVariants.{OutOfMemory, NotFound, PermissionDenied, IsADirectory}
 use Rattle.byte_files.specs.Writing.{Writes}
 use Rattle.byte_files.specs.declared.output.WriteFailed.{WriteFailed}
 use Rattle.exercise_recording.specs.declared.format_fault.RecordingFault.{RecordingFault}
@@ -22,12 +22,14 @@ use Rattle.siman_worlds.specs.declared.world_fault.WorldFault.{WorldFault}
 use Rattle.siman_worlds.specs.declared.world_fault.WorldFault.TheVariants as worlds
 use Rattle.siman_console.specs.declared.place.Place.{Place}
 use Rattle.siman_console.specs.declared.place.Place.TheVariants as places
-use Rattle.siman_console.specs.declared.place.Place.TheVariants.{Offset, Line, Move, PieceOffset, PieceStation}
+use Rattle.siman_console.specs.declared.place.Place.TheVariants.{Offset, Line, Move, PieceOffset, PieceStation, Unopened}
+use Rattle.siman_console.specs.declared.reason.Reason.{Reason}
+use Rattle.siman_console.specs.declared.reason.Reason.TheVariants.{Missing, Denied, Directory, Other}
 use Rattle.siman_console.specs.declared.join_limit.JoinLimit.{JoinLimit}
 use Rattle.siman_console.specs.declared.join_limit.JoinLimit.TheVariants as limits
 use Rattle.siman_console.specs.declared.fault.Fault.{Fault}
 use Rattle.siman_console.specs.declared.fault.Ended.{Ended}
-use Rattle.siman_console.specs.declared.fault.Fault.TheVariants.{NotBytePairs, HexLine, Input, File, Words, Recording, Already, Piece, OtherExercise, StationTwice, Joined, Certificate, Script, ScriptRead, World, LineFailed, Filter, OverLimit, Output, SameAs, Exists, Memory}
+use Rattle.siman_console.specs.declared.fault.Fault.TheVariants.{NotBytePairs, HexLine, Input, File, Words, Recording, Already, Piece, OtherExercise, StationTwice, Joined, Certificate, Script, ScriptRead, World, LineFailed, Filter, OverLimit, ChartOverLimit, Output, SameAs, Exists, Memory}
 use Rattle.siman_console.specs.declared.files_fault.FilesFault.{FilesFault}
 use Rattle.siman_console.specs.declared.files_fault.FilesFault.TheVariants as files
 use Rattle.siman_console.specs.declared.input.InputFault.{InputFault}
@@ -53,12 +55,25 @@ limit_name limits.Stations = codes "stations"
 limit_name limits.Records = codes "records"
 limit_name limits.Size = codes "size"
 
--- THE TABLE OF FAULTS: what each is about, what there is to say of it, and where it is: the offset of a field in bytes from 0, a line of a script or of hex texts from 1, a move of a world from 0, a piece by its name
+-- why a file could not be opened, and how that is told
+abbrev pub reason_of : ErrorKind → Reason
+reason_of NotFound = Missing
+reason_of PermissionDenied = Denied
+reason_of IsADirectory = Directory
+reason_of _ = Other
+
+abbrev pub reason_text : Reason → List ℕ
+reason_text Missing = codes "no such file"
+reason_text Denied = codes "permission denied"
+reason_text Directory = codes "is a directory"
+reason_text Other = codes "cannot be opened"
+
+-- THE TABLE OF FAULTS: what each is about, what there is to say of it, and where it is, or why a file was not opened: the offset of a field in bytes from 0, a line of a script or of hex texts from 1, a move of a world from 0, a piece by its name
 abbrev pub told_as : Fault → List ℕ × List ℕ × Option Place
 told_as NotBytePairs = (codes "hex: ", codes "not byte pairs", None)
 told_as (HexLine number) = (codes "hex: ", codes "not byte pairs", Some (Line number))
 told_as Input = (codes "file: ", codes "-", None)
-told_as (File name) = (codes "file: ", name.now, None)
+told_as (File name reason) = (codes "file: ", name.now, Some (Unopened reason))
 told_as Words = (codes "words: ", codes "not UTF-8", None)
 told_as (Recording (recordings.Format f)) = (codes "recording: ", recording_texts.name_of f, Some (Offset (recording_texts.place_of f)))
 told_as (Recording recordings.Read) = (codes "recording: ", codes "read", None)
@@ -83,6 +98,7 @@ told_as (World worlds.Memory) = (codes "world: ", codes "memory", None)
 told_as LineFailed = (codes "live: ", codes "line", None)
 told_as (Filter word) = (codes "filter: ", word.now, None)
 told_as OverLimit = (codes "view: ", codes "over-limit", None)
+told_as ChartOverLimit = (codes "chart: ", codes "over-limit", None)
 told_as Output = (codes "output: ", codes "write", None)
 told_as (SameAs name) = (codes "output: same as ", name.now, None)
 told_as Exists = (codes "output: ", codes "exists", None)
@@ -103,12 +119,13 @@ place_words (Move number) = codes " at move " ++ decimal number
 place_words (places.Piece name) = piece_words name.now
 place_words (PieceOffset at name) = (codes " at " ++ decimal at) ++ piece_words name.now
 place_words (PieceStation site application name) = station_words site application name.now
+place_words (Unopened reason) = codes ": " ++ reason_text reason
 
 abbrev pub place_text : Option Place → List ℕ
 place_text None = []
 place_text (Some place) = place_words place
 
--- SUBJECT: NAME, and behind it the place; with its line end
+-- SUBJECT: NAME, and behind it the place or the reason; with its line end
 abbrev pub fault_text : Fault → List ℕ
 fault_text fault = ((told_as fault).0 ++ (told_as fault).1) ++ place_text (told_as fault).2
 

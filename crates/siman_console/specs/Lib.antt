@@ -1,5 +1,6 @@
 pub mod HexText
 pub mod Answer
+pub mod ChartWords
 pub mod Ending
 pub mod Outside
 pub mod Program

@@ -5,13 +5,13 @@ use Rattle.std.specs.declared.io.ErrorKind.{ErrorKind}
 use Rattle.std.specs.declared.io.ErrorKind.TheVariants.{OutOfMemory}
 use Rattle.siman_console.specs.declared.fault.Fault.{Fault}
 use Rattle.siman_console.specs.declared.fault.Fault.TheVariants.{Memory}
-use Rattle.siman_console.specs.Ending.{fault_text}
+use Rattle.siman_console.specs.Ending.{fault_text, reason_of, reason_text}
 use Rattle.siman_console.specs.Making.{Answered}
 use Rattle.siman_console.specs.Outside.{Deed, Opens, Compares, Reads, Stream}
 
--- how a file that was not opened is told: want of memory, or else `file: NAME` with the name as it was given
+-- how a file that was not opened is told: want of memory, or else `file: NAME: REASON` with the name as it was given
 abbrev pub IsUnopened : List ℕ → ErrorKind → Fault → Type 0
-IsUnopened name kind fault = ((kind ≡ OutOfMemory) × (fault ≡ Memory)) ⊎ ((kind ≢ OutOfMemory) × (fault_text fault ≡ codes "file: " ++ name))
+IsUnopened name kind fault = ((kind ≡ OutOfMemory) × (fault ≡ Memory)) ⊎ ((kind ≢ OutOfMemory) × (fault_text fault ≡ (codes "file: " ++ name) ++ codes ": " ++ reason_text (reason_of kind)))
 
 abbrev pub TellsUnopened : List ℕ → ErrorKind → Answered → Stream → Type 0
 TellsUnopened name kind answered out = Keeps out.old out.new × ((fault : Fault) × IsUnopened name kind fault × (answered ≡ Err fault))
@@ -41,3 +41,30 @@ WorksOn {A} Gives Makes name made deeds answered out =
     × (answered ≡ Err fault) × Keeps out.old out.new)
     ⊎ ((known : Option (List ℕ)) × (rest : List Deed) × (a : A) × (deeds ≡ Opens name (Ok known) ∷ Compares made false ∷ Reads known ∷ rest) × Gives known (Ok a)
     × Makes a made rest answered out)
+
+-- two files are opened, neither of which is the one to be made
+abbrev pub opens_both : (name other made : List ℕ) → (first second : Option (List ℕ)) → List Deed
+opens_both name other made first second =
+    Opens name (Ok first) ∷ Compares made false ∷ Opens other (Ok second) ∷ Compares made false ∷ []
+
+-- the bytes of two files that were opened, where they are known, or why one was not
+abbrev pub both_by : {F : Type 0} → (F → Option (List ℕ)) → Result (F × F) Fault → Result (Option (List ℕ) × Option (List ℕ)) Fault
+both_by bytes (Ok files) = Ok (bytes files.0, bytes files.1)
+both_by bytes (Err fault) = Err fault
+
+-- BOTH FILES ARE OPENED in the order of the words, neither of which is the one to be made; else nothing is read of either, and the second is not asked for where the first is not opened
+abbrev pub OpensBoth : (name other made : List ℕ) → List Deed → Result (Option (List ℕ) × Option (List ℕ)) Fault → Type 0
+OpensBoth name other made deeds (Ok bytes) = deeds ≡ opens_both name other made bytes.0 bytes.1
+OpensBoth name other made deeds (Err fault) =
+    OpensApart name made deeds (Err fault)
+    ⊎ ((first : Option (List ℕ)) × (last : List Deed) × (deeds ≡ (Opens name (Ok first) ∷ Compares made false ∷ []) ++ last) × OpensApart other made last (Err fault))
+
+-- TWO FILES ARE OPENED before either is read, something is made of what is read of them, and another file of that; or it is told why not, as of one
+abbrev pub WorksOnBoth : {A : Type 0} → (Gives : (first second : Option (List ℕ)) → Result A Fault → Type 0) → (Makes : A → (made : List ℕ) → List Deed → Answered → Stream → Type 0)
+    → (name other made : List ℕ) → List Deed → Answered → Stream → Type 0
+WorksOnBoth {A} Gives Makes name other made deeds answered out =
+    ((fault : Fault) × OpensBoth name other made deeds (Err fault) × (answered ≡ Err fault) × Keeps out.old out.new)
+    ⊎ ((first second : Option (List ℕ)) × (fault : Fault) × (deeds ≡ opens_both name other made first second ++ Reads first ∷ Reads second ∷ [])
+    × Gives first second (Err fault) × (answered ≡ Err fault) × Keeps out.old out.new)
+    ⊎ ((first second : Option (List ℕ)) × (rest : List Deed) × (a : A) × (deeds ≡ opens_both name other made first second ++ Reads first ∷ Reads second ∷ rest)
+    × Gives first second (Ok a) × Makes a made rest answered out)

@@ -1,5 +1,6 @@
 -- How the program ends, from the words of its command line to its status.
 pub mod Audit
+pub mod Chart
 pub mod Check
 pub mod Convert
 pub mod Join
@@ -29,6 +30,7 @@ use Rattle.siman_console.specs.declared.fault.Fault.{Fault}
 use Rattle.siman_console.specs.declared.fault.Fault.TheVariants.{Words, Output, Memory}
 use Rattle.siman_console.specs.Answer.{said_of_hex, IsSaid}
 use Rattle.siman_console.specs.Program.Audit.{SearchesFile, MakesFinding}
+use Rattle.siman_console.specs.Program.Chart.{ChartsNamed}
 use Rattle.siman_console.specs.Program.Check.{ChecksFiles}
 use Rattle.siman_console.specs.Program.Convert.{CarriesFile, MakesConverted}
 use Rattle.siman_console.specs.Ending.{Ends, IsToldAs}
@@ -83,6 +85,7 @@ EndsTask told (Two command first second) deeds input o = EndsTwo told command fi
 EndsTask told (asks.Join pieces made form) deeds input o = EndsAs (JoinsPieces pieces made (word_of form) deeds) o
 EndsTask told (View view recording filters spelling) deeds input o = EndsAs (DoesView view recording filters spelling deeds) o
 EndsTask told (asks.Why recording certificate spelling) deeds input o = EndsAs (WhyNamed spelling recording certificate deeds) o
+EndsTask told (asks.Chart recording certificate picture words) deeds input o = EndsAs (ChartsNamed recording certificate picture words deeds) o
 
 -- HOW WORDS END that ask for no task: with want of memory, with the help that they ask for, or as a fault of usage, which is told on the writer of faults
 abbrev pub EndsUsage : (helps : Bool) → Outcome → Type 0

@@ -10,6 +10,7 @@ use crate::files_fault::FilesFault;
 use crate::input::{InputFault, Unread};
 use crate::join_limit::JoinLimit;
 use crate::place::{Place, put_place};
+use crate::reason::Reason;
 use crate::trial_fault::TrialFault;
 use byte_files::{WriteFailed, put, put_both};
 use exercise_check::CertificateFault;
@@ -30,8 +31,8 @@ pub enum Fault<'a> {
     HexLine(usize),
     /// Standard input could not be read.
     Input,
-    /// The file of this name could not be opened.
-    File(&'a str),
+    /// The file of this name could not be opened, for this reason.
+    File(&'a str, Reason),
     /// The words of the command line could not be had: one is not UTF-8.
     Words,
     /// The recording could not be read; never for want of memory.
@@ -61,6 +62,9 @@ pub enum Fault<'a> {
     Filter(&'a str),
     /// The view would have more than 4,194,304 lines.
     OverLimit,
+    /// The picture would have more than 2,000 rows, or the entities of a station have more than
+    /// 4,194,304 stretches.
+    ChartOverLimit,
     /// The answer could not be written whole.
     Output,
     /// The file that is to be made is the one that is read, which the words call so.
@@ -72,7 +76,8 @@ pub enum Fault<'a> {
 }
 
 impl<'a> Fault<'a> {
-    /// How it is told: what it is about, what there is to say of it, and its place in what was read.
+    /// How it is told: what it is about, what there is to say of it, and its place in what was read, or
+    /// why a file was not opened.
     fn told(self) -> (&'static str, &'a str, Option<Place<'a>>)
         ensures subject { result.0.now ≡ (told_as self.entry).0 }
         ensures name { result.1.now ≡ (told_as self.entry).1 }
@@ -82,7 +87,7 @@ impl<'a> Fault<'a> {
             Fault::NotBytePairs => ("hex: ", "not byte pairs", None),
             Fault::HexLine(line) => ("hex: ", "not byte pairs", Some(Place::Line(line))),
             Fault::Input => ("file: ", "-", None),
-            Fault::File(name) => ("file: ", name, None),
+            Fault::File(name, reason) => ("file: ", name, Some(Place::Unopened(reason))),
             Fault::Words => ("words: ", "not UTF-8", None),
             Fault::Recording(RecordingFault::Format(fault)) => (
                 "recording: ",
@@ -133,6 +138,7 @@ impl<'a> Fault<'a> {
             Fault::LineFailed => ("live: ", "line", None),
             Fault::Filter(word) => ("filter: ", word, None),
             Fault::OverLimit => ("view: ", "over-limit", None),
+            Fault::ChartOverLimit => ("chart: ", "over-limit", None),
             Fault::Output => ("output: ", "write", None),
             Fault::SameAs(name) => ("output: same as ", name, None),
             Fault::Exists => ("output: ", "exists", None),
@@ -167,8 +173,8 @@ fn move_fault_name(fault: MoveFault) -> &'static str
     }
 }
 
-/// The line that tells of it, with no line end: `SUBJECT: NAME`, and behind it the place, where one is
-/// told.
+/// The line that tells of it, with no line end: `SUBJECT: NAME`, and behind it the place or the reason,
+/// where one is told.
 impl fmt::Display for Fault<'_> {
     ghost output = { λ f. Some (fault_text f) };
 

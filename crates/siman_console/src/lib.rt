@@ -14,6 +14,7 @@
 #![tactic(auto)]
 
 mod answer;
+mod chart_words;
 mod fault;
 mod files_fault;
 mod filter_words;
@@ -27,6 +28,7 @@ mod outside;
 mod place;
 mod product;
 mod program;
+mod reason;
 mod recording_file;
 mod saying;
 mod trial_fault;

@@ -4,10 +4,11 @@ ghost use Rattle.std.specs.Prelude.{◌≡◌, List};
 ghost use Rattle.std.specs.IoError.{error_kind};
 ghost use Rattle.std.specs.List.{All};
 ghost use Rattle.siman_console.specs.Outside.{Deed, Adds, WasHeld};
-ghost use Rattle.siman_console.specs.Opening.{IsUnopened, OpensApart, bytes_by};
+ghost use Rattle.siman_console.specs.Opening.{IsUnopened, OpensApart, OpensBoth, bytes_by, both_by};
 
 use crate::fault::Fault;
 use crate::outside::Outside;
+use crate::reason::reason_of;
 use std::io;
 use std::io::ErrorKind;
 
@@ -18,7 +19,7 @@ pub(crate) fn unopened<'a>(name: &'a str, error: &io::Error) -> Fault<'a>
     if error.kind() == ErrorKind::OutOfMemory {
         return Fault::Memory;
     }
-    Fault::File(name)
+    Fault::File(name, reason_of(error.kind()))
 }
 
 /// Opens the file of the first name to be read, which must not be the one that is to be made under
@@ -39,4 +40,18 @@ pub(crate) fn open_apart<'a, O: Outside>(
         }
         Err(error) => Err(unopened(name, &error)),
     }
+}
+
+/// Opens two files in the order of their names, neither of which may be the one that is to be made.
+pub(crate) fn open_both<'a, O: Outside>(
+    names: (&'a str, &'a str),
+    made: &'a str,
+    outside: &mut O,
+) -> Result<(O::Opened, O::Opened), Fault<'a>>
+    ensures { (deeds : List Deed) × Adds (O.deeds outside.old) (O.deeds outside.new) deeds × All (WasHeld (O.holds outside.old)) deeds × OpensBoth names.entry.0.now names.entry.1.now made.now deeds (both_by O.bytes result) }
+{
+    let (name, other) = names;
+    let first = open_apart((name, made), outside)?;
+    let second = open_apart((other, made), outside)?;
+    Ok((first, second))
 }

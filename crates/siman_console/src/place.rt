@@ -1,15 +1,16 @@
-//! Places in what was read.
+//! What stands at the end of the line of a fault: a place in what was read, or why a file was not opened.
 
 ghost use Rattle.std.specs.Prelude.{◌++◌, decimal, Some};
 ghost use Rattle.byte_files.specs.Writing.{Writes};
 ghost use Rattle.siman_console.specs.Ending.{piece_words, station_words, place_words};
 
+use crate::reason::Reason;
 use byte_files::{WriteFailed, put_both};
 use itoa::Buffer;
 use std::fmt;
 use std::io::Write;
 
-/// A place in what was read.
+/// A place in what was read, or why a file was not.
 #[derive(Clone, Copy)]
 pub(crate) enum Place<'a> {
     /// An offset in bytes, from 0.
@@ -24,10 +25,12 @@ pub(crate) enum Place<'a> {
     PieceOffset(u64, &'a str),
     /// The station of this site and application, in the piece of this name.
     PieceStation(u16, u16, &'a str),
+    /// No place: nothing was read of a file that could not be opened, for this reason.
+    Unopened(Reason),
 }
 
 /// ` at OFFSET`, ` at line N` or ` at move N`; of a piece ` in NAME`, ` at OFFSET in NAME` or
-/// ` SITE:APPLICATION in NAME`.
+/// ` SITE:APPLICATION in NAME`; of a file that could not be opened `: REASON`.
 impl fmt::Display for Place<'_> {
     ghost output = { λ place. Some (place_words place) };
 
@@ -40,6 +43,10 @@ impl fmt::Display for Place<'_> {
             Place::PieceOffset(at, name) => write!(f, " at {at} in {name}"),
             Place::PieceStation(site, application, name) => {
                 write!(f, " {site}:{application} in {name}")
+            }
+            Place::Unopened(reason) => {
+                let reason = reason.name();
+                write!(f, ": {reason}")
             }
         }
     }
@@ -92,5 +99,6 @@ pub(crate) fn put_place<W: Write>(writer: &mut W, place: Place<'_>) -> Result<()
         Place::PieceStation(site, application, name) => {
             put_station(writer, site, application, name)
         }
+        Place::Unopened(reason) => put_both(writer, b": ", reason.name().as_bytes()),
     }
 }

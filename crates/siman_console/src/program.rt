@@ -9,6 +9,7 @@ ghost use Rattle.siman_words.specs.Words.{asked_by};
 ghost use Rattle.siman_lines.specs.AtLines.{Telling};
 
 pub(crate) mod audit;
+pub(crate) mod chart;
 pub(crate) mod check;
 pub(crate) mod convert;
 mod join;
@@ -27,6 +28,7 @@ use crate::fault::{Ended, Fault, end, of_error};
 use crate::outside::Outside;
 use crate::product::make_of_file;
 use crate::program::audit::Finding;
+use crate::program::chart::chart_named;
 use crate::program::check::CheckCommand;
 use crate::program::convert::Carried;
 use crate::program::join::{join_pieces, word_of};
@@ -156,6 +158,11 @@ fn end_task<'a, O: Outside, R: Read + Drop, W: Write, E: Write>(
         Task::Why(recording, certificate, spelling) => {
             let names = (recording, certificate);
             end(why_named(alloc, names, spelling, outside, out), errors)
+        }
+        Task::Chart(recording, certificate, picture, steps) => {
+            let names = (recording, certificate);
+            let charted = chart_named(alloc, names, picture, steps, outside, out);
+            end(charted, errors)
         }
     }
 }

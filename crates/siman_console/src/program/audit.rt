@@ -232,8 +232,8 @@ fn make_found<O: Outside, W: Write>(
     }
 }
 
-/// Writes a blocked list, and gives the status.
-fn put_stuck<W: Write>(list: &str, out: &mut W) -> Result<u8, Fault<'static>>
+/// Writes what tells of a no, as a blocked list, and gives the status.
+pub(crate) fn put_stuck<W: Write>(list: &str, out: &mut W) -> Result<u8, Fault<'static>>
     ensures { let out : Stream = record { old = W.contents out.old; new = W.contents out.new } in
         PutsBlocked list.now result out }
 {

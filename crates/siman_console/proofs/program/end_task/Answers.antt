@@ -49,3 +49,8 @@ pub returns-in-Why : goal.returns-in-Why
 returns-in-Why g c =
     let did = c.why_named.ensures in
     rw c.in-Why.is (did.0, did.1, did.2, (c.why_named.result, did.3, c.end-in-Why.ensures))
+
+pub returns-in-Chart : goal.returns-in-Chart
+returns-in-Chart g c =
+    let did = c.chart_named-charted.ensures in
+    rw c.in-Chart.is (did.0, did.1, did.2, (c.chart_named-charted.result, did.3, c.end-in-Chart.ensures))

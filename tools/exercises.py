@@ -4,10 +4,12 @@
     python3 tools/exercises.py [EXERCISE ..] [--program PROGRAM]
     python3 tools/exercises.py --write
 
-An exercise is a folder of examples/ with a script, a recorder or two machines, and with the report and the review of
-its recording. The recording is made anew in a temporary folder; then `audit` has to find an order, and what `check` and
-`review` print has to be report.txt and review.txt. Both are compared, too, with what tools/pages computes of the
-recording, which knows nothing of the program. --write makes both files anew, of what tools/pages computes.
+An exercise is a folder of examples/ with a script, a recorder or two machines, and with the report, the review and the
+picture of its recording. The recording is made anew in a temporary folder; then `audit` has to find an order, what
+`check` and `review` print has to be report.txt and review.txt, and what `chart` draws picture.svg. All are compared,
+too, with what tools/pages computes of the recording, which knows nothing of the program. So are the pictures that the
+pages show: docs/losses.svg is that of examples/losses.dsrc, docs/staff/first.svg that of examples/first. --write makes
+all these files anew, of what tools/pages computes.
 
 The last line is `N tried, M wrong`, with status 1 where something is wrong. It is no part of the gate.
 """
@@ -22,10 +24,13 @@ from pathlib import Path
 sys.dont_write_bytecode = True
 
 import pages
+from pages.drawings import answer_to_chart
 
 TOP = Path(__file__).resolve().parent.parent
 EXAMPLES = TOP / "examples"
 LONGEST = 60  # seconds for a program
+# Where else the picture of an exercise stands.
+SHOWN = {"first": [TOP / "docs/staff/first.svg"]}
 
 
 def arguments():
@@ -34,7 +39,7 @@ def arguments():
     parser.add_argument("exercises", nargs="*", metavar="EXERCISE", help="folders of examples/; all if none is given")
     default = TOP / "crates" / "siman" / "out" / "siman"
     parser.add_argument("--program", type=Path, default=default, help="crates/siman/out/siman if not given")
-    parser.add_argument("--write", action="store_true", help="makes report.txt and review.txt anew")
+    parser.add_argument("--write", action="store_true", help="makes the reports, the reviews and the pictures anew")
     given = parser.parse_args()
     if not os.access(given.program, os.X_OK):
         parser.error(f"there is no program {given.program}: ./siman --build builds it")
@@ -91,13 +96,39 @@ def compared_texts(program, exercise, folder, is_written):
     compared.append(("audit", pages.answer_to_audit(text).out, run(program, "audit", recording, certificate)))
     report = pages.answer_to_check(text, certificate.read_bytes()).out, run(program, "check", recording, certificate)
     review = pages.answer_to_review(text).out, run(program, "review", recording)
-    for name, (computed, printed) in {"report.txt": report, "review.txt": review}.items():
-        if is_written:
-            (exercise / name).write_bytes(computed)
-        stands = (exercise / name).read_bytes()
-        compared.append((f"{name} as the pages have it", stands, computed))
-        compared.append((f"{name} as the program has it", stands, printed))
+    for name, both in {"report.txt": report, "review.txt": review}.items():
+        compared += compared_file(exercise / name, *both, is_written)
+    shown = [exercise / "picture.svg", *SHOWN.get(exercise.name, [])]
+    return compared + compared_pictures(program, recording, certificate, shown, is_written)
+
+
+def compared_file(path, computed, printed, is_written):
+    """A file that stands, beside what the pages have of it and what the program has."""
+    if is_written:
+        path.write_bytes(computed)
+    stands = path.read_bytes()
+    yield f"{path.name} as the pages have it", stands, computed
+    yield f"{path.name} as the program has it", stands, printed
+
+
+def compared_pictures(program, recording, certificate, paths, is_written):
+    """The line of a picture, and the picture under each of these paths."""
+    made = certificate.with_suffix(".svg")
+    told, drawn = answer_to_chart(recording.read_bytes(), certificate.read_bytes())
+    compared = [("chart", told.out, run(program, "chart", recording, certificate, made))]
+    for path in paths:
+        compared += compared_file(path, drawn.encode(), made.read_bytes(), is_written)
     return compared
+
+
+def compared_losses(program, folder, is_written):
+    """The picture of examples/losses.dsrc in the order that `audit` finds."""
+    lines = (EXAMPLES / "losses.dsrc.hex").read_text(encoding="ascii").splitlines()
+    recording, certificate = folder / "losses.dsrc", folder / "losses.dsct"
+    recording.write_bytes(bytes.fromhex(" ".join(line.partition("#")[0] for line in lines)))
+    order = run(program, "audit", recording, certificate)
+    compared = [("audit", pages.answer_to_audit(recording.read_bytes()).out, order)]
+    return compared + compared_pictures(program, recording, certificate, [TOP / "docs/losses.svg"], is_written)
 
 
 def main():
@@ -105,9 +136,14 @@ def main():
     makers = ("exercise.script", "recorder.py", "machine.py")
     names = given.exercises or sorted({path.parent.name for maker in makers for path in EXAMPLES.glob(f"*/{maker}")})
     tried = wrong = 0
-    for name in names:
+    for name in [*names, *([] if given.exercises else ["losses.dsrc"])]:
         with tempfile.TemporaryDirectory() as folder:
-            for told, expected, came in compared_texts(given.program, EXAMPLES / name, Path(folder), given.write):
+            exercise = EXAMPLES / name
+            if exercise.is_dir():
+                compared = compared_texts(given.program, exercise, Path(folder), given.write)
+            else:
+                compared = compared_losses(given.program, Path(folder), given.write)
+            for told, expected, came in compared:
                 tried += 1
                 if expected != came:
                     wrong += 1

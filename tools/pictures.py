@@ -6,7 +6,8 @@ late, come twice or come from outside, are sent again, answered, refused or left
 recording has the entries in another order than they happened, and the certificate the order in which they happened. For
 each it draws the whole, and some of the steps, and compares:
 
-- the marks in the SVG with those that the logs say, by tools/pages/charts.py alone;
+- the marks in the SVG with those that the logs say, by tools/pages/charts.py alone, and each byte of it with what
+  tools/pages/drawings.py draws;
 - where they stand: the rows one below the other, each arrow from the dot of its sender to the row and the column of its
   receiver, each bar from the row of the change that began it to that of the change that ended it, and what is lost level;
 - that nothing is in it that is of no use: no script, no font, nothing from outside, no number that is not whole.
@@ -20,6 +21,7 @@ each sort there were, and the status is 1 if any is wrong.
 import argparse
 import random
 import re
+import shutil
 import subprocess
 import sys
 import tempfile
@@ -33,7 +35,8 @@ from cases.texts import certificate_text, pdu, received, recording_text, sent, t
 from pages import (
     ACKNOWLEDGE, CREATE, DATA, DATA_QUERY, FIRST, NO_LINK, OPEN, START, STOP, Course, Recording, Station, verdict,
 )  # fmt: skip
-from pages.charts import Picture, marks_in, text_of
+from pages.charts import marks_in, text_of
+from pages.drawings import Drawing
 from repairs import comment
 
 ALL = 0xFFFF
@@ -41,6 +44,7 @@ OUTSIDE = (9, 9)
 WHOLE = re.compile("-?[0-9]+( -?[0-9]+)*")
 PLACES = {"x", "y", "x1", "y1", "x2", "y2", "width", "height", "viewBox", "cx", "cy", "r"}
 SVG = "{http://www.w3.org/2000/svg}"
+XMLLINT = shutil.which("xmllint")
 ELEMENTS = {"svg", "title", "desc", "style", "defs", "marker", "path", "circle", "rect", "g", "line", "text", "use"}
 
 
@@ -278,7 +282,7 @@ def draw(program, folder, window, count):
 
 def fault_of(program, folder, recording, places, window):
     """What is wrong with a picture, or None; and the marks that it is to have."""
-    picture = Picture(recording, places, range(*window))
+    picture = Drawing(recording, places, range(*window))
     marks = sorted(text_of(mark) for mark in picture.marks())
     status, said, svg = draw(program, folder, window, len(places))
     if (status, said) != (0, f"chart steps={window[1] - window[0]} stations={len(recording.stations)}\n"):
@@ -287,6 +291,11 @@ def fault_of(program, folder, recording, places, window):
     if drawn != marks:
         lacks, more = Counter(marks) - Counter(drawn), Counter(drawn) - Counter(marks)
         return f"lacks {sorted(lacks.elements())}, has {sorted(more.elements())}", marks
+    if svg != picture.text():
+        lines = zip(svg.splitlines(), picture.text().splitlines())
+        return f"drawn otherwise: {next((pair for pair in lines if pair[0] != pair[1]), 'longer')}", marks
+    if XMLLINT and subprocess.run([XMLLINT, "--noout", folder / "made.svg"], capture_output=True).returncode:
+        return "no XML", marks
     return next(Drawn(svg, picture).faults(), None), marks
 
 

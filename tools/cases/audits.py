@@ -60,8 +60,8 @@ def try_faults(trials):
     for size in range(len(FORMATS_RECORDING)):
         try_audit(trials, FORMATS_RECORDING[:size])
     try_audit(trials, EMPTY_CERTIFICATE)
-    trials.expect(["audit", "none", "new"], pages.fault("file: none"))
-    trials.expect(["audit", "examples", "new"], pages.fault("recording: read"))
+    trials.expect(["audit", "none", "new"], pages.unopened("none"))
+    trials.expect(["audit", "examples", "new"], pages.unopened("examples", "is a directory"))
     for name in ["examples", "none/there.dsct", "", "x" * 300, "/dev/full"]:
         trials.expect(["audit", explained, name], UNWRITTEN)
     for behind in [">/dev/full", ">&-"]:

@@ -54,8 +54,8 @@ def try_examples(trials, examples):
 def try_files(trials, examples):
     good, certificate, _ = examples
     for name in ["none.dsrc", "", "x" * 300]:
-        trials.expect(["convert", name, "never"], pages.fault(f"file: {name}"))
-    trials.expect(["convert", "examples", "never"], pages.fault("recording: read"))
+        trials.expect(["convert", name, "never"], pages.unopened(name))
+    trials.expect(["convert", "examples", "never"], pages.unopened("examples", "is a directory"))
     trials.expect(["convert", certificate, "never"], pages.fault("recording: magic at 0"))
     trials.expect(["convert", WORKED_SCRIPT, "never"], pages.fault("recording: magic at 0"))
     for name in ["examples", "none/there.dsrc", "", "/dev/full"]:

@@ -175,15 +175,15 @@ def limits(cases):
 
 def files(cases):
     cases.case("a-piece-that-is-not-there", [("manager", piece(0)), ("seven", piece(1)), ("nine", piece(2)), ("cut", piece(1)[:60])])
-    cases.told(["join", "manager", "nowhere", "nine", "new"], ["manager", "nowhere"], pages.fault("file: nowhere"))
+    cases.told(["join", "manager", "nowhere", "nine", "new"], ["manager", "nowhere"], pages.unopened("nowhere"))
     cases.case("the-last-is-not-there-and-the-first-is-damaged")
-    cases.told(["join", "cut", "seven", "nowhere", "new"], ["cut", "seven", "nowhere"], pages.fault("file: nowhere"))
+    cases.told(["join", "cut", "seven", "nowhere", "new"], ["cut", "seven", "nowhere"], pages.unopened("nowhere"))
     for number, name in enumerate(NAMES):
         cases.case(f"the-new-one-is-{name}")
         cases.told(["join", *NAMES, name], NAMES[: number + 1], pages.fault(f"output: same as {name}"))
     cases.case("the-new-one-is-the-second-and-the-first-is-damaged")
     cases.told(["join", "cut", "seven", "seven"], ["cut", "seven"], pages.fault("output: same as seven"))
-    for kind, status, line in (("shut", 2, "file: barred"), ("full", 3, "memory")):
+    for kind, status, line in (("shut", 2, "file: barred: permission denied"), ("full", 3, "memory")):
         cases.case(f"a-piece-that-is-{kind}")
         cases.lines.append(f"{kind} barred")
         cases.told(["join", "manager", "barred", "nine", "new"], ["manager", "barred"], Outcome(status, b"", f"{line}\n".encode()))
@@ -307,8 +307,8 @@ def try_files(trials, examples):
     good, certificate, _ = examples
     other = trials.file(piece(2))
     for name in ["none.dsrc", "", "x" * 300]:
-        trials.expect(["join", other, name, "never"], pages.fault(f"file: {name}"))
-    trials.expect(["join", other, "examples", "never"], pages.fault("recording: read in examples"))
+        trials.expect(["join", other, name, "never"], pages.unopened(name))
+    trials.expect(["join", other, "examples", "never"], pages.unopened("examples", "is a directory"))
     trials.expect(["join", other, certificate, "never"], pages.fault(f"recording: magic at 0 in {certificate}"))
     trials.expect(["join", WORKED_SCRIPT, other, "never"], pages.fault(f"recording: magic at 0 in {WORKED_SCRIPT}"))
     for name in ["examples", "none/there.dsrc", "", "/dev/full"]:

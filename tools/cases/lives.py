@@ -72,8 +72,8 @@ def try_faults(trials):
         name = f"refused.live.{number}.dsrc"
         accepted = torn(fault, name) if is_right is is_begun else pages.fault(fault)
         after(trials, ["live", trials.file(text), name], (accepted,), name, is_right)
-    trials.expect(["live", "none", "new"], pages.fault("file: none"))
-    trials.expect(["live", "examples", "new"], pages.fault("script: read"))
+    trials.expect(["live", "none", "new"], pages.unopened("none"))
+    trials.expect(["live", "examples", "new"], pages.unopened("examples", "is a directory"))
 
 
 def is_begun(left):

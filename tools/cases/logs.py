@@ -70,8 +70,8 @@ def try_words(trials):
 
 def try_files(trials):
     for name in ["none.dsrc", "", "-", "x" * 300]:
-        trials.expect(["log", name], pages.fault(f"file: {name}"))
-    trials.expect(["log", "examples"], pages.fault("recording: read"))
+        trials.expect(["log", name], pages.unopened(name))
+    trials.expect(["log", "examples"], pages.unopened("examples", "is a directory"))
     for size in range(len(FORMATS_RECORDING) + 1):
         try_log(trials, trials.file(FORMATS_RECORDING[:size]))
     for behind in [">/dev/full", ">&-"]:

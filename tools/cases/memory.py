@@ -15,7 +15,7 @@ LATER = 1 << 40  # later than the last allocation of any run
 
 
 # Commands that make a file; `live` makes none where one stands.
-MAKING = (["world"], ["live"], ["audit"], ["convert"], ["mend"], ["join"])
+MAKING = (["world"], ["live"], ["audit"], ["convert"], ["mend"], ["join"], ["chart"])
 
 
 def refusing_library(trials):

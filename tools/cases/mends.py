@@ -41,8 +41,8 @@ def try_stands(trials, text):
 def try_files(trials, examples):
     good, certificate, _ = examples
     for name in ["none.dsrc", "", "x" * 300]:
-        trials.expect(["mend", name, "never"], pages.fault(f"file: {name}"))
-    trials.expect(["mend", "examples", "never"], pages.fault("recording: read"))
+        trials.expect(["mend", name, "never"], pages.unopened(name))
+    trials.expect(["mend", "examples", "never"], pages.unopened("examples", "is a directory"))
     trials.expect(["mend", certificate, "never"], pages.fault("recording: magic at 0"))
     trials.expect(["mend", WORKED_SCRIPT, "never"], pages.fault("recording: magic at 0"))
     for name in ["examples", "none/there.dsrc", "", "/dev/full"]:

@@ -92,9 +92,9 @@ def try_words(trials):
 
 def try_files(trials):
     for name in ["none.dsrc", "", "-", "x" * 300]:
-        trials.expect(["review", name], pages.fault(f"file: {name}"))
-        trials.expect(["review", name, "fate=lost", *JSON], pages.fault(f"file: {name}"))
-    trials.expect(["review", "examples"], pages.fault("recording: read"))
+        trials.expect(["review", name], pages.unopened(name))
+        trials.expect(["review", name, "fate=lost", *JSON], pages.unopened(name))
+    trials.expect(["review", "examples"], pages.unopened("examples", "is a directory"))
     for size in range(len(FORMATS_RECORDING) + 1):
         try_review(trials, trials.file(FORMATS_RECORDING[:size]))
     for behind in [">/dev/full", ">&-"]:

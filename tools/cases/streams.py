@@ -7,27 +7,24 @@ from cases.examples import README_ANSWER, README_DATAGRAM, TEXTS_REPORT, TOP, WO
 from cases.lives import torn
 from cases.trials import UNWRITTEN, Case, Some, Verdict, told
 from pages import Outcome
+from pages.drawings import answer_to_chart
 
 
 def try_opening(trials, examples):
     good, certificate, _ = examples
     bad, bad_steps = trials.file(b"DSRC0003"), trials.file(b"DSCT0002")
-    missing, also, folder = "none.dsrc", "none at all é.dsct", "examples"
-    for name in [missing, also, "", "-", "x" * 300, "a/" * 3000, f"{good}/under"]:
-        trials.expect(["show", name], pages.fault(f"file: {name}"))
-        trials.expect(["check", name, certificate], pages.fault(f"file: {name}"))
-        trials.expect(["check", good, name], pages.fault(f"file: {name}"))
-        trials.expect(["check", bad, name], pages.fault(f"file: {name}"))
-        trials.expect(["check", folder, name], pages.fault(f"file: {name}"))
-    trials.expect(["check", missing, also], pages.fault(f"file: {missing}"))
-    trials.expect(["check", also, missing], pages.fault(f"file: {also}"))
-    trials.expect(["check", missing, bad_steps], pages.fault(f"file: {missing}"))
-    trials.expect(["show", folder], pages.fault("recording: read"))
-    trials.expect(["check", folder, certificate], pages.fault("recording: read"))
-    trials.expect(["check", folder, bad_steps], pages.fault("recording: read"))
-    trials.expect(["check", folder, folder], pages.fault("recording: read"))
-    trials.expect(["check", good, folder], pages.fault("certificate: read"))
-    trials.expect(["check", bad, folder], pages.fault("recording: magic at 0"))
+    missing, also, folder, under = "none.dsrc", "none at all é.dsct", "examples", f"{good}/under"
+    for name in [missing, also, "", "-", "x" * 300, "a/" * 3000, under, folder]:
+        reason = {under: "cannot be opened", folder: "is a directory"}.get(name)
+        told = pages.unopened(name, reason)
+        trials.expect(["show", name], told)
+        trials.expect(["check", name, certificate], told)
+        trials.expect(["check", good, name], told)
+        trials.expect(["check", bad, name], told)
+        trials.expect(["check", name, missing], told)
+    trials.expect(["check", missing, also], pages.unopened(missing))
+    trials.expect(["check", also, missing], pages.unopened(also))
+    trials.expect(["check", missing, bad_steps], pages.unopened(missing))
     trials.expect(["check", bad, bad_steps], pages.fault("recording: magic at 0"))
     trials.expect(["check", good, good], pages.fault("certificate: magic at 0"))
     trials.expect(["check", certificate, good], pages.fault("recording: magic at 0"))
@@ -41,9 +38,10 @@ def try_unreadable(trials, examples):
         return
     closed = trials.file((trials.folder / good).read_bytes())
     os.chmod(trials.folder / closed, 0)
-    trials.expect(["show", closed], pages.fault(f"file: {closed}"))
-    trials.expect(["check", closed, certificate], pages.fault(f"file: {closed}"))
-    trials.expect(["check", good, closed], pages.fault(f"file: {closed}"))
+    told = pages.unopened(closed, "permission denied")
+    trials.expect(["show", closed], told)
+    trials.expect(["check", closed, certificate], told)
+    trials.expect(["check", good, closed], told)
 
 
 def answers(trials, examples):
@@ -54,6 +52,7 @@ def answers(trials, examples):
     in_json = pages.answer_to_review(text, ["fate=done"], pages.json_of)
     # What one call makes no other call makes: it would find it locked.
     new = f"{trials.file(b'')}.new"
+    drawn = answer_to_chart(text, steps)[0]
     return [
         (["pdu", README_DATAGRAM], b"", Outcome(0, README_ANSWER, b"")),
         (["pdu", "0701"], b"", Outcome(1, b"refused 1 truncated\n", b"")),
@@ -69,6 +68,8 @@ def answers(trials, examples):
         (["why", wrong], b"", pages.answer_to_why(wrong_text)),
         (["why", good, certificate], b"", pages.answer_to_why_not(text, steps)),
         (["why", wrong, certificate, "--json"], b"", pages.answer_to_why_not(wrong_text, steps, pages.log_json)),
+        (["chart", good, certificate, f"{new}.chart"], b"", drawn),
+        (["chart", wrong, certificate, f"{new}.uncharted"], b"", answer_to_chart(wrong_text, steps)[0]),
         (["world", WORKED_SCRIPT, f"{new}.world"], b"", Outcome(0, WORKED_LINE, b"")),
         (["live", WORKED_SCRIPT, f"{new}.live"], b"", Outcome(0, b"live records=13\n", b"")),
         (["convert", good, f"{new}.convert"], b"", Outcome(0, b"converted records=9\n", b"")),
@@ -84,14 +85,14 @@ def faults(examples):
         (["pdu", "zz"], b"", pages.fault("hex: not byte pairs")),
         (["pdus"], b"0", pages.fault("hex: not byte pairs at line 1")),
         ([], b"0", pages.fault("script: bad-line at line 1")),
-        (["show", "none"], b"", pages.fault("file: none")),
+        (["show", "none"], b"", pages.unopened("none")),
         (["show", certificate], b"", pages.fault("recording: magic at 0")),
-        (["check", good, "none"], b"", pages.fault("file: none")),
+        (["check", good, "none"], b"", pages.unopened("none")),
         (["check", good, good], b"", pages.fault("certificate: magic at 0")),
-        (["review", "none"], b"", pages.fault("file: none")),
+        (["review", "none"], b"", pages.unopened("none")),
         (["review", certificate, "fate=lost"], b"", pages.fault("recording: magic at 0")),
         (["review", good, "fate=lots"], b"", pages.fault("filter: fate=lots")),
-        (["why", "none"], b"", pages.fault("file: none")),
+        (["why", "none"], b"", pages.unopened("none")),
         (["why", certificate, certificate], b"", pages.fault("recording: magic at 0")),
         (["why", good, good, "--json"], b"", pages.fault("certificate: magic at 0")),
         (["world", good, "none"], b"", pages.fault("script: bad-line at line 1")),

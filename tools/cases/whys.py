@@ -228,12 +228,12 @@ def try_words(trials):
 
 def try_files(trials, seen):
     for name in ["none.dsrc", "", "-", "x" * 300]:
-        told = pages.fault(f"file: {name}")
+        told = pages.unopened(name)
         for words in ([name], [name, *JSON], [name, CERTIFICATE], [LOSSES, name], [LOSSES, name, *JSON], [name, "none"]):
             trials.expect(["why", *words], told)
-    trials.expect(["why", "examples"], pages.fault("recording: read"))
-    trials.expect(["why", "examples", "examples"], pages.fault("recording: read"))
-    trials.expect(["why", LOSSES, "examples"], pages.fault("certificate: read"))
+    trials.expect(["why", "examples"], pages.unopened("examples", "is a directory"))
+    trials.expect(["why", "examples", "examples"], pages.unopened("examples", "is a directory"))
+    trials.expect(["why", LOSSES, "examples"], pages.unopened("examples", "is a directory"))
     for size in range(len(FORMATS_RECORDING) + 1):
         try_why(trials, FORMATS_RECORDING[:size], seen)
         try_why_not(trials, FORMATS_RECORDING[:size], EMPTY_CERTIFICATE[:-1], seen)

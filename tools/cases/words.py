@@ -25,6 +25,8 @@ def try_words(trials):
         ["review"], ["review", "-a"], ["review", "--json"], ["review", recording, "-a"], ["review", recording, "--json", "a"],
         ["why"], ["why", "-a"], ["why", "--json"], ["why", recording, "-a"], ["why", recording, "--json", certificate],
         ["why", recording, certificate, certificate],
+        ["chart"], ["chart", recording], ["chart", recording, certificate], ["chart", recording, certificate, "-a"],
+        ["chart", recording, certificate, "a", "--json"], ["chart", recording, certificate, "a", "from=0", "-x"],
         ["pdus", "07"], ["pdus", ""], ["pdus", "-x"], ["trial"], ["audit"], ["audit", recording], ["audit", recording, "a", "b"], ["audit", recording, "-a"],
     ]:  # fmt: skip
         trials.expect(words, usage)

@@ -67,8 +67,8 @@ def try_faults(trials):
         (HEAD + b"".join(b"opening 1:1 %d running\n" % number for number in range(1, 4098)), "world: stations"),
     ]:  # fmt: skip
         try_refused(trials, text, fault)
-    try_refused(trials, None, "file: none", "none")
-    try_refused(trials, None, "script: read", "examples")
+    try_refused(trials, None, "file: none: no such file", "none")
+    try_refused(trials, None, "file: examples: is a directory", "examples")
     for name in ["examples", "none/there.dsrc", "", "x" * 300]:
         trials.expect(["world", WORKED_SCRIPT, name], UNWRITTEN)
     trials.expect(["world", WORKED_SCRIPT, "/dev/full"], UNWRITTEN)

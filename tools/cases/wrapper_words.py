@@ -64,6 +64,8 @@ WORDS = (
     (["why", "REC", "CERT", "REC"], b"", False),
     (["why", "--json"], b"", False),
     (["why"], b"", False),
+    (["chart", "REC", "CERT"], b"", False),
+    (["chart", "REC", "CERT", "made", "-x"], b"", False),
     (["audit", "REC"], b"", False),
     (["audit", "--help"], b"", False),
     (["world", "REC", "-x"], b"", False),

@@ -168,3 +168,8 @@ def answer_to_lines(text):
 
 def fault(line):
     return Outcome(2, b"", line.encode() + b"\n")
+
+
+def unopened(name, reason=None):
+    """How it is told that a file was not opened; of one that is not there, or whose name is too long, with no reason."""
+    return fault(f"file: {name}: {reason or ('no such file' if len(name) < 256 else 'cannot be opened')}")

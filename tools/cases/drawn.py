@@ -1,0 +1,259 @@
+"""Writes the cases of `chart`: what must be drawn follows from the pages alone (tools/pages/drawings.py).
+
+    cd tools && python3 -m cases.drawn > ../crates/siman_cases/data/chart.cases
+"""
+import random
+
+import pages
+from cases import texts
+from cases.examples import TOP
+from pages import NO_LINK, OPEN, Recording, Station
+from pages.drawings import answer_to_chart
+from pictures import made_exercise, steps_of
+
+# The order of the worked exercise in which its entries happened.
+COURSE = [0, 1, 2, 3, 4, 5, 6, 7, 8, 9, 11, 13, 15, 10, 12, 14, 16, 17, 18, 22, 19, 20, 23, 24, 25, 26, 28, 27, 29, 21]
+LINES = (TOP / "examples/losses.dsrc.hex").read_text(encoding="ascii").splitlines()
+LOSSES = bytes.fromhex(" ".join(line.partition("#")[0] for line in LINES))
+ROWS = 2001
+BYTES = 50
+
+
+def hexes(text):
+    return [f"hex {text[at : at + BYTES].hex().upper()}" for at in range(0, len(text), BYTES)]
+
+
+def pieces(text):
+    """Lines of a case that stand for a text."""
+    *lines, last = text.split("\n")
+    return [f"text {line}" if line else "text" for line in lines] + ([f"piece {last}"] if last else [])
+
+
+def file(name, text, calls=None):
+    return [f"file {name}", *hexes(text), *([f"calls {calls}"] if calls else [])]
+
+
+class Files:
+    """The files that stand for the cases behind them."""
+
+    def __init__(self):
+        self.texts = {}
+
+    def case(self, name, words, before=(), asked=None, answer=None):
+        """A case whose words may name a recording, a certificate, the picture, and steps."""
+        recording, certificate, picture, *steps = words
+        told, drawn = answer or answer_to_chart(self.texts.get(recording, b""), self.texts.get(certificate, b""), steps)
+        yield from ["", f"case {name}", *before, f"words chart {' '.join(words)}"]
+        asked = [recording, certificate] if asked is None else asked
+        asked = asked + ([f"make {picture}"] if drawn is not None else [])
+        yield from [f"asked {name}" for name in asked] or ["asked-nothing"]
+        yield from [f"status {told.status}"] if told.status else []
+        if told.out:
+            yield from ["out", *pieces(told.out.decode())]
+        if drawn is not None:
+            yield from ["left", *pieces(drawn)]
+        if told.errors:
+            yield from ["errors", *pieces(told.errors.decode())]
+
+    def kept(self, name, text, calls=None):
+        self.texts[name] = text
+        return file(name, text, calls)
+
+
+def worked(files):
+    recording = pages.read_recording(LOSSES)
+    steps = steps_of(recording, COURSE)
+    yield from files.case(
+        "the-worked-exercise", ["losses", "order", "new"],
+        [*files.kept("losses", LOSSES), *files.kept("order", texts.certificate_text(steps))],
+    )  # fmt: skip
+    yield from files.case("some-steps-of-it", ["losses", "order", "new", "from=4", "to=11"])
+    swapped = [*steps[:2], steps[3], steps[2], *steps[4:]]
+    linked = [*steps[:5], (steps[5][0], 3), *steps[6:]]
+    for name, bad in [("swapped", swapped), ("linked", linked), ("short", steps[:-1]), ("none", [])]:
+        kept = files.kept(name, texts.certificate_text(bad))
+        yield from files.case(f"a-certificate-that-is-{name}", ["losses", name, "new"], kept)
+    yield from files.case("a-no-before-a-step-past-the-last", ["losses", "swapped", "new", "from=99"])
+
+
+def windows(files):
+    words = ["losses", "order", "new"]
+    yield from files.case("from-a-step", [*words, "from=27"])
+    yield from files.case("to-a-step", [*words, "to=1"])
+    yield from files.case("one-step", [*words, "to=13", "from=13"])
+    yield from files.case("the-last-step", [*words, "from=29", "to=29"])
+    yield from files.case("zeros-before-a-number", [*words, "from=0028"])
+    for past in (["from=30"], ["to=30"], ["to=31", "from=30"], ["from=0", "to=30"], ["from=4294967295"]):
+        yield from files.case(f"past-the-last-by-{'-'.join(past)}", [*words, *past])
+    bad = [
+        ["from"], ["from="], ["from=x"], ["from=1x"], ["from=-1"], ["from=+1"], ["from=4294967296"], ["From=1"],
+        ["step=1"], ["=1"], ["station=1:1"], ["from=1", "from=2"], ["to=2", "to=2"], ["from=5", "to=4"],
+        ["to=4", "from=5"], ["from=1", "to=2", "to=3"], ["x", "from=1"], ["from=9", "to=8", "x"], ["from=1=2"],
+    ]  # fmt: skip
+    for said in bad:
+        yield from files.case(f"no-step-by-{'-'.join(said)}", [*words, *said], asked=[])
+    yield from files.case("no-step-before-any-file", ["nowhere", "nothing", "nowhere", "x"], asked=[])
+
+
+def empty_word(files):
+    """An empty word is no word of a line of words."""
+    yield from ["", "case no-step-by-an-empty-word", "words chart losses order new", "word", "asked-nothing", "status 2"]
+    yield from ["errors", "text filter: "]
+
+
+def openings(files):
+    missing, memory = pages.unopened("nowhere"), pages.Outcome(3, b"", b"memory\n")
+    yield from files.case("a-recording-that-is-not-there", ["nowhere", "order", "new"], asked=["nowhere"], answer=(missing, None))
+    yield from files.case("a-certificate-that-is-not-there", ["losses", "nowhere", "new"], answer=(missing, None))
+    yield from files.case("the-first-of-two-that-are-not-there", ["nowhere", "nothing", "new"], asked=["nowhere"], answer=(missing, None))
+    barred = pages.unopened("barred", "permission denied")
+    yield from files.case("a-recording-that-cannot-be-opened", ["barred", "order", "new"], ["shut barred"], ["barred"], (barred, None))
+    yield from files.case("a-certificate-that-cannot-be-opened", ["losses", "barred", "new"], answer=(barred, None))
+    yield from files.case("a-recording-that-memory-is-short-for", ["hidden", "order", "new"], ["full hidden"], ["hidden"], (memory, None))
+    yield from files.case("a-certificate-that-memory-is-short-for", ["losses", "hidden", "new"], answer=(memory, None))
+    for name in ("losses", "order"):
+        same = pages.fault(f"output: same as {name}")
+        yield from files.case(f"the-picture-is-{name}", ["losses", "order", name], asked=["losses", "order"][: 1 + (name == "order")], answer=(same, None))
+    both = pages.fault("output: same as losses")
+    yield from files.case("all-three-are-one", ["losses", "losses", "losses"], asked=["losses"], answer=(both, None))
+    write = pages.fault("output: write")
+    for name, told in (("barred", write), ("hidden", memory)):
+        yield from files.case(f"a-picture-that-is-{name}", ["losses", "order", name], asked=["losses", "order", f"make {name}"], answer=(told, None))
+
+
+def readings(files):
+    yield from files.case("an-empty-recording", ["empty", "order", "new"], files.kept("empty", b""))
+    yield from files.case("an-empty-certificate", ["losses", "empty", "new"])
+    yield from files.case("a-bad-recording-before-a-bad-certificate", ["empty", "losses", "new"])
+    yield from files.case("a-certificate-for-a-recording", ["order", "order", "new"])
+    yield from files.case("a-recording-for-a-certificate", ["losses", "losses", "new"])
+    yield from files.case("a-recording-cut-short", ["cut", "order", "new"], files.kept("cut", LOSSES[:-1]))
+    for name, calls in (("once", "100000 1 other"), ("later", "40 3 other")):
+        failing = file("failing", LOSSES, calls)
+        told = pages.fault("recording: read"), None
+        yield from files.case(f"a-recording-whose-read-fails-{name}", ["failing", "order", "new"], failing, answer=told)
+    order = files.texts["order"]
+    for name, calls in (("once", "100000 1 other"), ("later", "40 3 other")):
+        failing = file("failing", order, calls)
+        told = pages.fault("certificate: read"), None
+        yield from files.case(f"a-certificate-whose-read-fails-{name}", ["losses", "failing", "new"], failing, answer=told)
+    told = pages.fault("recording: truncated at 0"), None
+    yield from files.case("a-bad-recording-before-a-failing-certificate", ["empty", "failing", "new"], answer=told)
+    files.texts["slow"] = order
+    yield from files.case("a-read-that-is-interrupted", ["losses", "slow", "new", "to=0"], file("slow", order, "40 2 interrupted"))
+
+
+def write_fails(name, words, left, calls):
+    yield from ["", f"case {name}", f"words {words}", "discarded", *pieces(left), f"calls {calls}"]
+    yield from ["status 2", "errors", "text output: write"]
+
+
+def writings(files):
+    """Each write of a small picture, failed in turn, and the writes of its line: no half file stands."""
+    words = ["losses", "order", "new", "to=0"]
+    told, drawn = answer_to_chart(LOSSES, files.texts["order"], ["to=0"])
+    said, most = f"chart {' '.join(words)}", 1000
+    for at in range(-(-len(drawn) // most)):
+        for kind in ("other", "nothing"):
+            left = drawn[: at * most]
+            yield from write_fails(f"a-picture-whose-write-fails-at-call-{at + 1}-by-{kind}", said, left, f"{most} {at + 1} {kind}")
+    yield from ["", "case a-picture-whose-write-is-interrupted", f"words {said}", "out", *pieces(told.out.decode())]
+    yield from ["left", *pieces(drawn), f"calls {most} 2 interrupted"]
+    for at in (1, 2):
+        out = told.out.decode()[: 10 * (at - 1)]
+        yield from ["", f"case a-line-whose-write-fails-at-call-{at}", f"words {said}", "out", *pieces(out), f"calls 10 {at} other"]
+        yield from ["status 2", "errors", "text output: write", "discarded", *pieces(drawn)]
+    no = answer_to_chart(LOSSES, files.texts["swapped"])[0].out.decode()
+    for at in (1, 2):
+        yield from ["", f"case a-no-whose-write-fails-at-call-{at}", "words chart losses swapped new", "asked losses", "asked swapped"]
+        yield from ["status 2", "out", *pieces(no[: 10 * (at - 1)]), f"calls 10 {at} other", "errors", "text output: write"]
+
+
+def limits(files):
+    """As many rows as a picture may have, and one more."""
+    recording = Recording(1, [Station(1, 1, [])], [texts.told(0, 7, pages.ABSENT)] * ROWS)
+    many = files.kept("many", texts.recording_text(recording))
+    steps = files.kept("steps", texts.certificate_text([(at, NO_LINK) for at in range(ROWS)]))
+    words = ["many", "steps", "new"]
+    yield from files.case("one-row-too-many", words, [*many, *steps])
+    yield from files.case("one-row-too-many-from-the-first-to-the-last", [*words, "from=0", f"to={ROWS - 1}"])
+    for said in ([f"to={ROWS - 2}"], ["from=1"]):
+        yield from ["", f"case as-many-rows-as-may-be-{said[0]}", f"words chart {' '.join([*words, *said])}"]
+        yield from ["out", f"text chart steps={ROWS - 1} stations=1", "keep drawn"]
+    yield from files.case("some-rows-of-many", [*words, "from=1000", "to=1002"])
+    yield from files.case("past-the-last-of-too-many", [*words, f"to={ROWS}"])
+
+
+def others(files):
+    """No entries, and exercises that are made up: of two stations, and of six in an open recording."""
+    none = files.kept("bare", texts.recording_text(Recording(7, [Station(2, 3, [])], [])))
+    nothing = files.kept("nothing", texts.certificate_text([]))
+    yield from files.case("no-entries", ["bare", "nothing", "new"], [*none, *nothing])
+    yield from files.case("a-step-of-no-entries", ["bare", "nothing", "new", "from=0"])
+    for name, seed, stations, moves, form in (("two", 4, 2, 24, None), ("six", 0, 6, 120, OPEN)):
+        recording, places = exercise(seed, stations, moves, form)
+        kept = files.kept(name, texts.recording_text(recording))
+        steps = files.kept(f"{name}-order", texts.certificate_text(steps_of(recording, places)))
+        words = [name, f"{name}-order", "new"]
+        yield from files.case(f"an-exercise-of-{name}-stations", words, [*kept, *steps])
+        yield from files.case(f"some-steps-of-{name}-stations", [*words, "from=7", "to=15"])
+
+
+def exercise(seed, stations, moves, form):
+    """The first made-up exercise from a seed on, which is of this form, if one is asked for."""
+    while True:
+        made = made_exercise(random.Random(seed), stations, moves)
+        if form in (None, made[0].form):
+            return made
+        seed += 1
+
+
+def usage_fault(told):
+    usage = ["text", "text Usage: siman chart <REC> <CERT> <SVG> [from=STEP] [to=STEP]", "text", "text For more information, try '--help'."]
+    return ["status 2", "errors", *told, *usage]
+
+
+HELP = """\
+Draws an exercise in the order of its certificate, and writes the picture
+
+Usage: siman chart <REC> <CERT> <SVG> [from=STEP] [to=STEP]
+
+Arguments:
+  <REC>      The file of the recording
+  <CERT>     The file of the certificate
+  <SVG>      The file of the picture, in SVG, which is made anew
+  [STEP]...  Which steps of the certificate are shown, counted from 0: from=STEP says the first, to=STEP the last; each may stand once
+
+Options:
+  -h, --help  Print help
+
+Example:
+  siman chart exercise.dsrc exercise.dsct exercise.svg
+"""
+
+
+def usages():
+    required = "error: the following required arguments were not provided:"
+    for name, words, lacks in (
+        ("no-file", "chart", ["<REC>", "<CERT>", "<SVG>"]), ("one-file", "chart losses", ["<CERT>", "<SVG>"]),
+        ("two-files", "chart losses order", ["<SVG>"]),
+    ):  # fmt: skip
+        told = [f"text {required}", *(f"text   {word}" for word in lacks)]
+        yield from ["", f"case {name}", f"words {words}", "asked-nothing", *usage_fault(told)]
+    for name, words, word in (("an-option", "chart losses order new --json", "--json"), ("an-option-among-steps", "chart losses order new from=1 --wide", "--wide")):
+        told = [f"text error: unexpected argument '{word}' found", "text", f"text   tip: to pass '{word}' as a value, use '-- {word}'"]
+        yield from ["", f"case {name}", f"words {words}", "asked-nothing", *usage_fault(told)]
+    for name, words in (("help-by-chart-help", "chart --help"), ("help-by-help-chart", "help chart"), ("help-behind-steps", "chart losses order new from=1 -h")):
+        yield from ["", f"case {name}", f"words {words}", "asked-nothing", "out", *pieces(HELP)]
+
+
+def cases():
+    files = Files()
+    yield "# Pictures of exercises: each is drawn to the byte. The lines were made by tools/cases/drawn.py."
+    for part in (worked, windows, empty_word, openings, readings, writings, limits, others):
+        yield from part(files)
+    yield from usages()
+
+
+if __name__ == "__main__":
+    print("\n".join(cases()))

@@ -17,8 +17,11 @@ mod counts;
 mod entry_lines;
 mod head;
 mod keys;
+mod numbers;
+mod plain;
 mod records;
 mod report;
+mod review_fields;
 mod review_laws;
 mod review_lines;
 
@@ -27,6 +30,8 @@ pub use counts::counts_line;
 pub use entry_lines::{put_entry, put_station};
 pub use head::{kind_of, put_head};
 pub use keys::keys_come_once;
+pub use numbers::{put_keyed, put_keyed_entry, put_keyed_option};
+pub use plain::{put_address_behind, put_entity_behind, put_number_after, put_number_behind};
 pub use records::pdu_lines;
 pub use report::{no_line, report_text};
 pub use review_laws::{

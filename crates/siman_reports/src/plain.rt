@@ -1,13 +1,22 @@
 //! Pieces of a line of text, each behind what stands before it.
 
-ghost use Rattle.std.specs.Prelude.{◌≡◌, ◌++◌, OnOk, codes, decimal, encode_utf8, string_bytes};
+ghost use Rattle.std.specs.Prelude.{◌≡◌, ◌<◌, ◌++◌, OnOk, codes, decimal, encode_utf8, string_bytes};
 ghost use Rattle.dis_records.specs.Texts.{entity_text};
 ghost use Rattle.siman_texts.specs.Spelled.{address_text};
 
-use crate::time::put_digit;
 use dis_records::{Address, EntityId};
 use itoa::Buffer;
 use std::alloc::AllocError;
+
+/// A digit.
+#[inline(always)]
+#[tactic(auto, using(std::proofs::lemmas::Fmt::decimal_digit))]
+fn put_digit(text: &mut String, digit: u64) -> Result<(), AllocError>
+    requires { digit < 10 }
+    ensures { OnOk result (string_bytes text.new ≡ string_bytes text.old ++ decimal digit) }
+{
+    text.push((b'0' + digit as u8) as char)
+}
 
 /// A number of any length.
 fn put_digits(text: &mut String, number: u64) -> Result<(), AllocError>
@@ -19,7 +28,7 @@ fn put_digits(text: &mut String, number: u64) -> Result<(), AllocError>
 
 /// A number, which mostly has one digit.
 #[inline(always)]
-pub(crate) fn put_number(text: &mut String, number: u64) -> Result<(), AllocError>
+pub fn put_number(text: &mut String, number: u64) -> Result<(), AllocError>
     ensures { OnOk result (string_bytes text.new ≡ string_bytes text.old ++ decimal number) }
 {
     if number < 10 {
@@ -31,11 +40,7 @@ pub(crate) fn put_number(text: &mut String, number: u64) -> Result<(), AllocErro
 
 /// A number behind some text.
 #[inline(always)]
-pub(crate) fn put_number_behind(
-    text: &mut String,
-    before: &str,
-    number: u64,
-) -> Result<(), AllocError>
+pub fn put_number_behind(text: &mut String, before: &str, number: u64) -> Result<(), AllocError>
     ensures { OnOk result (string_bytes text.new ≡ string_bytes text.old ++ (before.now ++ decimal number)) }
 {
     text.push_str(before)?;
@@ -44,11 +49,7 @@ pub(crate) fn put_number_behind(
 
 /// A number behind a character.
 #[inline(always)]
-pub(crate) fn put_number_after(
-    text: &mut String,
-    before: char,
-    number: u64,
-) -> Result<(), AllocError>
+pub fn put_number_after(text: &mut String, before: char, number: u64) -> Result<(), AllocError>
     ensures { OnOk result (string_bytes text.new ≡ string_bytes text.old ++ (encode_utf8 before ++ decimal number)) }
 {
     text.push(before)?;
@@ -56,7 +57,7 @@ pub(crate) fn put_number_after(
 }
 
 /// `SITE:APPLICATION` behind a blank.
-pub(crate) fn put_address_behind(text: &mut String, address: Address) -> Result<(), AllocError>
+pub fn put_address_behind(text: &mut String, address: Address) -> Result<(), AllocError>
     ensures { OnOk result (string_bytes text.new ≡ string_bytes text.old ++ (codes " " ++ address_text address)) }
 {
     put_number_after(text, ' ', u64::from(address.site()))?;
@@ -64,11 +65,7 @@ pub(crate) fn put_address_behind(text: &mut String, address: Address) -> Result<
 }
 
 /// `SITE:APPLICATION:ENTITY` behind some text.
-pub(crate) fn put_entity_behind(
-    text: &mut String,
-    before: &str,
-    id: &EntityId,
-) -> Result<(), AllocError>
+pub fn put_entity_behind(text: &mut String, before: &str, id: &EntityId) -> Result<(), AllocError>
     ensures { OnOk result (string_bytes text.new ≡ string_bytes text.old ++ (before.now ++ entity_text id.now)) }
 {
     put_number_behind(text, before, u64::from(id.site))?;

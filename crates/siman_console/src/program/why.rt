@@ -21,7 +21,9 @@ use crate::program::show::LARGEST_RECORDING;
 use crate::saying::{OfFile, OfFiles, say_of_file, say_of_files};
 use byte_files::put;
 use exercise_check::{Certificate, fetch_certificate};
-use exercise_conflict::{Conflict, Explanation, Refusal, Verdict, conflict_of, verdict_of};
+use exercise_conflict::{
+    Conflict, Explaining, Explanation, Judged, Refusal, conflict_found, refusal_found,
+};
 use exercise_findings::{Account, Findings};
 use exercise_model::ExerciseLog;
 use exercise_recording::{RecordingView, fetch_recording};
@@ -224,8 +226,12 @@ fn why_log<L: ExerciseLog>(
 ) -> Result<WhyText, AllocError>
     ensures { IfOk result (λ told. SaysWhy spelling (Ok (L.recording log.now)) (string_bytes told.text) told.status) }
 {
-    let findings = Findings::of(alloc, log)?;
-    match conflict_of(alloc, &findings)? {
+    let found = Findings::of(alloc, log)?;
+    let Explaining {
+        explanation,
+        findings,
+    } = conflict_found(alloc, found)?;
+    match explanation {
         Explanation::Explained(certificate) => explained(alloc, log, spelling, &certificate),
         Explanation::Contradicted(conflict) => contradicted(alloc, findings, spelling, &conflict),
     }
@@ -304,9 +310,14 @@ fn why_not_log<L: ExerciseLog>(
 ) -> Result<WhyText, AllocError>
     ensures { IfOk result (λ told. SaysWhyNot spelling (Ok (L.recording log.now)) (Ok certificate.now.steps.items) (string_bytes told.text) told.status) }
 {
-    match verdict_of(alloc, log, certificate)? {
-        Verdict::Good(account) => good(alloc, log, certificate, spelling, &account),
-        Verdict::Bad(refusal) => refused(alloc, log, certificate, spelling, refusal),
+    let found = Findings::of(alloc, log)?;
+    let Judged { refusal, findings } = refusal_found(alloc, found, certificate)?;
+    match refusal {
+        Some(refusal) => refused(alloc, findings, certificate, spelling, refusal),
+        None => {
+            let account = findings.into_account(alloc)?;
+            good(alloc, log, certificate, spelling, &account)
+        }
     }
 }
 
@@ -331,18 +342,19 @@ fn good<L: ExerciseLog>(
 #[tactic(auto, using(siman_conflicts::proofs::Offered::refusal_stands, crate::proofs::Said::said_behind))]
 fn refused<L: ExerciseLog>(
     alloc: Global,
-    log: &L,
+    findings: Findings<'_, L>,
     certificate: &Certificate,
     spelling: Spelling,
     refusal: Refusal,
 ) -> Result<WhyText, AllocError>
-    requires { IsRefusalOf (L.recording log.now) certificate.now.steps.items refusal }
-    ensures { IfOk result (λ told. SaysWhyNot spelling (Ok (L.recording log.now)) (Ok certificate.now.steps.items) (string_bytes told.text) told.status) }
+    requires limits { IsRecording findings }
+    requires refused { IsRefusalOf findings certificate.now.steps.items refusal }
+    ensures { IfOk result (λ told. SaysWhyNot spelling (Ok findings.entry) (Ok certificate.now.steps.items) (string_bytes told.text) told.status) }
 {
-    let entries = Entries::of(alloc, Findings::of(alloc, log)?)?;
     let named = refusal_entries(alloc, refusal)?;
     let mut text = String::new(alloc);
-    put_refusal(alloc, &mut text, spelling, log, refusal)?;
+    put_refusal(alloc, &mut text, spelling, findings.log(), refusal)?;
+    let entries = Entries::of(alloc, findings)?;
     entries.put_named(alloc, &mut text, spelling, &named)?;
     Ok(WhyText { text, status: 1 })
 }

@@ -2,4 +2,4 @@
 use Rattle.siman_console.proofs.program.why.why_log.Goals as goal
 
 pub contradicted-requires-clause-limits : goal.contradicted-requires-clause-limits
-contradicted-requires-clause-limits g c = rw c.in_ok-findings.ensures.findings c.in_ok-findings.ensures.limits
+contradicted-requires-clause-limits g c = rw (c.in_ok-explanation.ensures.findings, c.in_ok-found.ensures.findings) c.in_ok-found.ensures.limits

@@ -1,8 +1,8 @@
-//! What the operating system has: its files, and sockets of its loopback.
+//! What the operating system has: its files, and its sockets.
 
 use crate::part::{Part, begin_part};
-use crate::sockets::lines_of;
-use siman_console::Outside;
+use crate::sockets::{line_at, lines_of};
+use siman_console::{Endpoint, Outside};
 use siman_lines::UdpLine;
 use std::alloc::Global;
 use std::fs::{File, Metadata, OpenOptions};
@@ -170,5 +170,15 @@ impl Outside for Disk<'_> {
 
     fn lines(&mut self, alloc: Global, stations: usize) -> io::Result<Vec<UdpLine>> {
         lines_of(self.rt, alloc, stations)
+    }
+
+    fn line_at(
+        &mut self,
+        alloc: Global,
+        bind: Endpoint,
+        peers: &[Endpoint],
+        anyone: bool,
+    ) -> io::Result<UdpLine> {
+        line_at(self.rt, alloc, bind, peers, anyone)
     }
 }

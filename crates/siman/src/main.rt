@@ -7,9 +7,10 @@ mod part;
 mod sockets;
 
 use crate::disk::disk_of;
-use siman_console::run;
+use siman_console::{end_at_terminal, run};
 use std::alloc::Global;
 use std::fs::File;
+use std::io::IsTerminal;
 use std::process::ExitCode;
 use std::{env, io};
 
@@ -23,11 +24,23 @@ fn held(rt: &HostRuntime) -> io::Result<File> {
     File::open(rt, "/")
 }
 
+/// Whether no command is named, and a script would be read from a terminal.
+fn is_at_terminal(rt: &HostRuntime, words: &io::Result<Vec<String>>) -> bool {
+    match words {
+        Ok(words) => words.len() < 2 && rt.stdin().is_terminal(),
+        Err(_) => false,
+    }
+}
+
 fn main(rt: HostRuntime) -> ExitCode {
     let _held = (held(&rt), held(&rt), held(&rt));
     let alloc = rt.alloc();
     let words = words(&rt, alloc);
     let (mut out, mut errors) = (rt.stdout(), rt.stderr());
+    if is_at_terminal(&rt, &words) {
+        let ended = end_at_terminal(alloc, &mut out, &mut errors);
+        return ExitCode::from(ended.status);
+    }
     let ended = run(
         alloc,
         words,

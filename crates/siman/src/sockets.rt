@@ -1,10 +1,11 @@
-//! Sockets of the loopback.
+//! Sockets: of the loopback, and where words of a command line say it.
 
+use siman_console::Endpoint;
 use siman_lines::UdpLine;
 use std::alloc::Global;
 use std::io;
 use std::io::ErrorKind;
-use std::net::{Ipv4Addr, SocketAddr, UdpSocket};
+use std::net::{Ipv4Addr, SocketAddr, SocketAddrV4, UdpSocket};
 
 /// Sockets of the loopback, each at a port of its own that was free.
 fn sockets(rt: &HostRuntime, alloc: Global, count: usize) -> io::Result<Vec<UdpSocket>> {
@@ -52,4 +53,34 @@ pub(crate) fn lines_of(
         }
     }
     Ok(lines)
+}
+
+/// The address of a socket.
+fn address_of(endpoint: Endpoint) -> SocketAddr {
+    let (first, second, third, fourth) = endpoint.ip;
+    let ip = Ipv4Addr::new(first, second, third, fourth);
+    SocketAddr::V4(SocketAddrV4::new(ip, endpoint.port))
+}
+
+/// The line of a station whose socket is there, and may send to all of a network. It sends to each of
+/// these peers, and hears them alone, or anyone.
+pub(crate) fn line_at(
+    rt: &HostRuntime,
+    alloc: Global,
+    bind: Endpoint,
+    endpoints: &[Endpoint],
+    anyone: bool,
+) -> io::Result<UdpLine> {
+    let mut peers = Vec::new(alloc);
+    for endpoint in endpoints {
+        peers.push(address_of(*endpoint))?;
+    }
+    let socket = UdpSocket::bind(rt, address_of(bind))?;
+    socket.set_broadcast(true)?;
+    let line = if anyone {
+        UdpLine::hearing_anyone(socket, peers)
+    } else {
+        UdpLine::over(socket, peers)
+    };
+    line.map_err(|_| io::Error::from(ErrorKind::Other))
 }

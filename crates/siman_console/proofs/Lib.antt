@@ -8,11 +8,12 @@ pub mod Searches
 pub mod Verdicts
 pub mod Trials
 pub mod Tellings
-pub mod LineReadings
 pub mod Judged
 pub mod Lived
 pub mod Moved
 pub mod Posts
+pub mod Stood
+pub mod Placed
 mod Conversions
 mod JoinedPieces
 mod Reviewed

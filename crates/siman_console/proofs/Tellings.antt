@@ -20,10 +20,11 @@ use Rattle.siman_console.specs.declared.program.pdus.Stop.TheVariants as stops
 use Rattle.siman_console.specs.Answer.{not_byte_pairs, said_of_reading, said_of_bytes, said_of_hex, IsSaid}
 use Rattle.siman_console.specs.HexText.{bytes_of}
 use Rattle.siman_console.specs.Outside.{Has, Stream}
-use Rattle.siman_console.proofs.LineReadings.{line_cut}
+use Rattle.siman_sessions.proofs.LineReadings.{line_cut}
 use Rattle.siman_console.proofs.Readings.{told_of_line-some}
 use Rattle.siman_console.proofs.Inputs.{over}
-use Rattle.siman_console.specs.Program.Pdus.{LinesTold, untold, and_then, told_of_said, told_of_line, told_of, IsWritten, WritesTorn, StopsAfter, TellsLines, TellsBad, TellsLine, IsOneLine, ReadsLine, ReadsLines, HoldsLine}
+use Rattle.siman_console.specs.Program.Pdus.{LinesTold, untold, and_then, told_of_said, told_of_line, told_of, IsWritten, WritesTorn, StopsAfter, TellsLines, TellsBad, TellsLine}
+use Rattle.siman_sessions.specs.Reading.{IsOneLine, ReadsLine, ReadsLines, HoldsLine}
 
 -- ---- what is told
 

@@ -16,6 +16,8 @@ use Rattle.exercise_check.specs.FaultText as certificate_texts
 use Rattle.siman_manager.specs.declared.fault.OrderFault.TheVariants as orders
 use Rattle.siman_scripts.specs.declared.script_fault.ScriptFault.{ScriptFault}
 use Rattle.siman_scripts.specs.declared.script_fault.ScriptFault.TheVariants as scripts
+use Rattle.siman_sessions.specs.declared.scripted.SetUpFault.{SetUpFault}
+use Rattle.siman_sessions.specs.declared.scripted.SetUpFault.TheVariants as set_ups
 use Rattle.siman_worlds.specs.declared.world_fault.MoveFault.{MoveFault}
 use Rattle.siman_worlds.specs.declared.world_fault.MoveFault.TheVariants as moves
 use Rattle.siman_worlds.specs.declared.world_fault.WorldFault.{WorldFault}
@@ -29,7 +31,7 @@ use Rattle.siman_console.specs.declared.join_limit.JoinLimit.{JoinLimit}
 use Rattle.siman_console.specs.declared.join_limit.JoinLimit.TheVariants as limits
 use Rattle.siman_console.specs.declared.fault.Fault.{Fault}
 use Rattle.siman_console.specs.declared.fault.Ended.{Ended}
-use Rattle.siman_console.specs.declared.fault.Fault.TheVariants.{NotBytePairs, HexLine, Input, File, Words, Recording, Already, Piece, OtherExercise, StationTwice, Joined, Certificate, Script, ScriptRead, World, LineFailed, Filter, OverLimit, ChartOverLimit, Output, SameAs, Exists, Memory}
+use Rattle.siman_console.specs.declared.fault.Fault.TheVariants.{NotBytePairs, HexLine, Input, File, Words, Recording, Already, Piece, OtherExercise, StationTwice, Joined, Certificate, Script, ScriptRead, World, LineFailed, StationWord, NotInSetup, Filter, OverLimit, ChartOverLimit, Output, SameAs, Exists, Memory}
 use Rattle.siman_console.specs.declared.files_fault.FilesFault.{FilesFault}
 use Rattle.siman_console.specs.declared.files_fault.FilesFault.TheVariants as files
 use Rattle.siman_console.specs.declared.input.InputFault.{InputFault}
@@ -96,6 +98,8 @@ told_as (World worlds.Stations) = (codes "world: ", codes "stations", None)
 told_as (World (worlds.Move number fault)) = (codes "world: ", move_fault_name fault, Some (Move number))
 told_as (World worlds.Memory) = (codes "world: ", codes "memory", None)
 told_as LineFailed = (codes "live: ", codes "line", None)
+told_as (StationWord word) = (codes "station: address ", word.now, None)
+told_as NotInSetup = (codes "station: ", codes "not-in-setup", None)
 told_as (Filter word) = (codes "filter: ", word.now, None)
 told_as OverLimit = (codes "view: ", codes "over-limit", None)
 told_as ChartOverLimit = (codes "chart: ", codes "over-limit", None)
@@ -170,6 +174,12 @@ of_unread_script inputs.Memory = Memory
 abbrev pub of_world : WorldFault → Fault
 of_world worlds.Memory = Memory
 of_world fault = World fault
+
+-- how it is told that a station of a script was not set up
+abbrev pub of_set_up : SetUpFault → Fault
+of_set_up set_ups.NotInSetup = NotInSetup
+of_set_up set_ups.Stations = World worlds.Stations
+of_set_up set_ups.Memory = Memory
 
 abbrev pub of_files : FilesFault → Fault
 of_files (files.Recording fault) = Recording fault

@@ -2,6 +2,7 @@ pub mod HexText
 pub mod Answer
 pub mod ChartWords
 pub mod Ending
+pub mod Endpoints
 pub mod Outside
 pub mod Program
 pub mod Making

@@ -5,6 +5,7 @@ use Rattle.std.specs.IoError.{error_kind}
 use Rattle.std.specs.declared.io.Error.{Error}
 use Rattle.std.specs.declared.io.ErrorKind.{ErrorKind}
 use Rattle.std.specs.declared.io.ErrorKind.TheVariants.{OutOfMemory}
+use Rattle.siman_console.specs.declared.endpoint.Endpoint.{Endpoint}
 use Rattle.siman_console.specs.declared.fault.Ended.{Ended}
 
 -- A reader has these bytes; where it is not known which it has, these may be any.
@@ -38,6 +39,11 @@ abbrev pub saved_by : Result (Unit {0}) Error → Saved
 saved_by (Ok x) = Ok x
 saved_by (Err error) = Err (error_kind error)
 
+-- that something was had, or why it was not
+abbrev pub had_by : {F : Type 0} → Result F Error → Saved
+had_by (Ok x) = Ok tt
+had_by (Err error) = Err (error_kind error)
+
 -- how many there are of what was asked for, or why there is none
 abbrev pub counted_by : {F : Type 0} → Result (Vec F Global) Error → Result ℕ ErrorKind
 counted_by (Ok items) = Ok (length items.items)
@@ -58,6 +64,8 @@ pub data Deed : Type 0 where
   LooksFor : (name : List ℕ) → Bool → Deed
   -- lines of so many stations were asked for, and so many were had, or it is told why none were
   Lines : (stations : ℕ) → Result ℕ ErrorKind → Deed
+  -- a line was asked for whose socket is there and which sends to these peers, and hears them alone or anyone; it was had, or it is told why not
+  Binds : (bind : Endpoint) → (peers : List Endpoint) → (anyone : Bool) → Saved → Deed
   -- a file was created under a name; it was left with these bytes, where they are known
   Creates : (name : List ℕ) → Found → Deed
   Leaves : Option (List ℕ) → Deed

@@ -11,6 +11,7 @@ pub mod Pdus
 pub mod Review
 pub mod Show
 pub mod ScriptTrial
+pub mod Station
 pub mod Why
 pub mod World
 use Rattle.std.specs.Prelude.{◌≡◌, ◌⊎◌, ℕ, List, [], Option, Some, None, Result, Ok, Err, map, string_bytes, Vec, String, Bool, true, false}
@@ -46,6 +47,7 @@ use Rattle.siman_console.specs.Program.Review.{ReviewsNamed}
 use Rattle.siman_console.specs.Saying.{SaysOfFile, SaysOfFiles}
 use Rattle.siman_console.specs.Program.Show.{ShowsFile}
 use Rattle.siman_console.specs.Program.ScriptTrial.{TriesInput}
+use Rattle.siman_console.specs.Program.Station.{EndsStation}
 use Rattle.siman_console.specs.Program.Why.{WhyNamed}
 use Rattle.siman_console.specs.Program.World.{RunsFile, MakesWorld}
 
@@ -83,6 +85,7 @@ EndsTask told (Bare command) deeds input o = (deeds ≡ []) × EndsBare command 
 EndsTask told (One command word) deeds input o = EndsAs (DoesOne command word deeds) o
 EndsTask told (Two command first second) deeds input o = EndsTwo told command first second deeds o
 EndsTask told (asks.Join pieces made form) deeds input o = EndsAs (JoinsPieces pieces made (word_of form) deeds) o
+EndsTask told (asks.Station words) deeds input o = EndsStation told.strangers words deeds input o
 EndsTask told (View view recording filters spelling) deeds input o = EndsAs (DoesView view recording filters spelling deeds) o
 EndsTask told (asks.Why recording certificate spelling) deeds input o = EndsAs (WhyNamed spelling recording certificate deeds) o
 EndsTask told (asks.Chart recording certificate picture words) deeds input o = EndsAs (ChartsNamed recording certificate picture words deeds) o

@@ -4,7 +4,7 @@ ghost use Rattle.std.specs.Prelude.{◌≡◌, Some};
 ghost use Rattle.std.specs.IoError.{error_kind};
 ghost use Rattle.byte_files.specs.Writing.{Writes};
 ghost use Rattle.siman_console.specs.declared.fault.Fault.TheVariants.{Memory};
-ghost use Rattle.siman_console.specs.Ending.{move_fault_name, told_as, place_text, fault_text, fault_line, fault_status, IsToldAs, of_recording, of_convert, of_files, of_script, of_world, of_trial, of_unread_script, of_certificate, Ends};
+ghost use Rattle.siman_console.specs.Ending.{move_fault_name, told_as, place_text, fault_text, fault_line, fault_status, IsToldAs, of_recording, of_convert, of_files, of_script, of_world, of_set_up, of_trial, of_unread_script, of_certificate, Ends};
 
 use crate::files_fault::FilesFault;
 use crate::input::{InputFault, Unread};
@@ -17,6 +17,7 @@ use exercise_check::CertificateFault;
 use exercise_recording::{ConvertFault, RecordingFault};
 use siman_manager::OrderFault;
 use siman_scripts::ScriptFault;
+use siman_sessions::SetUpFault;
 use siman_worlds::{MoveFault, WorldFault};
 use std::alloc::{AllocError, AllocFailed};
 use std::io::{ErrorKind, Write};
@@ -58,6 +59,10 @@ pub enum Fault<'a> {
     World(WorldFault),
     /// A line of a station could not be had, or a call of it failed.
     LineFailed,
+    /// This word is no address of a station, or says of no socket where it is.
+    StationWord(&'a str),
+    /// The script has no station at the address.
+    NotInSetup,
     /// This word asks for no filter.
     Filter(&'a str),
     /// The view would have more than 4,194,304 lines.
@@ -136,6 +141,8 @@ impl<'a> Fault<'a> {
             }
             Fault::World(WorldFault::Memory) => ("world: ", "memory", None),
             Fault::LineFailed => ("live: ", "line", None),
+            Fault::StationWord(word) => ("station: address ", word, None),
+            Fault::NotInSetup => ("station: ", "not-in-setup", None),
             Fault::Filter(word) => ("filter: ", word, None),
             Fault::OverLimit => ("view: ", "over-limit", None),
             Fault::ChartOverLimit => ("chart: ", "over-limit", None),
@@ -281,6 +288,18 @@ impl From<WorldFault> for Fault<'_> {
         match fault {
             WorldFault::Memory => Fault::Memory,
             WorldFault::Stations | WorldFault::Move(..) => Fault::World(fault),
+        }
+    }
+}
+
+impl From<SetUpFault> for Fault<'_> {
+    ghost from_gives = { λ fault e. e ≡ of_set_up fault };
+
+    fn from(fault: SetUpFault) -> Self {
+        match fault {
+            SetUpFault::NotInSetup => Fault::NotInSetup,
+            SetUpFault::Stations => Fault::World(WorldFault::Stations),
+            SetUpFault::Memory => Fault::Memory,
         }
     }
 }

@@ -15,6 +15,7 @@
 
 mod answer;
 mod chart_words;
+mod endpoint;
 mod fault;
 mod files_fault;
 mod filter_words;
@@ -35,6 +36,7 @@ mod trial_fault;
 mod usage;
 
 pub use answer::answers_follow_the_grammar;
+pub use endpoint::Endpoint;
 pub use fault::Ended;
 pub use files_fault::FilesFault;
 pub use filter_words::filter_of;
@@ -60,3 +62,4 @@ pub use siman_texts::Spelling;
 pub use siman_words::{JoinForm, NoWord, OneWord, Task, TwoWords, ViewWord, asks_help, read_words};
 pub use siman_worlds::{MoveFault, WorldFault, run_world};
 pub use trial_fault::TrialFault;
+pub use usage::end_at_terminal;

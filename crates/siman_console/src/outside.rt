@@ -1,5 +1,6 @@
 //! What a program may do outside.
 
+use crate::endpoint::Endpoint;
 use siman_lines::Line;
 use std::alloc::Global;
 use std::io;
@@ -10,7 +11,7 @@ use std::io::{Read, Write};
 pub trait Outside {
     ghost use Rattle.std.specs.Prelude.{◌≡◌, ◌∷◌, [], ℕ, List, Option, Some, None, IfOk, slice_get};
     ghost use Rattle.siman_lines.specs.Calls.{IsUnused};
-    ghost use Rattle.siman_console.specs.Outside.{Found, Deed, Opens, Compares, Reads, Makes, Saves, Discards, LooksFor, Lines, Creates, Leaves, found_by, saved_by, counted_by, Adds, IsHeld, IsFresh};
+    ghost use Rattle.siman_console.specs.Outside.{Found, Deed, Opens, Compares, Reads, Makes, Saves, Discards, LooksFor, Lines, Binds, Creates, Leaves, found_by, saved_by, counted_by, had_by, Adds, IsHeld, IsFresh};
 
     /// A file that was opened to be read, of which nothing was read so far.
     type Opened: Drop;
@@ -86,4 +87,15 @@ pub trait Outside {
     fn lines(&mut self, alloc: Global, stations: usize) -> io::Result<Vec<Self::Line>>
         ensures done { Adds (deeds self.old) (deeds self.new) (Lines stations (counted_by result) ∷ []) }
         ensures unused { IfOk result (λ lines. (number : ℕ) (l : Self.Line) → slice_get lines.items number ≡ Some l → IsUnused (Self.Line.sent l)) };
+
+    /// The line of one station, whose socket is there and may send to all of a network. It sends to
+    /// each of these peers, and hears them alone, or anyone. No file is opened or made.
+    fn line_at(
+        &mut self,
+        alloc: Global,
+        bind: Endpoint,
+        peers: &[Endpoint],
+        anyone: bool,
+    ) -> io::Result<Self::Line>
+        ensures done { Adds (deeds self.old) (deeds self.new) (Binds bind peers.now anyone (had_by result) ∷ []) };
 }

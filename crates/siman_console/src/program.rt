@@ -21,6 +21,7 @@ pub(crate) mod pdus;
 pub(crate) mod review;
 pub(crate) mod script_trial;
 pub(crate) mod show;
+mod station;
 pub(crate) mod why;
 pub(crate) mod world;
 
@@ -40,6 +41,7 @@ use crate::program::pdus::end_lines;
 use crate::program::review::review_named;
 use crate::program::script_trial::TrialCommand;
 use crate::program::show::ShowCommand;
+use crate::program::station::end_station;
 use crate::program::why::why_named;
 use crate::saying::{OfFile, say_of_file, say_of_files};
 use crate::usage::end_usage;
@@ -151,6 +153,7 @@ fn end_task<'a, O: Outside, R: Read + Drop, W: Write, E: Write>(
             let joined = join_pieces(alloc, pieces, new, word, outside, out);
             end(joined, errors)
         }
+        Task::Station(words) => end_station(alloc, words, outside, input, out, errors),
         Task::View(view, recording, words, spelling) => {
             let words = (recording, words);
             end(do_view(alloc, view, words, spelling, outside, out), errors)

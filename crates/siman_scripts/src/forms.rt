@@ -27,7 +27,7 @@ pub fn number_32(word: &[u8]) -> Option<u32>
 }
 
 /// The address that a word `S:A` spells.
-pub(crate) fn address_of(word: &[u8]) -> Option<Address>
+pub fn address_of(word: &[u8]) -> Option<Address>
     ensures { result ≡ address_of word.now }
 {
     let (site, application) = split_once(word, b':')?;

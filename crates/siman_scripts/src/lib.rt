@@ -25,7 +25,7 @@ mod world_station;
 
 pub use act::{Act, Move};
 pub use command::{Command, Task, read_command};
-pub use forms::{number_16, number_32};
+pub use forms::{address_of, number_16, number_32};
 pub use moves::target_of;
 pub use script::{LARGEST_SCRIPT, Script, read_script};
 pub use script_fault::ScriptFault;

@@ -14,10 +14,20 @@ use Rattle.siman_words.specs.declared.commands.ViewWord.{ViewWord}
 use Rattle.siman_words.specs.declared.commands.ViewWord.TheVariants.{Review, Log}
 use Rattle.siman_words.specs.declared.commands.JoinForm.{JoinForm}
 use Rattle.siman_words.specs.declared.commands.JoinForm.TheVariants.{Open, Closed}
+use Rattle.siman_words.specs.declared.commands.StationWords.{StationWords}
 use Rattle.siman_words.specs.declared.commands.Takes.{Takes}
 use Rattle.siman_words.specs.declared.commands.Takes.TheVariants as shapes
 use Rattle.siman_words.specs.declared.commands.Task.{Task}
 use Rattle.siman_words.specs.declared.commands.Task.TheVariants as tasks
+
+-- what the words of a station name: a script, the address of the station, its recording, where its socket and its peers are, and whether it hears others, too
+pub record StationAsked : Type 0 where
+  pub setup : List ℕ
+  pub address : List ℕ
+  pub recording : List ℕ
+  pub bind : List ℕ
+  pub peers : List (List ℕ)
+  pub anyone : Bool
 
 -- what is asked for: a command, and the words that it takes
 pub data Asked : Type 0 where
@@ -27,6 +37,8 @@ pub data Asked : Type 0 where
   Two : TwoWords → (first second : List ℕ) → Asked
   -- the pieces of an exercise, the file that is to be made of them, and the form that it is to have, where the words say one
   Join : (pieces : List (List ℕ)) → (made : List ℕ) → Option JoinForm → Asked
+  -- a station is played over the network
+  Station : StationAsked → Asked
   -- a view of a recording, the words that choose among its lines, and how these are spelled
   View : ViewWord → (recording : List ℕ) → (filters : List (List ℕ)) → Spelling → Asked
   -- what contradicts what in a recording, or in a certificate of it, where the words name one
@@ -35,12 +47,23 @@ pub data Asked : Type 0 where
   Chart : (recording certificate picture : List ℕ) → (steps : List (List ℕ)) → Asked
 
 -- words have the text that `text` gives
+abbrev pub named_by : {S : Type 0} → (text : S → List ℕ) → StationWords S → StationAsked
+named_by text words = record {
+  setup = words.setup.now;
+  address = words.address.now;
+  recording = words.recording.now;
+  bind = words.bind.now;
+  peers = map text words.peers.now;
+  anyone = words.anyone;
+}
+
 abbrev pub asked_by : {S : Type 0} → (text : S → List ℕ) → Task S → Asked
 asked_by text tasks.Trial = Trial
 asked_by text (tasks.Bare command) = Bare command
 asked_by text (tasks.One command word) = One command word.now
 asked_by text (tasks.Two command first second) = Two command first.now second.now
 asked_by text (tasks.Join pieces made form) = Join (map text pieces.now) made.now form
+asked_by text (tasks.Station words) = Station (named_by text words)
 asked_by text (tasks.View view recording filters spelling) = View view recording.now (map text filters.now) spelling
 asked_by text (tasks.Why recording certificate spelling) = Why recording.now (option_map (λ word. word.now) certificate) spelling
 asked_by text (tasks.Chart recording certificate picture steps) = Chart recording.now certificate.now picture.now (map text steps.now)
@@ -58,7 +81,7 @@ takes_of (row ∷ rows) name = if bytes_eq row.0 name then Some row.1 else takes
 unfoldable pub takes_named : List ℕ → Option Takes
 takes_named = takes_of (
     (codes "pdu", shapes.One Pdu) ∷ (codes "pdus", shapes.Nothing Pdus) ∷ (codes "show", shapes.One Show) ∷ (codes "check", shapes.Two Check)
-    ∷ (codes "audit", shapes.Two Audit) ∷ (codes "world", shapes.Two World) ∷ (codes "live", shapes.Two Live) ∷ (codes "convert", shapes.Two Convert) ∷ (codes "mend", shapes.Two Mend)
+    ∷ (codes "audit", shapes.Two Audit) ∷ (codes "world", shapes.Two World) ∷ (codes "live", shapes.Two Live) ∷ (codes "station", shapes.Station) ∷ (codes "convert", shapes.Two Convert) ∷ (codes "mend", shapes.Two Mend)
     ∷ (codes "join", shapes.Pieces) ∷ (codes "review", shapes.View Review) ∷ (codes "log", shapes.View Log) ∷ (codes "why", shapes.PerhapsTwo)
     ∷ (codes "chart", shapes.Picture) ∷ [])
 
@@ -117,6 +140,25 @@ pieces_asked form (Some p) = if length p.0 == 0 then None else Some (Join p.0 p.
 abbrev pub join_asked : List (List ℕ) → Option Asked
 join_asked words = let p = form_apart words in if are_names p.0 then pieces_asked p.1 (last_apart p.0) else None
 
+abbrev pub anyone_behind : List (List ℕ) → Option (List (List ℕ) × List ℕ) → List (List ℕ) × Bool
+anyone_behind words None = (words, false)
+anyone_behind words (Some p) = if bytes_eq p.1 (codes "from=any") then (p.0, true) else (words, false)
+
+-- the words before `from=any`, where it stands last, and whether it does
+abbrev pub anyone_apart : List (List ℕ) → List (List ℕ) × Bool
+anyone_apart words = anyone_behind words (last_apart words)
+
+-- the station that names ask for, where they have a peer
+abbrev pub station_named : (anyone : Bool) → List (List ℕ) → Option Asked
+station_named anyone (setup ∷ address ∷ recording ∷ bind ∷ peers) =
+    if length peers == 0 then None
+    else Some (Station (record { setup = setup; address = address; recording = recording; bind = bind; peers = peers; anyone = anyone }))
+station_named anyone words = None
+
+-- A STATION IS ASKED FOR by a script, an address, a recording, where its socket is, and where at least one peer is; `from=any` counts where it stands last
+abbrev pub station_asked : List (List ℕ) → Option Asked
+station_asked words = let p = anyone_apart words in if has_option p.0 then None else station_named p.1 p.0
+
 abbrev pub spelling_behind : List (List ℕ) → Option (List (List ℕ) × List ℕ) → List (List ℕ) × Spelling
 spelling_behind words None = (words, Text)
 spelling_behind words (Some p) = if bytes_eq p.1 (codes "--json") then (p.0, Json) else (words, Text)
@@ -155,6 +197,7 @@ taken (Some (shapes.Nothing command)) words = bare_asked command words
 taken (Some (shapes.One command)) words = one_asked command words
 taken (Some (shapes.Two command)) words = two_asked command words
 taken (Some shapes.Pieces) words = join_asked words
+taken (Some shapes.Station) words = station_asked words
 taken (Some (shapes.View view)) words = view_asked view words
 taken (Some shapes.PerhapsTwo) words = why_asked words
 taken (Some shapes.Picture) words = chart_asked words
@@ -194,6 +237,7 @@ helps (Some (shapes.Nothing command)) words = helps_behind 0 words
 helps (Some (shapes.One command)) words = helps_behind 1 words
 helps (Some (shapes.Two command)) words = helps_behind 2 words
 helps (Some shapes.Pieces) words = helps_behind (length words) words
+helps (Some shapes.Station) words = helps_behind (length words) words
 helps (Some (shapes.View view)) words = helps_within (length words) false words
 helps (Some shapes.PerhapsTwo) words = helps_within 2 false words
 helps (Some shapes.Picture) words = helps_behind (length words) words

@@ -1,14 +1,17 @@
-//! Reading words by the table of commands: the task that they ask for, or whether they ask for help.
+//! Reading words by the table of commands: the task that they ask for.
 
-ghost use Rattle.std.specs.Prelude.{◌≡◌, false, length, map, option_map};
-ghost use Rattle.siman_words.specs.Words.{asked_by, is_option, takes_of, takes_named, bare_asked, one_asked, two_asked, taken, asked, is_short, is_help, is_version, helps_behind, helps_within, is_topic, helps, asks_help, last_apart, has_option, is_form_word, form_named, form_apart, are_names, pieces_asked, join_asked, spelling_apart, view_asked, named_why, why_asked, chart_asked};
+ghost use Rattle.std.specs.Prelude.{◌≡◌, map, option_map};
+ghost use Rattle.siman_words.specs.Words.{asked_by, is_option, takes_of, takes_named, bare_asked, one_asked, two_asked, taken, asked, last_apart, has_option, is_form_word, form_named, form_apart, are_names, pieces_asked, join_asked, anyone_apart, station_named, station_asked, spelling_apart, view_asked, named_why, why_asked, chart_asked};
 
-use crate::commands::{JoinForm, NoWord, OneWord, ROWS, Row, Takes, Task, TwoWords, ViewWord};
+use crate::commands::{
+    JoinForm, NoWord, OneWord, ROWS, StationWords, Takes, Task, TwoWords, ViewWord,
+};
+use crate::rows::Row;
 use siman_texts::Spelling;
 use std::convert::AsStr;
 
 /// Whether a word is an option: it begins with a hyphen, and has more.
-fn is_option(word: &str) -> bool
+pub(crate) fn is_option(word: &str) -> bool
     ensures { result ≡ is_option word.now }
 {
     let word = word.as_bytes();
@@ -30,7 +33,7 @@ fn takes_of(mut table: &[Row], name: &str) -> Option<Takes>
 
 /// What the command of a name takes.
 #[tactic(auto, unfolding(crate::specs::Words::takes_named))]
-fn takes_named(name: &str) -> Option<Takes>
+pub(crate) fn takes_named(name: &str) -> Option<Takes>
     ensures { result ≡ takes_named name.now }
 {
     takes_of(&ROWS, name)
@@ -158,6 +161,45 @@ fn join_words<S: AsStr>(words: &[S]) -> Option<Task<'_, S>>
     None
 }
 
+/// The words before `from=any`, where it stands last, and whether it does.
+fn anyone_apart<S: AsStr>(words: &[S]) -> (&[S], bool)
+    ensures { (map S.text result.0.now, result.1) ≡ anyone_apart (map S.text words.now) }
+{
+    match last_apart(words) {
+        Some((before, last)) if last == "from=any" => (before, true),
+        _ => (words, false),
+    }
+}
+
+/// The station that names ask for, where they have a peer.
+fn named_station<S: AsStr>(anyone: bool, names: &[S]) -> Option<Task<'_, S>>
+    ensures { option_map (asked_by S.text) result ≡ station_named anyone (map S.text names.now) }
+{
+    match names {
+        [setup, address, recording, bind, peers @ ..] if !peers.is_empty() => {
+            Some(Task::Station(StationWords {
+                setup: setup.as_str(),
+                address: address.as_str(),
+                recording: recording.as_str(),
+                bind: bind.as_str(),
+                peers,
+                anyone,
+            }))
+        }
+        _ => None,
+    }
+}
+
+fn station_words<S: AsStr>(words: &[S]) -> Option<Task<'_, S>>
+    ensures { option_map (asked_by S.text) result ≡ station_asked (map S.text words.now) }
+{
+    let (names, anyone) = anyone_apart(words);
+    if has_option(names) {
+        return None;
+    }
+    named_station(anyone, names)
+}
+
 /// The words before `--json`, where it stands last, and how the lines are spelled then.
 fn spelling_apart<S: AsStr>(words: &[S]) -> (&[S], Spelling)
     ensures { (map S.text result.0.now, result.1) ≡ spelling_apart (map S.text words.now) }
@@ -235,6 +277,7 @@ fn taken<S: AsStr>(takes: Option<Takes>, words: &[S]) -> Option<Task<'_, S>>
         Some(Takes::One(command)) => one_word(command, words),
         Some(Takes::Two(command)) => two_words(command, words),
         Some(Takes::Pieces) => join_words(words),
+        Some(Takes::Station) => station_words(words),
         Some(Takes::View(view)) => view_words(view, words),
         Some(Takes::PerhapsTwo) => why_words(words),
         Some(Takes::Picture) => chart_words(words),
@@ -248,117 +291,5 @@ pub(crate) fn task_of<S: AsStr>(words: &[S]) -> Option<Task<'_, S>>
     match words {
         [] | [_] => Some(Task::Trial),
         [_, name, rest @ ..] => taken(takes_named(name.as_str()), rest),
-    }
-}
-
-/// Whether a word is a hyphen and this letter, with more behind them or not.
-fn is_short(letter: u8, word: &str) -> bool
-    ensures { result ≡ is_short letter word.now }
-{
-    let word = word.as_bytes();
-    word.len() > 1 && word[0] == b'-' && word[1] == letter
-}
-
-fn is_help(word: &str) -> bool
-    ensures { result ≡ is_help word.now }
-{
-    word == "--help" || is_short(b'h', word)
-}
-
-fn is_version(word: &str) -> bool
-    ensures { result ≡ is_version word.now }
-{
-    word == "--version" || is_short(b'V', word)
-}
-
-/// Whether words behind a command that takes so many ask for its help, before one that it does not
-/// take.
-fn helps_behind<S: AsStr>(most: usize, words: &[S]) -> bool
-    ensures { result ≡ helps_behind most (map S.text words.now) }
-{
-    let mut left = most;
-    let mut others = words;
-    while let [word, rest @ ..] = others {
-        let word = word.as_str();
-        if is_help(word) {
-            return true;
-        }
-        if left == 0 || is_option(word) {
-            return false;
-        }
-        left -= 1;
-        others = rest;
-    }
-    false
-}
-
-/// Whether words behind a command that takes so many, and `--json`, ask for its help, before one that
-/// it does not take; `--json` may stand once before.
-fn helps_within<S: AsStr>(most: usize, words: &[S]) -> bool
-    ensures { result ≡ helps_within most false (map S.text words.now) }
-{
-    let mut left = most;
-    let mut json = false;
-    let mut others = words;
-    while let [word, rest @ ..] = others {
-        let word = word.as_str();
-        if is_help(word) {
-            return true;
-        }
-        if word == "--json" {
-            if json {
-                return false;
-            }
-            json = true;
-        } else {
-            if left == 0 || is_option(word) {
-                return false;
-            }
-            left -= 1;
-        }
-        others = rest;
-    }
-    false
-}
-
-fn helps<S: AsStr>(takes: Option<Takes>, words: &[S]) -> bool
-    ensures { result ≡ helps takes (map S.text words.now) }
-{
-    match takes {
-        None => false,
-        Some(Takes::Nothing(_)) => helps_behind(0, words),
-        Some(Takes::One(_)) => helps_behind(1, words),
-        Some(Takes::Two(_)) => helps_behind(2, words),
-        Some(Takes::Pieces) | Some(Takes::Picture) => helps_behind(words.len(), words),
-        Some(Takes::View(_)) => helps_within(words.len(), words),
-        Some(Takes::PerhapsTwo) => helps_within(2, words),
-    }
-}
-
-/// Whether `help` may stand before words: none, or the name of a command or `help` itself.
-fn is_topic<S: AsStr>(words: &[S]) -> bool
-    ensures { result ≡ is_topic (map S.text words.now) }
-{
-    match words {
-        [] => true,
-        [name] => name.as_str() == "help" || takes_named(name.as_str()).is_some(),
-        _ => false,
-    }
-}
-
-/// Whether words that ask for no task ask for help, the program's name first. Otherwise they break
-/// the usage.
-pub fn asks_help<S: AsStr>(words: &[S]) -> bool
-    ensures { result ≡ asks_help (map S.text words.now) }
-{
-    match words {
-        [] | [_] => false,
-        [_, first, rest @ ..] => {
-            let first = first.as_str();
-            is_help(first)
-                || is_version(first)
-                || (first == "help" && is_topic(rest))
-                || helps(takes_named(first), rest)
-        }
     }
 }

@@ -1,5 +1,6 @@
 //! The table of commands, from which the reading of words, usage and help follow.
 
+use crate::rows::{Often, Row, Word};
 use siman_texts::Spelling;
 
 /// A command that takes no words.
@@ -55,6 +56,23 @@ pub enum JoinForm {
     Closed,
 }
 
+/// What the words of `station` name.
+#[derive(Drop)]
+pub struct StationWords<'a, S> {
+    /// The file of the script that says how the station is set up.
+    pub setup: &'a str,
+    /// Its address in the exercise.
+    pub address: &'a str,
+    /// The file of the recording that it writes.
+    pub recording: &'a str,
+    /// Where its socket is.
+    pub bind: &'a str,
+    /// Where its peers are, at least one.
+    pub peers: &'a [S],
+    /// Whether it hears anyone, and not its peers alone.
+    pub anyone: bool,
+}
+
 /// What the words of a command line ask for.
 #[derive(Drop)]
 pub enum Task<'a, S> {
@@ -70,6 +88,8 @@ pub enum Task<'a, S> {
     /// The pieces of an exercise are joined: their files, the file that is made of them, and the form
     /// that it is to have, where the words say one.
     Join(&'a [S], &'a str, Option<JoinForm>),
+    /// A station of a script is played over the network, by the lines of standard input.
+    Station(StationWords<'a, S>),
     /// A view: the file of the recording, the words that choose among the lines, and how these are
     /// spelled.
     View(ViewWord, &'a str, &'a [S], Spelling),
@@ -89,6 +109,9 @@ pub enum Takes {
     Two(TwoWords),
     /// Files of pieces, the file that is made of them, and perhaps a form.
     Pieces,
+    /// A file, an address, a file, where a socket is, where at least one peer is, and perhaps
+    /// `from=any`.
+    Station,
     /// The file of a recording, words that choose, and perhaps `--json`.
     View(ViewWord),
     /// The file of a recording, perhaps that of a certificate, and perhaps `--json`.
@@ -98,36 +121,8 @@ pub enum Takes {
     Picture,
 }
 
-/// How often a word of a command may stand.
-#[derive(Clone, Copy)]
-pub(crate) enum Often {
-    Once,
-    AtMostOnce,
-    OnceOrMore,
-    AnyTimes,
-}
-
-/// A word that a command takes: how usage calls it, how often it may stand, and what it is.
-#[derive(Clone, Copy)]
-pub(crate) struct Word {
-    pub name: &'static str,
-    pub often: Often,
-    pub about: &'static str,
-}
-
-/// A command of the table.
-#[derive(Clone, Copy)]
-pub(crate) struct Row {
-    pub name: &'static str,
-    pub takes: Takes,
-    /// What it does.
-    pub about: &'static str,
-    pub example: &'static str,
-    pub words: &'static [Word],
-}
-
 /// The table of the commands, in the order of the help.
-pub(crate) const ROWS: [Row; 14] = [
+pub(crate) const ROWS: [Row; 15] = [
     Row {
         name: "pdu",
         takes: Takes::One(OneWord::Pdu),
@@ -226,6 +221,39 @@ pub(crate) const ROWS: [Row; 14] = [
                 name: "REC",
                 often: Often::Once,
                 about: "The file of the recording, which must not be there yet",
+            },
+        ],
+    },
+    Row {
+        name: "station",
+        takes: Takes::Station,
+        about: "Plays a station of a script over UDP, by the lines of standard input, and writes what it sends, receives and tells",
+        example: "Example:\n  siman station exercise.script 1:1 manager.dsrc 10.0.0.1:3000 10.0.0.2:3000 < orders",
+        words: &[
+            Word {
+                name: "SETUP",
+                often: Often::Once,
+                about: "The file of the script that sets the station up; its moves are passed over",
+            },
+            Word {
+                name: "ADDRESS",
+                often: Often::Once,
+                about: "The address of the station, S:A",
+            },
+            Word {
+                name: "REC",
+                often: Often::Once,
+                about: "The file of the recording, which must not be there yet",
+            },
+            Word {
+                name: "BIND",
+                often: Often::Once,
+                about: "Where its socket is, IP:PORT; 0.0.0.0:PORT hears broadcasts",
+            },
+            Word {
+                name: "PEER",
+                often: Often::OnceOrMore,
+                about: "Where a peer is, or those of a network, IP:PORT. Behind the last one from=any may stand: then others are heard, too",
             },
         ],
     },
@@ -366,20 +394,3 @@ pub(crate) const ROWS: [Row; 14] = [
         ],
     },
 ];
-
-/// The version of the program.
-pub(crate) const VERSION: &str = "0.1.0";
-
-/// What the program does, for the help.
-pub(crate) const ABOUT: &str =
-    "Shows Simulation Management PDUs of DIS (IEEE 1278.1-2012), and runs, shows, searches and checks recorded exercises. With no command, a script is read from standard input, run, searched for an order and checked";
-
-/// What the exit statuses tell, for the help, and the example of no words; those of the table follow.
-pub(crate) const STATUSES: &str = "Exit status:
-  0  the answer is on standard output; of `check` or `why` it is yes, of `audit` or `why` explained
-  1  a datagram is refused, or the answer of `check`, `why` or `chart` is no, of `audit` or `why` blocked
-  2  a fault of usage, hex text, files, scripts, worlds, lines or writing, told on standard error
-  3  memory ran out
-
-Examples:
-  siman < exercise.script";

@@ -11,13 +11,15 @@ ghost use Rattle.siman_words.specs.Words.{asked_by, asked};
 
 mod asking;
 mod commands;
+mod helping;
+mod rows;
 mod usage;
 
 use crate::asking::task_of;
-use crate::usage::usage_of;
-pub use asking::asks_help;
+use crate::usage::{terminal_usage, usage_of};
 use clap::Error;
-pub use commands::{JoinForm, NoWord, OneWord, Task, TwoWords, ViewWord};
+pub use commands::{JoinForm, NoWord, OneWord, StationWords, Task, TwoWords, ViewWord};
+pub use helping::asks_help;
 use std::alloc::Global;
 use std::convert::AsStr;
 
@@ -31,5 +33,13 @@ pub fn read_words<S: AsStr>(alloc: Global, words: &[S]) -> Result<Task<'_, S>, E
         None => match usage_of(alloc, words) {
             Ok(error) | Err(error) => Err(error),
         },
+    }
+}
+
+/// How no words break the usage where standard input is a terminal, on which nobody means to write
+/// a script. The layer above asks whether it is one; of [`read_words`] no words are a task.
+pub fn refuse_terminal(alloc: Global) -> Error {
+    match terminal_usage(alloc) {
+        Ok(error) | Err(error) => error,
     }
 }

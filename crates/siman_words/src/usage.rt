@@ -1,10 +1,28 @@
 //! The usage of the program and its help, as `clap` tells them.
 
-use crate::commands::{ABOUT, Often, ROWS, Row, STATUSES, Takes, VERSION, ViewWord, Word};
+use crate::commands::{ROWS, Takes, ViewWord};
+use crate::rows::{Often, Row, Word};
 use clap::error::ErrorKind;
 use clap::{Arg, ArgAction, Command, Error};
 use std::alloc::{AllocError, Global};
 use std::convert::AsStr;
+
+/// The version of the program.
+const VERSION: &str = "0.1.0";
+
+/// What the program does, for the help.
+const ABOUT: &str =
+    "Shows Simulation Management PDUs of DIS (IEEE 1278.1-2012), and runs, shows, searches and checks recorded exercises. With no command, a script is read from standard input, run, searched for an order and checked";
+
+/// What the exit statuses tell, for the help, and the example of no words; those of the table follow.
+const STATUSES: &str = "Exit status:
+  0  the answer is on standard output; of `check` or `why` it is yes, of `audit` or `why` explained
+  1  a datagram is refused, or the answer of `check`, `why` or `chart` is no, of `audit` or `why` blocked
+  2  a fault of usage, hex text, files, scripts, worlds, lines or writing, told on standard error
+  3  memory ran out
+
+Examples:
+  siman < exercise.script";
 
 /// An argument that stands where it is named.
 fn argument<'a>(alloc: Global, word: Word) -> Arg<'a> {
@@ -50,6 +68,9 @@ fn command<'a>(alloc: Global, row: Row) -> Result<Command<'a>, AllocError> {
         Takes::Pieces => command.override_usage(
             "siman join <PIECE>... <NEW> [form=open|form=closed]",
         ),
+        Takes::Station => command.override_usage(
+            "siman station <SETUP> <ADDRESS> <REC> <BIND> <PEER>... [from=any]",
+        ),
         Takes::View(ViewWord::Review) => {
             command.override_usage("siman review <REC> [FILTER]... [--json]")
         }
@@ -94,6 +115,10 @@ fn siman<'a>(alloc: Global, ending: &'a str) -> Result<Command<'a>, AllocError> 
         .subcommands(commands)
 }
 
+/// What is wrong with no words at a terminal.
+const AT_TERMINAL: &str =
+    "no command is named, and standard input is a terminal: a script is read from a file or a pipe";
+
 /// What is wrong with words that ask for no task, and that `clap` takes.
 fn complaint<S: AsStr>(words: &[S]) -> &'static str {
     if words.iter().any(|word| word.as_str() == "--") {
@@ -104,8 +129,16 @@ fn complaint<S: AsStr>(words: &[S]) -> &'static str {
         [_, name, ..] if name.as_str() == "join" => {
             "the form is 'form=open' or 'form=closed', and stands as the last word"
         }
+        [_, name, ..] if name.as_str() == "station" => "a peer stands before 'from=any'",
         _ => "'--json' stands as the last word",
     }
+}
+
+/// How no words break the usage where standard input is a terminal.
+pub(crate) fn terminal_usage(alloc: Global) -> Result<Error, Error> {
+    let ending = ending(alloc)?;
+    let mut command = siman(alloc, &ending)?;
+    Ok(command.error(ErrorKind::MissingSubcommand, AT_TERMINAL)?)
 }
 
 /// The help that words ask for, or how they break the usage.

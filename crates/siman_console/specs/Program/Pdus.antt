@@ -1,9 +1,7 @@
 -- What the command `pdus` tells of hex texts, one a line, and how it ends.
-use Rattle.std.specs.Prelude.{◌≡◌, ◌≢◌, ◌⊎◌, ⊤, ℕ, ◌+◌, ◌≤◌, max, List, [], ◌∷◌, ◌++◌, length, take, ◌==◌, Option, Some, None, Result, Ok, Err, if◌then◌else◌}
-use Rattle.std.specs.List.{AllByRecursion}
-use Rattle.std.specs.Io.KnownBytes.{Appends, Keeps, IsAtEnd}
+use Rattle.std.specs.Prelude.{◌≡◌, ◌⊎◌, ℕ, ◌+◌, max, List, [], ◌∷◌, ◌++◌, length, take, ◌==◌, Option, Some, None, Result, Ok, Err, if◌then◌else◌}
+use Rattle.std.specs.Io.KnownBytes.{Appends, Keeps}
 use Rattle.byte_files.specs.Writing.{WritesPart}
-use Rattle.siman_scripts.specs.Text.{lines_of}
 use Rattle.siman_console.specs.declared.fault.Ended.{Ended}
 use Rattle.siman_console.specs.declared.fault.Fault.TheVariants.{HexLine, Input, Output, Memory}
 use Rattle.siman_console.specs.declared.program.pdus.Stop.{Stop}
@@ -91,38 +89,6 @@ TellsLine told (Err (stops.Unread failed)) out errors = ⊥
 TellsLine told (Err (stops.Fault fault)) out errors =
     Keeps errors.old errors.new
     × (((fault ≡ Memory) × Keeps out.old out.new) ⊎ ((fault ≡ Output) × WritesPart out.old out.new told.out))
-
--- ---- what is read
-
--- no byte of it is a line feed (10)
-abbrev pub IsOneLine : List ℕ → Type 0
-IsOneLine [] = ⊤
-IsOneLine (b ∷ bs) = (b ≢ 10) × IsOneLine bs
-
--- Of known bytes this line was read, and of the rest the lines are still to be read.
-abbrev pub ReadsLine : (old new : Option (List ℕ)) → List ℕ → Type 0
-ReadsLine None new line = ⊤
-ReadsLine (Some bytes) None line = ⊥
-ReadsLine (Some bytes) (Some rest) line = lines_of bytes ≡ line ∷ lines_of rest
-
--- so for several lines; of bytes that are not known any lines may be read
-abbrev pub ReadsLines : (old new : Option (List ℕ)) → List (List ℕ) → Type 0
-ReadsLines None new lines = AllByRecursion IsOneLine lines
-ReadsLines (Some bytes) None lines = ⊥
-ReadsLines (Some bytes) (Some rest) lines = lines_of bytes ≡ lines ++ lines_of rest
-
--- A line was read, of which so many bytes stand at the front of a buffer: all, or as many as it holds.
-pub record HoldsLine (old new : Option (List ℕ)) (buffer : List ℕ) (held : ℕ) : Type 0 where
-  pub line : List ℕ
-  pub one : IsOneLine line
-  pub read : ReadsLine old new line
-  pub within : held ≤ length buffer
-  pub front : take held buffer ≡ take (length buffer) line
-
--- a line was read, or there is none left
-abbrev pub ReadsNext : (old new : Option (List ℕ)) → (buffer : List ℕ) → Option ℕ → Type 0
-ReadsNext old new buffer None = IsAtEnd old
-ReadsNext old new buffer (Some held) = HoldsLine old new buffer held
 
 -- ---- how it ends
 

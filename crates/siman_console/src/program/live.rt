@@ -76,7 +76,7 @@ fn begin_read(alloc: Global, script: Script) -> Result<Begun, Fault<'static>>
 }
 
 /// How it is told that a file could not be created.
-fn uncreated(error: &io::Error) -> Fault<'static>
+pub(crate) fn uncreated(error: &io::Error) -> Fault<'static>
     ensures { IsUncreated (error_kind error.now) result }
 {
     match error.kind() {

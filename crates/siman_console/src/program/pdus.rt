@@ -1,6 +1,6 @@
 //! The command `pdus`: datagrams in hex text, one a line, shown.
 
-ghost use Rattle.std.specs.Prelude.{◌≡◌, ◌+◌, ◌<◌, List, ℕ, length, IfOk};
+ghost use Rattle.std.specs.Prelude.{◌≡◌, ◌+◌, List, ℕ, length, IfOk};
 ghost use Rattle.std.specs.Io.Buffered.{reader_remaining};
 ghost use Rattle.siman_scripts.specs.Text.{lines_of};
 ghost use Rattle.siman_console.specs.declared.hex_text.TheConstants.{LONGEST_HEX};
@@ -8,11 +8,11 @@ ghost use Rattle.siman_console.specs.declared.fault.Fault.TheVariants.{Memory};
 ghost use Rattle.siman_console.specs.declared.program.pdus.Stop.TheVariants as stops;
 ghost use Rattle.siman_console.specs.Ending.{Wrote};
 ghost use Rattle.siman_console.specs.Outside.{Has, Stream, Outcome};
-ghost use Rattle.siman_console.specs.Program.Pdus.{told_of_line, TellsBad, TellsLine, TellsLines, ReadsNext, EndsAt, EndsLines};
+ghost use Rattle.siman_console.specs.Program.Pdus.{told_of_line, TellsBad, TellsLine, TellsLines, EndsAt, EndsLines};
 
 use crate::fault::{Ended, Fault, end, tell as tell_fault};
 use crate::hex_text::LONGEST_HEX;
-use crate::input::{Count, Unread, fill};
+use crate::input::{Count, Unread, read_line};
 use crate::program::pdu::tell;
 use byte_files::WriteFailed;
 use std::alloc::{AllocError, Global};
@@ -144,30 +144,6 @@ fn tell_lines<R: Read, W: Write, E: Write>(
         };
         let status = tell_line(alloc, number, &buffer[..held], out, errors)?;
         worst = worst.max(status);
-    }
-}
-
-/// Reads the next line of a reader, which a line feed ends that the last may lack, and answers how
-/// many bytes of it the buffer has: all, or as many as it holds. None is the end.
-fn read_line<R: Read>(reader: &mut R, buffer: &mut [u8]) -> Result<Option<usize>, Unread>
-    requires { 0 < length buffer.old }
-    ensures { IfOk result (ReadsNext (R.remaining reader.old) (R.remaining reader.new) buffer.new) }
-{
-    let mut held = 0;
-    let mut count = Count::new();
-    loop {
-        count.one_more()?;
-        let mut byte = [0; 1];
-        if fill(reader, &mut byte)? == 0 {
-            return Ok(if held == 0 { None } else { Some(held) });
-        }
-        if byte[0] == b'\n' {
-            return Ok(Some(held));
-        }
-        if held < buffer.len() {
-            buffer[held] = byte[0];
-            held += 1;
-        }
     }
 }
 

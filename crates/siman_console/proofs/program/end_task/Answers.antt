@@ -54,3 +54,6 @@ pub returns-in-Chart : goal.returns-in-Chart
 returns-in-Chart g c =
     let did = c.chart_named-charted.ensures in
     rw c.in-Chart.is (did.0, did.1, did.2, (c.chart_named-charted.result, did.3, c.end-in-Chart.ensures))
+
+pub returns-in-Station : goal.returns-in-Station
+returns-in-Station g c = rw c.in-Station.is c.end_station.ensures

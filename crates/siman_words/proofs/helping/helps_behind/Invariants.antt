@@ -1,7 +1,7 @@
 -- The words that are left ask for help where all of them do.
 use Rattle.std.proofs.Common.{◌≡◌, length, map}
 use Rattle.siman_words.specs.Words.{helps_behind}
-use Rattle.siman_words.proofs.asking.helps_behind.Given as goal
+use Rattle.siman_words.proofs.helping.helps_behind.Given as goal
 
 abbrev pub invariant-loop-others : goal.invariant-loop-others
 invariant-loop-others g l = helps_behind l.left (map g.S.AsStr.text l.others) ≡ helps_behind l.most (map g.S.AsStr.text l.words)

@@ -4,12 +4,16 @@ use Rattle.std.specs.IoError.{error_kind}
 use Rattle.std.specs.declared.io.Error.{Error}
 use Rattle.std.specs.declared.io.ErrorKind.{ErrorKind}
 use Rattle.http_server.specs.declared.log.Log.{Log}
-use Rattle.siman_console.specs.Outside.{Stream, Found, Deed, Opens, Compares, Reads, Makes, Saves, Discards, LooksFor, Lines, Creates, Leaves}
+use Rattle.siman_console.specs.declared.endpoint.Endpoint.{Endpoint}
+use Rattle.siman_console.specs.Outside.{Stream, Found, Deed, Opens, Compares, Reads, Makes, Saves, Discards, LooksFor, Lines, Binds, Creates, Leaves}
 use Rattle.siman_cases.specs.declared.done.Done.{Done}
 use Rattle.siman_cases.specs.declared.done.Done.TheVariants as done
 
 abbrev pub letters_of : Log ℕ (Unit {0}) → List ℕ
 letters_of l = map (λ p. p.0) l.items
+
+abbrev pub endpoints_of : Log Endpoint (Unit {0}) → List Endpoint
+endpoints_of l = map (λ p. p.0) l.items
 
 -- what was found, where it failed for a reason or for none
 abbrev pub found_of : Option ErrorKind → Found
@@ -30,6 +34,7 @@ deed_of done.Discarded = Discards None
 deed_of (done.LookedFor name taken) = LooksFor (letters_of name) taken
 deed_of (done.Created name failed) = Creates (letters_of name) (found_of failed)
 deed_of (done.Lined stations had) = Lines stations had
+deed_of (done.Bound bind peers anyone had) = Binds bind (endpoints_of peers) anyone had
 deed_of done.Left = Leaves None
 
 abbrev pub deeds_of : Log Done (Unit {0}) → List Deed

@@ -10,7 +10,7 @@
 //! | `word` | one word more, which the lines behind it fill |
 //! | `unread KIND` | the words can't be had: `utf8` or `memory` |
 //! | `file NAME` | a file of that name, which the lines behind it fill |
-//! | `shut NAME`, `full NAME` | a file that can't be opened or made: no permission, no memory |
+//! | `shut NAME`, `folder NAME`, `odd NAME`, `full NAME` | a file that can't be opened or made: no permission, a directory, what is none in its path, no memory |
 //! | `input`, `out`, `errors`, `left` | the lines behind it fill standard input, what must be out, what must be told of faults, what the file must hold that is made |
 //! | `discarded` | as `left`, of a file that is made and must be discarded in the end |
 //! | `text TEXT`, `piece TEXT` | a line with its line end, a text without |
@@ -24,6 +24,11 @@
 //! | `status N` | the status that must be answered |
 //! | `half-told` | what is told of faults can't be written whole |
 //! | `line-fails N` | of the calls that lines make the one of this number fails, from 1; 0: no lines can be had |
+//! | `comes` | one datagram more that comes on the line of a station, which the lines behind it fill |
+//! | `pause` | before the next datagram a receive finds nothing once |
+//! | `sent` | as below, of the line that the command `station` has |
+//! | `each-call-fails N` | all is done again, once for each of the first N calls of that line, which fails: it must be told, the recording must have its end, and on the line must be what it says |
+//! | `each-byte-fails` | all is done again, once for each byte of `left`, at which the writer fails: that must be told, and the bytes before it must be left, and on the line just what their whole entries say |
 //!
 //! A case may be of a station at a line over memory, in the place of the program. The file `script`
 //! says which stations there are. `out` is what the calls must answer, a line each, and behind them
@@ -33,7 +38,6 @@
 //! | Line | What it says |
 //! |---|---|
 //! | `station N` | the case is of the station of this number, from 0 |
-//! | `comes` | one datagram more that comes on the line, which the lines behind it fill |
 //! | `sent` | the lines behind it fill what must be on the line: a text of hex digits for each datagram |
 //! | `line-fails N` | the call of this line that fails, from 1 |
 //! | `serve NOW TURNS`, `issue NOW`, `nudge NOW` | the next call; orders are issued as the moves of the script come |
@@ -47,6 +51,7 @@
 #![tactic(auto)]
 
 mod done;
+mod failing;
 mod shelf;
 mod trial;
 

@@ -3,11 +3,11 @@
 ghost use Rattle.std.specs.Prelude.{◌≡◌, ◌∷◌, [], ◌++◌};
 ghost use Rattle.siman_cases.specs.Done.{deed_of, deeds_of};
 
-use crate::done::{Done, failure, letters, number};
+use crate::done::{Done, endpoints, failure, had, letters, number};
 use http_server::Log;
-use siman_console::Outside;
-use siman_fixtures::{Calls, File, Given, Written, found, read_from, write_to};
-use siman_trials::{WireLine, lines_of};
+use siman_console::{Endpoint, Outside};
+use siman_fixtures::{Calls, File, Given, StationCase, Written, found, read_from, write_to};
+use siman_trials::{WireLine, line_with, lines_of};
 use std::alloc::Global;
 use std::io;
 use std::io::ErrorKind;
@@ -22,6 +22,10 @@ pub(crate) struct Shelf<'a> {
     makes: Calls,
     /// The number of the call that fails, from 1, of those that lines make; 0: no lines can be had.
     line_fails: Option<u64>,
+    /// What comes on the line of a station.
+    at_line: &'a StationCase,
+    /// The line of a station's peer.
+    peer: Option<WireLine>,
     /// The file that was opened last.
     opened: Option<&'a File>,
     pub(crate) asked: String,
@@ -33,12 +37,13 @@ pub(crate) struct Shelf<'a> {
 }
 
 /// A shelf with these files, of which nothing was asked so far.
-pub(crate) fn filled(
+pub(crate) fn filled<'a>(
     alloc: Global,
-    files: &[File],
+    files: &'a [File],
     makes: Calls,
     line_fails: Option<u64>,
-) -> Shelf<'_>
+    at_line: &'a StationCase,
+) -> Shelf<'a>
     ensures { deeds_of result.done ≡ [] }
 {
     Shelf {
@@ -46,6 +51,8 @@ pub(crate) fn filled(
         files,
         makes,
         line_fails,
+        at_line,
+        peer: None,
         opened: None,
         asked: String::new(alloc),
         done: Log::new(),
@@ -98,12 +105,37 @@ impl<'a> Shelf<'a> {
         }
     }
 
+    /// What the station sent on its line.
+    pub(crate) fn sent(&self, alloc: Global) -> io::Result<Vec<Vec<u8>>> {
+        match &self.peer {
+            Some(peer) => Ok(peer.heard(alloc)?),
+            None => Ok(Vec::new(alloc)),
+        }
+    }
+
     /// The lines of so many stations, where they can be had.
     fn have_lines(&self, alloc: Global, stations: usize) -> io::Result<Vec<WireLine>> {
         if self.line_fails == Some(0) {
             return Err(io::Error::from(ErrorKind::Other));
         }
         Ok(lines_of(alloc, stations, self.line_fails)?)
+    }
+
+    /// The line of a station, where it can be had. That of its peer is kept.
+    fn have_line(&mut self, alloc: Global) -> io::Result<WireLine>
+        ensures { deeds_of self.new.done ≡ deeds_of self.old.done }
+    {
+        if self.line_fails == Some(0) {
+            return Err(io::Error::from(ErrorKind::Other));
+        }
+        let StationCase { coming, pauses, .. } = self.at_line;
+        match line_with(alloc, coming, pauses, self.line_fails)? {
+            Some((own, peer)) => {
+                self.peer = Some(peer);
+                Ok(own)
+            }
+            None => Err(io::Error::from(ErrorKind::Other)),
+        }
     }
 }
 
@@ -181,6 +213,18 @@ impl<'a> Outside for Shelf<'a> {
     fn lines(&mut self, alloc: Global, stations: usize) -> io::Result<Vec<WireLine>> {
         let answer = self.have_lines(alloc, stations);
         self.note(Done::Lined(stations, number(&answer)));
+        answer
+    }
+
+    fn line_at(
+        &mut self,
+        alloc: Global,
+        bind: Endpoint,
+        peers: &[Endpoint],
+        anyone: bool,
+    ) -> io::Result<WireLine> {
+        let answer = self.have_line(alloc);
+        self.note(Done::Bound(bind, endpoints(peers), anyone, had(&answer)));
         answer
     }
 }

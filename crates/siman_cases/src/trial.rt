@@ -7,11 +7,14 @@ ghost use Rattle.siman_cases.specs.Done.{deeds_of, untold};
 ghost use Rattle.siman_lines.specs.AtLines.{Telling};
 ghost use Rattle.siman_trials.specs.declared.wire.WireLine.{WireLine};
 
+use crate::failing::try_failing;
 use crate::shelf::{Shelf, filled};
 use siman_agreement::compare_case;
 use siman_console::{Ended, run};
-use siman_fixtures::{Case, Line, Stream, Written, begin_case, read_from, read_line, write_to};
-use siman_trials::{compare, try_at_line};
+use siman_fixtures::{
+    Calls, Case, Line, Stream, Written, begin_case, read_from, read_line, write_to,
+};
+use siman_trials::{compare, sent_text, try_at_line};
 use std::alloc::Global;
 use std::io;
 use std::io::Write;
@@ -41,19 +44,25 @@ fn words(alloc: Global, case: &Case) -> io::Result<Vec<String>> {
 
 /// What a run left.
 #[derive(Drop)]
-struct Outcome<'a> {
-    ended: Ended,
-    shelf: Shelf<'a>,
+pub(crate) struct Outcome<'a> {
+    pub(crate) ended: Ended,
+    pub(crate) shelf: Shelf<'a>,
     out: Written,
-    errors: Written,
+    pub(crate) errors: Written,
 }
 
-/// Runs the program on a case. What was done on the shelf is what the program does on some words, in
+/// Runs the program on a case, where the calls of the file that is made go so, and this call of those
+/// that lines make fails. What was done on the shelf is what the program does on some words, in
 /// that order, and nothing else.
-fn run_case(alloc: Global, case: &Case) -> Outcome<'_>
+pub(crate) fn run_case(
+    alloc: Global,
+    case: &Case,
+    makes: Calls,
+    line_fails: Option<u64>,
+) -> Outcome<'_>
     ensures { (told : Telling WireLine) × (words : Result (List (List ℕ)) ErrorKind) × EndsProgram told words (deeds_of result.shelf.done) None (record { ended = result.ended; out = untold; errors = untold }) }
 {
-    let mut shelf = filled(alloc, &case.files, case.left.calls, case.at_line.fails_at);
+    let mut shelf = filled(alloc, &case.files, makes, line_fails, &case.at_line);
     let mut out = write_to(alloc, case.out.calls);
     let mut errors = write_to(alloc, case.errors.calls);
     let input = read_from(&case.input.bytes, case.input.calls);
@@ -108,8 +117,24 @@ fn compare_files<W: Write>(case: &Case, shelf: &Shelf<'_>, out: &mut W) -> io::R
     Ok(asked && left && dropped)
 }
 
+/// Prints what is on the line of a station, where it is otherwise.
+fn compare_sent<W: Write>(
+    alloc: Global,
+    case: &Case,
+    shelf: &Shelf<'_>,
+    out: &mut W,
+) -> io::Result<bool> {
+    let sent = sent_text(alloc, &shelf.sent(alloc)?)?;
+    compare(&case.name, "sent", sent.as_bytes(), &case.at_line.sent, out)
+}
+
 /// Prints what a run left otherwise than its case wants; whether nothing is otherwise.
-fn compare_all<W: Write>(case: &Case, left: &Outcome<'_>, out: &mut W) -> io::Result<bool> {
+fn compare_all<W: Write>(
+    alloc: Global,
+    case: &Case,
+    left: &Outcome<'_>,
+    out: &mut W,
+) -> io::Result<bool> {
     let (name, status, half) = (&case.name, left.ended.status, left.ended.written.is_err());
     let ended = status == case.status && half == case.half_told;
     if !ended {
@@ -118,7 +143,8 @@ fn compare_all<W: Write>(case: &Case, left: &Outcome<'_>, out: &mut W) -> io::Re
     let answered = compare(name, "out", &left.out.bytes, &case.out.bytes, out)?;
     let told = compare(name, "errors", &left.errors.bytes, &case.errors.bytes, out)?;
     let files = compare_files(case, &left.shelf, out)?;
-    Ok(ended && answered && told && files)
+    let sent = compare_sent(alloc, case, &left.shelf, out)?;
+    Ok(ended && answered && told && files && sent)
 }
 
 /// Runs the program on a case, and prints what is otherwise: whether nothing is, and the file that
@@ -131,11 +157,11 @@ fn try_case<W: Write>(
     if let Some(station) = case.at_line.station {
         return Ok((try_at_line(alloc, case, station, out)?, None));
     }
-    let left = run_case(alloc, case);
-    let good = compare_all(case, &left, out);
+    let left = run_case(alloc, case, case.left.calls, case.at_line.fails_at);
+    let good = compare_all(alloc, case, &left, out)? && try_failing(alloc, case, out)?;
     let Outcome { shelf, .. } = left;
     let Shelf { left, .. } = shelf;
-    Ok((good?, left))
+    Ok((good, left))
 }
 
 impl Tally {

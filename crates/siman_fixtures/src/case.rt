@@ -245,6 +245,7 @@ impl Case {
             Line::Station(station) => self.at_line.station = Some(station),
             Line::LineFails(number) => self.at_line.fails_at = Some(number),
             Line::Call(call) => self.at_line.calls.push(call)?,
+            Line::Pause => self.at_line.pauses.push(self.at_line.coming.len())?,
             Line::EachCallFails(count) => self.at_line.each_call = count,
             Line::EachByteFails => self.at_line.each_byte = true,
         }

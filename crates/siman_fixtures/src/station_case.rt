@@ -28,6 +28,8 @@ pub struct StationCase {
     pub station: Option<u16>,
     /// What comes on the line.
     pub coming: Vec<Vec<u8>>,
+    /// Before which of them, by their numbers from 0, a receive finds nothing, once for each.
+    pub pauses: Vec<usize>,
     /// The number of the line's call that fails, from 1.
     pub fails_at: Option<u64>,
     pub calls: Vec<Call>,
@@ -44,6 +46,7 @@ pub fn nobody(alloc: Global) -> StationCase {
     StationCase {
         station: None,
         coming: Vec::new(alloc),
+        pauses: Vec::new(alloc),
         fails_at: None,
         calls: Vec::new(alloc),
         sent: Vec::new(alloc),

@@ -1,6 +1,6 @@
 //! Runs of the program on words, files in memory and standard input, where every call goes well.
 
-use siman_console::{Outside, run};
+use siman_console::{Endpoint, Outside, run};
 use siman_fixtures::{Given, WELL, Written, read_from, write_to};
 use siman_trials::{WireLine, lines_of};
 use std::alloc::Global;
@@ -69,6 +69,20 @@ impl<'a> Outside for Table<'a> {
 
     fn lines(&mut self, alloc: Global, stations: usize) -> io::Result<Vec<WireLine>> {
         Ok(lines_of(alloc, stations, None)?)
+    }
+
+    fn line_at(
+        &mut self,
+        alloc: Global,
+        _bind: Endpoint,
+        _peers: &[Endpoint],
+        _anyone: bool,
+    ) -> io::Result<WireLine> {
+        let mut lines = lines_of(alloc, 1, None)?;
+        match lines.pop() {
+            Some(line) => Ok(line),
+            None => Err(io::Error::from(ErrorKind::Other)),
+        }
     }
 }
 

@@ -8,6 +8,7 @@ mod conflicts;
 mod datagrams;
 mod load;
 mod machines;
+mod pictures;
 mod pieces;
 mod recordings;
 mod reviews;
@@ -16,6 +17,7 @@ mod stations;
 use crate::conflicts::{Contradicting, RING};
 use crate::datagrams::{COMMENT, Copying, Decoding, Encoding, Showing, pdu_of, to_encode};
 use crate::machines::{Beginning, CREATION, FIXED, Ordering, Taking, VARIABLE, manager, to_take};
+use crate::pictures::Drawing;
 use crate::pieces::{Adding, Bringing, Ending, to_add};
 use crate::recordings::{
     APART, Carrying, Checking, FetchingSteps, Pushing, Reading, ReadingSteps, Searching, Seeing,
@@ -42,6 +44,7 @@ pub fn put_library_calls<W: Write>(alloc: Global, out: &mut W) -> io::Result<()>
     put_call::<Checking, _, _>(alloc, "check", to_check(alloc), out)?;
     put_call::<Searching, _, _>(alloc, "audit", recording_of(alloc, &APART), out)?;
     put_call::<Reviewing, _, _>(alloc, "review_of", recording_of(alloc, &APART), out)?;
+    put_call::<Drawing, _, _>(alloc, "draw", recording_of(alloc, &APART), out)?;
     put_call::<Contradicting, _, _>(alloc, "lacks_of", recording_of(alloc, &RING), out)?;
     put_call::<ReadingSteps, _, _>(alloc, "read_certificate", Ok(()), out)?;
     put_call::<FetchingSteps, _, _>(alloc, "fetch_certificate", Ok(()), out)?;

@@ -13,5 +13,5 @@ mod wire;
 pub use network::record_on_network;
 pub use performed::{Halt, make_moves};
 pub use recorded::{ExerciseFault, Recorded, record_exercise};
-pub use station_trial::{compare, try_at_line};
-pub use wire::{WireLine, lines_of};
+pub use station_trial::{compare, sent_text, try_at_line};
+pub use wire::{WireLine, line_with, lines_of};

@@ -118,7 +118,7 @@ fn run_at_line(
 }
 
 /// What is on a line: each datagram in hex digits, with a line end.
-fn sent_text(alloc: Global, sent: &[Vec<u8>]) -> Result<String, AllocError> {
+pub fn sent_text(alloc: Global, sent: &[Vec<u8>]) -> Result<String, AllocError> {
     let mut text = String::new(alloc);
     for datagram in sent {
         let digits = hex::encode_upper(alloc, datagram.as_slice())?;

@@ -8,11 +8,11 @@ use std::alloc::{AllocError, Global};
 use std::cell::RefCell;
 use std::rc::Rc;
 
-/// A datagram, and the number of the line that it was handed to.
+/// A datagram, and the number of the line that it was handed to. `None`: a receive finds nothing.
 #[derive(Drop)]
 struct Sent {
     line: usize,
-    datagram: Vec<u8>,
+    datagram: Option<Vec<u8>>,
 }
 
 /// What was sent on the network, the oldest first.
@@ -74,8 +74,17 @@ impl Wire {
 
     /// Takes what a line is handed.
     fn take(&mut self, line: usize, datagram: &[u8]) -> Result<(), AllocError> {
-        let datagram = Vec::from_slice(self.alloc, datagram)?;
+        let datagram = Some(Vec::from_slice(self.alloc, datagram)?);
         self.sent.push(Sent { line, datagram })?;
+        Ok(())
+    }
+
+    /// A receive of another line than this finds nothing once.
+    fn pause(&mut self, line: usize) -> Result<(), AllocError> {
+        self.sent.push(Sent {
+            line,
+            datagram: None,
+        })?;
         Ok(())
     }
 
@@ -132,9 +141,64 @@ impl WireLine {
         let Some(next) = wire.sent.get(place) else {
             return Ok(None);
         };
-        let taken = next.datagram.len().min(buffer.len());
-        buffer[..taken].copy_from_slice(&next.datagram[..taken]);
+        let Some(datagram) = &next.datagram else {
+            return Ok(None);
+        };
+        let taken = datagram.len().min(buffer.len());
+        buffer[..taken].copy_from_slice(&datagram[..taken]);
         Ok(Some(taken))
+    }
+
+    /// Puts what is to come on the other lines on the network, and counts no call. As often as these
+    /// pauses have the number of a datagram, from 0, their receives find nothing before it.
+    fn begin_with(&self, coming: &[Vec<u8>], pauses: &[usize]) -> Result<(), AllocError> {
+        let Ok(mut wire) = self.wire.try_borrow_mut() else {
+            return Ok(());
+        };
+        for (number, datagram) in coming.iter().enumerate() {
+            for pause in pauses {
+                if *pause == number {
+                    wire.pause(self.line)?;
+                }
+            }
+            wire.take(self.line, datagram)?;
+        }
+        Ok(())
+    }
+
+    /// What the other lines of the network were handed so far.
+    pub fn heard(&self, alloc: Global) -> Result<Vec<Vec<u8>>, AllocError> {
+        let mut heard = Vec::new(alloc);
+        let Ok(wire) = self.wire.try_borrow_mut() else {
+            return Ok(heard);
+        };
+        for sent in &wire.sent {
+            if let Some(datagram) = &sent.datagram
+                && sent.line != self.line
+            {
+                heard.push(Vec::from_slice(alloc, datagram)?)?;
+            }
+        }
+        Ok(heard)
+    }
+}
+
+/// The line of a station on which these datagrams come, and that of its peer, which sent them. Of the
+/// calls of both this one fails. As often as these pauses have the number of a datagram, from 0, a
+/// receive finds nothing before it.
+pub fn line_with(
+    alloc: Global,
+    coming: &[Vec<u8>],
+    pauses: &[usize],
+    fails_at: Option<u64>,
+) -> Result<Option<(WireLine, WireLine)>, AllocError> {
+    let mut lines = lines_of(alloc, 2, fails_at)?;
+    match (lines.pop(), lines.pop()) {
+        (Some(peer), Some(own)) => {
+            peer.begin_with(coming, pauses)?;
+            Ok(Some((own, peer)))
+        }
+        _ => Ok(None),
     }
 }
 

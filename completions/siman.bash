@@ -26,11 +26,11 @@ _siman() {
     current=${words[-1]%.}
     COMPREPLY=()
     if ((${#words[@]} == 2)); then
-        _siman_words 'pdu pdus show check audit world live convert mend join review log why chart help --help --version'
+        _siman_words 'pdu pdus show check audit world live station convert mend join review log why chart help --help --version'
         return
     fi
     case ${words[1]}:$((${#words[@]} - 3)) in
-        help:0) _siman_words 'pdu pdus show check audit world live convert mend join review log why chart help' ;;
+        help:0) _siman_words 'pdu pdus show check audit world live station convert mend join review log why chart help' ;;
         show:0) _siman_files dsrc ;;
         check:0) _siman_files dsrc ;;
         check:1) _siman_files dsct ;;
@@ -40,6 +40,9 @@ _siman() {
         world:1) _siman_files dsrc ;;
         live:0) _siman_files script ;;
         live:1) _siman_files dsrc ;;
+        station:0) _siman_files script ;;
+        station:2) _siman_files dsrc ;;
+        station:*) _siman_words 'from=any' ;;
         convert:0) _siman_files dsrc ;;
         convert:1) _siman_files dsrc ;;
         mend:0) _siman_files dsrc ;;

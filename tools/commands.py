@@ -15,6 +15,7 @@ TOP = Path(__file__).resolve().parent.parent
 OFTEN = {"Once": "{}", "AtMostOnce": "[{}]", "OnceOrMore": "{} ..", "AnyTimes": "[{} ..]"}
 BEHIND = {
     "Pieces": [r"[form=open\|form=closed]"], "View": ["[--json]"], "PerhapsTwo": ["[--json]"],
+    "Station": ["[from=any]"],
     "Picture": ["[from=STEP]", "[to=STEP]"],  # in the place of the word STEP
 }  # fmt: skip
 TABLE = TOP / "crates" / "siman_words" / "src" / "commands.rt"

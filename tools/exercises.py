@@ -4,8 +4,8 @@
     python3 tools/exercises.py [EXERCISE ..] [--program PROGRAM]
     python3 tools/exercises.py --write
 
-An exercise is a folder of examples/ with a script, a recorder or two machines, and with the report, the review and the
-picture of its recording. The recording is made anew in a temporary folder; then `audit` has to find an order, what
+An exercise is a folder of examples/ with a script, a recorder or two machines, in Python or played by the program, and
+with the report, the review and the picture of its recording. The recording is made anew in a temporary folder; then `audit` has to find an order, what
 `check` and `review` print has to be report.txt and review.txt, and what `chart` draws picture.svg. All are compared,
 too, with what tools/pages computes of the recording, which knows nothing of the program. So are the pictures that the
 pages show: docs/losses.svg is that of examples/losses.dsrc, docs/staff/first.svg that of examples/first. --write makes
@@ -71,6 +71,14 @@ def piece_of_machines(machine, folder):
     return names
 
 
+def pieces_of(program, exercise, folder):
+    """The pieces of an exercise on two machines."""
+    if (exercise / "machine.py").is_file():
+        return piece_of_machines(exercise / "machine.py", folder)
+    run("sh", exercise / "run", folder / "made", program)
+    return [folder / "made" / "manager.dsrc", folder / "made" / "simulator.dsrc"]
+
+
 def made_recording(program, exercise, folder):
     """The recording of an exercise, made anew, and the lines that its making has to print with those that it prints."""
     recording, script = folder / "exercise.dsrc", exercise / "exercise.script"
@@ -79,7 +87,7 @@ def made_recording(program, exercise, folder):
         return recording, [("world", told.out, line), ("what world writes", text, recording.read_bytes())]
     if (exercise / "recorder.py").is_file():
         return recording, [("its recorder", b"", run(sys.executable, exercise / "recorder.py", recording))]
-    compared, names = [], piece_of_machines(exercise / "machine.py", folder)
+    compared, names = [], pieces_of(program, exercise, folder)
     for name in names:
         order = run(program, "audit", name, folder / "piece.dsct")
         compared.append((f"audit of {name.name}", pages.answer_to_audit(name.read_bytes()).out, order))
@@ -133,7 +141,7 @@ def compared_losses(program, folder, is_written):
 
 def main():
     given = arguments()
-    makers = ("exercise.script", "recorder.py", "machine.py")
+    makers = ("exercise.script", "recorder.py", "machine.py", "run")
     names = given.exercises or sorted({path.parent.name for maker in makers for path in EXAMPLES.glob(f"*/{maker}")})
     tried = wrong = 0
     for name in [*names, *([] if given.exercises else ["losses.dsrc"])]:

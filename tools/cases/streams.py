@@ -1,5 +1,7 @@
 """Files that cannot be opened or read, and standard streams that are full, closed or not read."""
 import os
+import pty
+from pathlib import Path
 
 import pages
 from cases import texts
@@ -126,6 +128,16 @@ def try_streams(trials, examples):
     trials.expect(["show", "/dev/null"], pages.fault("recording: truncated at 0"))
 
 
+def try_terminal(trials):
+    """No words where standard input is a terminal: no script is read, and nobody is waited for."""
+    trials.terminal = pty.openpty()
+    wrong = "no command is named, and standard input is a terminal: a script is read from a file or a pipe"
+    usage = f"error: {wrong}\n\nUsage: {Path(trials.program).name} [COMMAND]\n\nFor more information, try '--help'.\n"
+    behind = f"<{os.ttyname(trials.terminal[1])}"
+    trials.expect([], Outcome(2, b"", usage.encode()), behind=behind)
+    trials.expect(["show", "examples"], pages.fault("file: examples: is a directory"), behind=behind)
+
+
 def try_pipes(trials, examples):
     """Standard output that is a pipe whose reader has gone, before the program writes or after the first byte."""
 
@@ -150,3 +162,4 @@ def try_all(trials, examples):
     try_unreadable(trials, examples)
     try_streams(trials, examples)
     try_pipes(trials, examples)
+    try_terminal(trials)

@@ -70,6 +70,8 @@ WORDS = (
     (["audit", "--help"], b"", False),
     (["world", "REC", "-x"], b"", False),
     (["live", "-x", "made"], b"", False),
+    (["station", "REC", "1:1", "made", "127.0.0.1:1"], b"", False),
+    (["station", "REC", "1:1", "made", "127.0.0.1:1", "-x"], b"", False),
     (["--help"], b"", False),
     (["--version"], b"", False),
     (["-h", "--"], b"", False),

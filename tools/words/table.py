@@ -92,6 +92,7 @@ def program():
         words = [Word(string(word), often != "Once", string(what)) for word, often, what in parts]
         example = example.removeprefix("Example:").strip()
         found.append(Command(name, usage, about, answer[name], example, words, choices_of(usage, words)))
-    statuses, _, trial = constant(text, "STATUSES").partition("\n\nExamples:\n")
+    texts = (commands.TABLE.parent / "usage.rt").read_text(encoding="utf-8")
+    statuses, _, trial = constant(texts, "STATUSES").partition("\n\nExamples:\n")
     told = [line.split(maxsplit=1) for line in statuses.splitlines()[1:]]
-    return Program(constant(text, "VERSION"), constant(text, "ABOUT"), told, trial.strip(), found)
+    return Program(constant(texts, "VERSION"), constant(texts, "ABOUT"), told, trial.strip(), found)

@@ -1,0 +1,250 @@
+"""`station` from outside: its words and faults, its streams, its socket, what it hears, memory that is refused to it, and
+calls of the system that fail."""
+import os
+import socket
+import sys
+
+import pages
+from cases import texts
+from cases.memory import LATER, refusing_library
+from cases.played import Player, bound, free_address, word_of
+from cases.sockets import FAILING, NO_FILTER
+from cases.trials import Case, Some, Verdict
+from pages import CREATE, SENT, START, Outcome, Post, read_recording
+
+SETUP = b"""exercise 4
+station 1:1 first=1 tries=3 wait=10
+station 2:3
+opening 2:3 7 stopped
+tick 1:1
+"""
+OWN, MANAGER = (2, 3), (1, 1, 0)
+COUNTS = b"station records=0 dropped=0 strangers=0\n"
+
+
+def order(number, kind=CREATE, entity=9):
+    return texts.pdu(kind, MANAGER, (*OWN, entity), exercise=4, request=number)
+
+
+class Station:
+    """A process of the station 2:3 with one peer, which is here."""
+
+    def __init__(self, trials, name, *more, peer=None, own=None, **how):
+        (trials.folder / f"{name}.script").write_bytes(SETUP)
+        self.peer, self.own = peer or bound(), own or free_address()
+        words = (f"{name}.script", OWN, f"{name}.dsrc", self.own, [self.peer.getsockname()], *more)
+        self.player = Player(trials.program, trials.folder, *words, **how)
+        self.is_up = self.player.is_up()
+
+    def hears(self, *datagrams):
+        for datagram in datagrams:
+            self.peer.sendto(datagram, self.own)
+
+    def ends(self):
+        """Its outcome, and what its file holds, if there is one."""
+        outcome = self.player.close()
+        path = self.player.recording
+        return outcome, path.read_bytes() if path.exists() else None
+
+    def sent(self):
+        """What came at the peer."""
+        self.peer.setblocking(False)
+        came = []
+        try:
+            while True:
+                came.append(self.peer.recv(65536))
+        except BlockingIOError:
+            self.peer.close()
+            return came
+
+
+def try_words(trials):
+    """The faults before the first line, in their order: each case has all those that come behind its own, too."""
+    setup = trials.file(SETUP)
+    stands = trials.file(b"x")
+    taken = bound()
+    many = trials.file(SETUP.replace(b"tick 1:1\n", b"") + b"".join(b"opening 2:3 %d running\n" % number for number in range(8, 4105)))
+    here, there, busy = word_of(free_address()), word_of(free_address()), word_of(taken.getsockname())
+    trials.keeps = [taken]
+    for words, fault in [
+        (["none", "1:1:1", stands, "x", "y"], "station: address 1:1:1"),
+        (["none", "0:1", stands, "x", "y"], "station: address 0:1"),
+        (["none", "2:4", stands, "127.0.0.1", "y"], "station: address 127.0.0.1"),
+        (["none", "2:4", stands, busy, there, "127.0.0.256:1", "z"], "station: address 127.0.0.256:1"),
+        (["none", "2:4", stands, busy, "from=any", there], "station: address from=any"),
+        (["none", "2:4", stands, busy, there], "file: none: no such file"),
+        ([trials.file(b"exercise 1\n"), "2:4", stands, busy, there], "script: bad-line at line 2"),
+        (["examples", "2:4", stands, busy, there], "file: examples: is a directory"),
+        ([many, "2:4", stands, busy, there], "station: not-in-setup"),
+        ([many, "2:3", stands, busy, there], "world: stations"),
+        ([setup, "2:3", stands, busy, there], "output: exists"),
+        ([setup, "2:3", setup, busy, there], "output: exists"),
+        ([setup, "2:3", "none/there.dsrc", busy, there], "live: line"),
+        ([setup, "2:3", "none/there.dsrc", "192.0.2.1:3000", there], "live: line"),
+        ([setup, "2:3", "none/there.dsrc", here, there], "output: write"),
+    ]:
+        trials.expect(["station", *words], pages.fault(fault), given=b"tell 2:3 7\n")
+    for words in ([], [setup], [setup, "2:3", "new", here], [setup, "2:3", "new", here, "from=any"], [setup, "2:3", "new", here, there, "-x"]):
+        trials.expect(["station", *words], Outcome(2, b"", Some()))
+    trials.expect(["station", setup, "2:3", "/dev/null", here, there], Outcome(0, COUNTS, b""))
+    trials.expect(["station", setup, "2:3", "/dev/full", there, here], Outcome(2, b"", b"output: write\n"))
+
+
+def try_streams(trials):
+    """Where nothing can be printed it goes on recording; a closed standard input is one that cannot be read."""
+    setup, there = trials.file(SETUP), word_of(free_address())
+    for number, (behind, given, status, out, errors, count) in enumerate([
+        (">/dev/full", b"tell 2:3 7\ntell 2:3 8\n", 2, b"", b"output: write\n", 2),
+        (">&-", b"tell 2:3 7\ntell 2:3 8\n", 2, b"", b"output: write\n", 2),
+        ("<&-", b"", 2, COUNTS, b"file: -\n", 0),
+        ("2>/dev/full", b"bad\ntell 2:3 7\n", 2, b"0 told 0 7 stopped\n" + COUNTS.replace(b"0", b"1", 1), b"", 1),
+    ]):  # fmt: skip
+        name = f"streams.{number}.dsrc"
+        words = ["station", setup, "2:3", name, word_of(free_address()), there]
+        case = Case(words, (Outcome(status, out, errors),), given, behind=behind)
+        trials.tasks.append(lambda case=case, name=name, count=count: [
+            trials.verdict(case), Verdict(f"the entries of {name}", (count,), len(entries_of(trials, name))),
+        ])  # fmt: skip
+
+
+def entries_of(trials, name):
+    return read_recording((trials.folder / name).read_bytes()).entries
+
+
+def try_heard(trials):
+    """What comes from an address that is no peer is dropped and counted, unless anyone is heard; and what is broadcast."""
+
+    def tried():
+        verdicts = []
+        for more in ([], ["from=any"]):
+            station = Station(trials, f"heard.{len(more)}", *more)
+            stranger, post = bound(), Post(SETUP, OWN)
+            for number in range(100):
+                stranger.sendto(order(number), station.own)
+                post.strangers += not more
+                if more:
+                    post.hear(order(number))
+            station.hears(order(1000))
+            post.hear(order(1000))
+            # A receive passes over 64 strangers, and then finds nothing: what came behind them comes after the next line.
+            station.player.say(b"", b"", b"tell 2:3 7")
+            for line in (b"", b"", b"tell 2:3 7"):
+                post.take(line)
+            outcome, left = station.ends()
+            stranger.close()
+            verdicts.append(Verdict(f"a station among strangers, with {more}", (post.outcome(),), outcome))
+            verdicts.append(Verdict(f"what it recorded, with {more}", (post.text(),), left))
+            verdicts.append(Verdict(f"what it sent, with {more}", (post.sent,), station.sent()))
+        return verdicts
+
+    trials.tasks.append(tried)
+
+
+def try_broadcast(trials):
+    """It sends to a broadcast address, and hears what is broadcast where it is bound to all interfaces."""
+
+    def tried():
+        own, other = ("0.0.0.0", free_address()[1]), bound(("0.0.0.0", free_address()[1]))
+        other.setsockopt(socket.SOL_SOCKET, socket.SO_BROADCAST, 1)
+        (trials.folder / "broadcast.script").write_bytes(SETUP)
+        all_of_net = ("127.255.255.255", other.getsockname()[1])
+        player = Player(trials.program, trials.folder, "broadcast.script", OWN, "broadcast.dsrc", own, [all_of_net], "from=any")
+        is_up, post = player.is_up(), Post(SETUP, OWN)
+        other.sendto(order(5), ("127.255.255.255", own[1]))
+        post.hear(order(5))
+        player.say(b"", b"tell 2:3 9")
+        post.take(b"tell 2:3 9")
+        outcome = player.close()
+        other.settimeout(5)
+        came = other.recv(65536)
+        other.close()
+        return [
+            Verdict("a station that broadcasts is up", (True,), is_up),
+            Verdict("a station that hears what is broadcast", (post.outcome(),), outcome),
+            Verdict("what it broadcast", (post.sent,), [came]),
+        ]
+
+    trials.tasks.append(tried)
+
+
+def try_calls(trials):
+    """A send or a receive that fails is told, and it goes on: the entry stands, and its recording is whole."""
+    for call, lines, told, sends in (
+        ("sendto", [b"create 2:3 1:1:4", b"tell 2:3 7"], "line 1: live: line\n", 0),
+        ("recvfrom", [b"create 2:3 1:1:4", b"tell 2:3 7"], "line 1: live: line\nline 2: live: line\n", 1),
+    ):
+
+        def tried(call=call, lines=lines, told=told, sends=sends):
+            before = [sys.executable, FAILING, call, "-", "EPERM"]
+            station, post = Station(trials, f"failing.{call}", before=before), Post(SETUP, OWN)
+            for line in lines:
+                post.take(line)
+            station.player.say(*lines)
+            outcome, left = station.ends()
+            if outcome.status == NO_FILTER:
+                trials.skipped.append(f"calls of a station that fail ({call}): no filter of calls")
+                return []
+            usual = post.outcome()
+            return [
+                Verdict(f"station where each {call} fails", (Outcome(2, usual.out, told.encode()),), outcome),
+                Verdict(f"what it recorded where each {call} fails", (post.text(),), left),
+                Verdict(f"what it sent where each {call} fails", (sends,), len(station.sent())),
+            ]
+
+        trials.tasks.append(tried)
+
+
+def try_memory(trials):
+    """Memory refused at each allocation in turn: `memory` is told, status 3, and it goes on; no file is there, or a whole
+    recording, which some order explains and in which stands all that was sent."""
+    library = refusing_library(trials)
+    if library is None:
+        return
+    for alone in (True, False):
+        trials.tasks.append(lambda alone=alone: refused(trials, library, alone))
+
+
+def refused(trials, library, alone):
+    verdicts = []
+    for first in range(1, 2000):
+        last, name = first if alone else LATER, f"refused.{alone}.{first}"
+        reader, writer = os.pipe()
+        refuse = {"REFUSE_FIRST": str(first), "REFUSE_LAST": str(last), "REFUSE_MARK": str(writer)}
+        environment = {**os.environ, "LD_PRELOAD": str(library), **refuse}
+        station = Station(trials, name, env=environment, pass_fds=[writer])
+        os.close(writer)
+        station.hears(order(1), order(2, START), order(1))
+        station.player.say(b"", b"create 2:3 1:1:4", b"at 20", b"tick 2:3", b"tell 2:3 9", b"")
+        outcome, left = station.ends()
+        is_refused = os.read(reader, 1) != b""
+        os.close(reader)
+        is_right = is_usual(outcome, left) or is_refused and is_as_refused(outcome, left, station.sent())
+        which = f"allocation {first}{'' if alone else ' and all later'} refused"
+        verdicts.append(Verdict(f"station, {which}", (True,), is_right))
+        if not is_refused:
+            return verdicts
+    return [*verdicts, Verdict("the allocations of station", ("fewer than 2000",), "more")]
+
+
+def is_usual(outcome, left):
+    """Whether a station did all that it was to do: some refusals it gets over."""
+    return outcome.status == 0 and not outcome.errors and len(read_recording(left).entries) == 9
+
+
+def is_as_refused(outcome, left, sent):
+    """Whether a station that was refused memory tells that, and left what it must."""
+    told = outcome.status == 3 and set(outcome.errors.splitlines()) == {b"memory"}
+    if left is None:
+        return told and not sent
+    recording = read_recording(left)
+    recorded = [entry.datagram for entry in recording.entries if entry.kind == SENT]
+    return told and recorded == sent and pages.answer_to_audit(left).status == 0
+
+
+def try_all(trials, _):
+    try_words(trials)
+    try_streams(trials)
+    try_heard(trials)
+    try_broadcast(trials)
+    try_calls(trials)
+    try_memory(trials)

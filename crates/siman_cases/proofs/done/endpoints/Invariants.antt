@@ -4,4 +4,4 @@ use Rattle.siman_cases.specs.Done.{endpoints_of}
 use Rattle.siman_cases.proofs.done.endpoints.Given as goal
 
 abbrev pub invariant-loop-peer : goal.invariant-loop-peer
-invariant-loop-peer l = endpoints_of l.endpoints ≡ take l.peer-index l.peer-items
+invariant-loop-peer l = endpoints_of l.endpoints ≡ take l.peer-index l.peers

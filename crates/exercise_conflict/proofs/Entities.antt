@@ -17,7 +17,7 @@ use Rattle.exercise_model.specs.Cause.{same_state}
 use Rattle.exercise_model.specs.Place.{event_at, own_event, log_before}
 use Rattle.exercise_model.specs.Account.{changed_by, change_at}
 use Rattle.exercise_model.proofs.Offered.{log_before-more, log_before-none}
-use Rattle.exercise_review.specs.Life.{state_before}
+use Rattle.exercise_findings.specs.State.{state_before}
 use Rattle.exercise_conflict.specs.Since.{made_since, HasOneState, Made}
 
 -- what an entry of a station changes, by the entry alone

@@ -14,7 +14,7 @@ use Rattle.exercise_model.specs.Place.{first_below, log_before}
 use Rattle.exercise_model.specs.Run.{Explains, Contains}
 use Rattle.exercise_model.proofs.Offered.{length-past, log_before-all, past_within}
 use Rattle.exercise_findings.proofs.Offered.{bytes_same}
-use Rattle.exercise_review.specs.Missing.{gets_bytes, missing_at}
+use Rattle.exercise_findings.specs.Missing.{gets_bytes, missing_at}
 use Rattle.exercise_conflict.specs.declared.lacks.Lack.{Lack}
 use Rattle.exercise_conflict.specs.Lacks.{lack_by, lack_at, lacks_below, lacks_of}
 use Rattle.exercise_conflict.specs.Needed.{HasSend}

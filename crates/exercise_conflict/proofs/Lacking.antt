@@ -21,8 +21,8 @@ use Rattle.exercise_model.specs.Account.{sender_of}
 use Rattle.exercise_model.proofs.Offered.{explained_holds, log_at-append, log_before-all, sender_found, first_found}
 use Rattle.exercise_findings.specs.Source.{sends_here, first_send, source_of_pdu, source_of}
 use Rattle.exercise_findings.proofs.Offered.{bytes_same, source_here}
-use Rattle.exercise_review.specs.declared.missing.Missing.{Missing}
-use Rattle.exercise_review.specs.Missing.{is_first_receipt, place_of, missing_from, missing_pdu, missing_entry, missing_at}
+use Rattle.exercise_findings.specs.declared.missing.Missing.{Missing}
+use Rattle.exercise_findings.specs.Missing.{is_first_receipt, place_of, missing_from, missing_pdu, missing_entry, missing_at}
 use Rattle.exercise_conflict.specs.Wider.{anything, IsWider}
 use Rattle.exercise_conflict.specs.Needed.{HasSend, IsNeeded}
 use Rattle.exercise_conflict.proofs.Places.{later_place, own_here, in_log}

@@ -31,7 +31,7 @@ use Rattle.exercise_model.proofs.Offered.{first_found}
 use Rattle.exercise_findings.specs.Tables.{event_own_cause, own_cause}
 use Rattle.exercise_findings.specs.Source.{first_send, source_of_pdu, source_of}
 use Rattle.exercise_findings.proofs.Offered.{source_here}
-use Rattle.exercise_review.specs.Life.{state_before}
+use Rattle.exercise_findings.specs.State.{state_before}
 use Rattle.exercise_conflict.specs.declared.field.Field.{Field}
 use Rattle.exercise_conflict.specs.declared.field.Field.TheVariants as fields
 use Rattle.exercise_conflict.specs.declared.clash.Clash.TheVariants as clashes

@@ -14,7 +14,7 @@ use Rattle.exercise_model.specs.Place.{event_at, own_event, log_before, first_be
 use Rattle.exercise_model.proofs.Offered.{log_before-more}
 use Rattle.exercise_findings.specs.Column.{IsColumn}
 use Rattle.exercise_check.proofs.Offered.{replaced}
-use Rattle.exercise_review.specs.Life.{state_before}
+use Rattle.exercise_findings.specs.State.{state_before}
 use Rattle.exercise_conflict.specs.declared.own.Own.{Own}
 use Rattle.exercise_conflict.specs.Own.{LeavesOutNone, IsFollowerFrom, AreOwnFrom}
 use Rattle.exercise_conflict.specs.Since.{made_since}

@@ -20,7 +20,7 @@ use Rattle.exercise_model.specs.Cause.{first_cause, tell_rows, is_hopeless, is_i
 use Rattle.exercise_model.specs.Place.{own_event, log_before, first_below, brings_request, entry_taken_up}
 use Rattle.exercise_model.specs.Run.{IsRun, Explains, Contains, IsBeginning, IsStuck}
 use Rattle.exercise_model.proofs.Offered.{beginning_length, first_found, get_where_sent, log_at-append, log_before-all, log_before-beginning, log_before-more, log_before-next, log_before-none, same_beginnings}
-use Rattle.exercise_review.specs.Missing.{place_of}
+use Rattle.exercise_findings.specs.Missing.{place_of}
 use Rattle.exercise_conflict.specs.declared.lacks.Lack.{Lack}
 use Rattle.exercise_conflict.specs.declared.repaired.Slot.{Slot}
 use Rattle.exercise_conflict.specs.Further.{bytes_at, sends_lack, sends_missing, HasMissingSends}

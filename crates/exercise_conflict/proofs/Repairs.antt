@@ -22,8 +22,8 @@ use Rattle.exercise_model.specs.Run.{Explains}
 use Rattle.exercise_model.specs.Account.{sender_of}
 use Rattle.exercise_model.proofs.Offered.{all_at, first_found, log_at-append, log_before-all, log_before-more, log_before-none, past-append}
 use Rattle.exercise_findings.proofs.Offered.{entry_within}
-use Rattle.exercise_review.specs.declared.missing.Missing.{Missing}
-use Rattle.exercise_review.specs.Missing.{missing_at}
+use Rattle.exercise_findings.specs.declared.missing.Missing.{Missing}
+use Rattle.exercise_findings.specs.Missing.{missing_at}
 use Rattle.exercise_conflict.specs.declared.lacks.Lack.{Lack}
 use Rattle.exercise_conflict.specs.declared.repaired.Slot.{Slot}
 use Rattle.exercise_conflict.specs.Lacks.{lack_by, lack_at, lacks_below, lacks_of}

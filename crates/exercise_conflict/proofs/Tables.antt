@@ -21,7 +21,7 @@ use Rattle.exercise_model.specs.Place.{event_at, own_event, first_below, brings_
 use Rattle.exercise_model.proofs.Offered.{first_found}
 use Rattle.exercise_findings.specs.Source.{source_of_bytes, source_of}
 use Rattle.exercise_findings.proofs.Offered.{source_here, same_first, no_first}
-use Rattle.exercise_review.specs.Missing.{got_bytes, gets_bytes, missing_entry, missing_at}
+use Rattle.exercise_findings.specs.Missing.{got_bytes, gets_bytes, missing_entry, missing_at}
 use Rattle.exercise_conflict.specs.declared.asks.Ask.{Ask}
 use Rattle.exercise_conflict.specs.declared.receipts.Datagram.{Datagram}
 use Rattle.exercise_conflict.specs.Clash.{meant_by_get, got_pdu}

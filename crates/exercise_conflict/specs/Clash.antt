@@ -26,7 +26,7 @@ use Rattle.exercise_model.specs.Place.{own_event, first_below, entry_taken_up}
 use Rattle.exercise_model.specs.Account.{pair_of_sent, sender_of}
 use Rattle.exercise_findings.specs.Source.{source_of}
 use Rattle.exercise_findings.specs.Tables.{own_cause}
-use Rattle.exercise_review.specs.Life.{state_before}
+use Rattle.exercise_findings.specs.State.{state_before}
 use Rattle.exercise_conflict.specs.declared.field.Field.{Field}
 use Rattle.exercise_conflict.specs.declared.field.Field.TheVariants as fields
 use Rattle.exercise_conflict.specs.declared.clash.Clash.{Clash}

@@ -8,7 +8,7 @@ use Rattle.exercise_model.specs.Entry.{Received, Told}
 use Rattle.exercise_model.specs.Recording.{PlainRecording}
 use Rattle.exercise_model.specs.Meaning.{meaning}
 use Rattle.exercise_model.specs.Account.{sender_of}
-use Rattle.exercise_review.specs.Life.{state_before}
+use Rattle.exercise_findings.specs.State.{state_before}
 use Rattle.exercise_conflict.specs.declared.field.Field.{Field}
 use Rattle.exercise_conflict.specs.declared.clash.Clash.TheVariants as clashes
 use Rattle.exercise_conflict.specs.declared.clash.Unfit.{Unfit}

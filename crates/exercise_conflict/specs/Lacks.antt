@@ -14,8 +14,8 @@ use Rattle.exercise_model.specs.History.{station_at}
 use Rattle.exercise_model.specs.Meaning.{meaning}
 use Rattle.exercise_model.specs.Place.{first_below}
 use Rattle.exercise_findings.specs.Source.{source_of_bytes}
-use Rattle.exercise_review.specs.Missing.{gets_bytes, missing_at}
-use Rattle.exercise_review.specs.declared.missing.Missing.{Missing}
+use Rattle.exercise_findings.specs.Missing.{gets_bytes, missing_at}
+use Rattle.exercise_findings.specs.declared.missing.Missing.{Missing}
 use Rattle.exercise_conflict.specs.declared.asks.Ask.{Ask}
 use Rattle.exercise_conflict.specs.declared.lacks.Lack.{Lack}
 use Rattle.exercise_conflict.specs.declared.receipts.Datagram.{Datagram}

@@ -4,7 +4,7 @@ use Rattle.exercise_model.specs.Entry.{Received}
 use Rattle.exercise_model.specs.Recording.{PlainRecording}
 use Rattle.exercise_model.specs.History.{Send, History, log_of}
 use Rattle.exercise_model.specs.Run.{Contains}
-use Rattle.exercise_review.specs.declared.missing.Missing.{Missing}
+use Rattle.exercise_findings.specs.declared.missing.Missing.{Missing}
 
 -- the log of station t has a send of these bytes
 abbrev pub HasSend : PlainRecording → ℕ → List ℕ → Type 0

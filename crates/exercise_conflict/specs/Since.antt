@@ -4,7 +4,7 @@ use Rattle.exercise_model.specs.declared.state.Change.{Change}
 use Rattle.exercise_model.specs.Recording.{PlainRecording}
 use Rattle.exercise_model.specs.Cause.{same_state}
 use Rattle.exercise_model.specs.Account.{change_at}
-use Rattle.exercise_review.specs.Life.{state_before}
+use Rattle.exercise_findings.specs.State.{state_before}
 
 -- THE CHANGE THAT MADE A STATE: the last entry before entry n that left entity e of station s in another state than it had; none where it has that of the start
 unfoldable pub made_since : PlainRecording → ℕ → ℕ → ℕ → Option ℕ

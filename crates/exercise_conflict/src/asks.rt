@@ -3,7 +3,7 @@
 ghost use Rattle.std.specs.Prelude.{◌≡◌, ◌+◌, length, None, IfOk, OnOk};
 ghost use Rattle.indexmap.specs.IndexMap.{get};
 ghost use Rattle.siman_pdus.specs.Reading.{pdu_of};
-ghost use Rattle.exercise_review.specs.Missing.{place_of};
+ghost use Rattle.exercise_findings.specs.Missing.{place_of};
 ghost use Rattle.exercise_conflict.specs.declared.asks.Ask.{Ask};
 ghost use Rattle.exercise_conflict.specs.Lacks.{same_ask, ask_of, ask_at, AreAsks};
 

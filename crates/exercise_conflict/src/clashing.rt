@@ -5,7 +5,7 @@ ghost use Rattle.siman_pdus.specs.Answers.{matches_kind};
 ghost use Rattle.siman_pdus.specs.Reading.{pdu_of};
 ghost use Rattle.exercise_model.specs.Account.{pair_of_sent};
 ghost use Rattle.exercise_model.specs.Station.{is_entity};
-ghost use Rattle.exercise_review.specs.Life.{state_before};
+ghost use Rattle.exercise_findings.specs.State.{state_before};
 ghost use Rattle.exercise_conflict.specs.Clash.{reused_at, unfit_of, wrong_at, hopeless_for, impossible_at, clash_sent, clash_got, clash_told, clash_of};
 ghost use Rattle.exercise_conflict.specs.Earlier.{IsSentAt};
 

@@ -5,15 +5,14 @@ ghost use Rattle.std.specs.Option.{option_to_list};
 ghost use Rattle.siman_pdus.specs.Reading.{pdu_of};
 ghost use Rattle.exercise_model.specs.Meaning.{meaning};
 ghost use Rattle.exercise_model.specs.Recording.{IsRecording};
-ghost use Rattle.exercise_review.specs.Missing.{place_of, missing_pdu, missing_at};
+ghost use Rattle.exercise_findings.specs.Missing.{place_of, missing_pdu, missing_at};
 ghost use Rattle.exercise_conflict.specs.Lacks.{AreAsks, AreReceipts, lack_by, lacks_of};
 
 use crate::asks::{Asks, asks_of, place_of};
 use crate::near::sender_of;
 use crate::receipts::{Receipts, no_receipts, note_receipt};
-use exercise_findings::Findings;
+use exercise_findings::{Findings, Missing};
 use exercise_model::{EntryView, ExerciseLog, is_answer, meaning_view};
-use exercise_review::Missing;
 use siman_pdus::PduView;
 use std::alloc::{AllocError, Global};
 
@@ -28,7 +27,7 @@ pub struct Lack {
 
 /// Where the send of a PDU belongs in the log of a station. Only for an answer it is asked where requests
 /// were received, which is looked up once.
-#[tactic(auto, unfolding(exercise_review::specs::Missing::place_of))]
+#[tactic(auto, unfolding(exercise_findings::specs::Missing::place_of))]
 fn place_in<L: ExerciseLog>(
     alloc: Global,
     findings: &Findings<'_, L>,
@@ -90,7 +89,7 @@ fn missing_bytes<L: ExerciseLog>(
 }
 
 /// The send that is missing by the next entry, which is noted where it receives what no log sends.
-#[tactic(auto, unfolding(exercise_review::specs::Missing::missing_at))]
+#[tactic(auto, unfolding(exercise_findings::specs::Missing::missing_at))]
 fn missing_next<'a, L: ExerciseLog>(
     alloc: Global,
     findings: &Findings<'a, L>,

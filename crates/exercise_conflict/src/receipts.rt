@@ -7,7 +7,7 @@ ghost use Rattle.std.proofs.Common.{ap};
 ghost use Rattle.indexmap.specs.IndexMap.{get, IsUnchanged};
 ghost use Rattle.exercise_findings.specs.Sent.{Receives};
 ghost use Rattle.exercise_findings.specs.Source.{source_of_bytes};
-ghost use Rattle.exercise_review.specs.Missing.{is_first_receipt};
+ghost use Rattle.exercise_findings.specs.Missing.{is_first_receipt};
 ghost use Rattle.exercise_conflict.specs.declared.receipts.Datagram.{Datagram};
 ghost use Rattle.exercise_conflict.specs.Lacks.{same_datagram, AreReceipts};
 ghost use borrow.Author.Rules.{rules};

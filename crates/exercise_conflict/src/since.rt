@@ -6,7 +6,7 @@ ghost use Rattle.exercise_model.specs.History.{station_at};
 ghost use Rattle.exercise_model.specs.State.{change_made, changed};
 ghost use Rattle.exercise_model.specs.Cause.{same_state};
 ghost use Rattle.exercise_model.specs.Place.{log_before, own_event};
-ghost use Rattle.exercise_review.specs.Life.{state_before};
+ghost use Rattle.exercise_findings.specs.State.{state_before};
 ghost use Rattle.exercise_conflict.specs.Since.{made_since};
 
 use crate::logs::Logs;

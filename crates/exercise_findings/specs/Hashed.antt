@@ -1,4 +1,4 @@
--- What a hasher is fed of a key and of an identifier: whole words of 64 bits, since it takes a word at a time and else byte after byte (profile).
+-- What a hasher is fed of a key and of an identifier: whole words of 64 bits, since it takes a word at a time and else byte after byte; of a key neither its role nor its response, in which three keys differ at most (profile).
 use Rattle.std.specs.Prelude.{ℕ, ◌+◌, ◌*◌, ◌++◌}
 use Rattle.std.specs.Hash.{HashWrites, u64}
 use Rattle.exercise_findings.specs.declared.key.Key.{Key}
@@ -9,7 +9,7 @@ abbrev pub word : (high middle low : ℕ) → ℕ
 word high middle low = high * 0x100000000 + middle * 0x10000 + low
 
 abbrev pub key_fed : Key → HashWrites
-key_fed k = u64 (word k.role k.response k.station) ++ (u64 (word k.request k.site k.application) ++ u64 (word k.entity k.flag 0))
+key_fed k = u64 (word k.request k.site k.application) ++ u64 (word k.flag k.entity k.station)
 
 abbrev pub identifier_fed : Identifier → HashWrites
 identifier_fed k = u64 (word k.request k.station 0)

@@ -8,8 +8,10 @@ pub mod Requests
 pub mod Decided
 pub mod Hashed
 pub mod Source
+pub mod Missing
 pub mod Senders
 pub mod Earlier
+pub mod State
 pub mod States
 pub mod Tables
 pub mod Account

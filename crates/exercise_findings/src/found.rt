@@ -22,7 +22,7 @@ use crate::change::is_change;
 use crate::exchange::taken_up;
 use crate::key::{Key, received_key, sent_key};
 use crate::requests::{Requests, note_request};
-use crate::sender::sender_of;
+use crate::sender::{Places, sender_of};
 use crate::state::change_by;
 use crate::tables::Tables;
 use exercise_model::{Cause, Change, ExerciseLog, is_from, meaning_view};
@@ -123,7 +123,12 @@ fn found_sent<L: ExerciseLog>(
 }
 
 /// What a PDU is found to be that a station receives.
-fn found_received<L: ExerciseLog>(log: &L, station: u16, pdu: &PduView<'_>) -> Found
+fn found_received<L: ExerciseLog>(
+    log: &L,
+    places: &Places,
+    station: u16,
+    pdu: &PduView<'_>,
+) -> Found
     requires { station < length (L.recording log.now).setting.stations }
     ensures cause { (b : List ℕ) → result.cause ≡ get_cause (L.recording log.now).setting [] b (pdu_of pdu.now) }
     ensures pair { result.pair ≡ None }
@@ -134,7 +139,7 @@ fn found_received<L: ExerciseLog>(log: &L, station: u16, pdu: &PduView<'_>) -> F
     ensures other { result.other ≡ false }
 {
     let address = log.station(usize::from(station)).address();
-    let sender = sender_of(log, pdu);
+    let sender = sender_of(log, places, pdu);
     Found {
         key: received_key(station, address, pdu),
         behind: key_behind(sender, pdu),
@@ -173,6 +178,7 @@ pub(crate) fn find_sent<L: ExerciseLog>(
 /// What an entry of a log is found to be, by which a station receives a datagram.
 pub(crate) fn find_received<L: ExerciseLog>(
     log: &L,
+    places: &Places,
     entry: usize,
     station: u16,
     bytes: &[u8],
@@ -182,7 +188,7 @@ pub(crate) fn find_received<L: ExerciseLog>(
     ensures { IsFound (L.recording log.now) entry result }
 {
     match meaning_view(log.exercise(), bytes) {
-        Some(pdu) => found_received(log, station, &pdu),
+        Some(pdu) => found_received(log, places, station, &pdu),
         None => found_other(),
     }
 }

@@ -35,15 +35,16 @@ pub(crate) struct Key {
     pub entity: u16,
 }
 
+// Role and response are not hashed: the three keys that differ in nothing else are mostly looked up
+// one after the other, and stand together so.
 impl Hash for Key {
     ghost hash_input = { key_fed };
 
     ghost respects_eq = { λ k l same. ap key_fed ((key_decides k l).0 same) };
 
     fn hash<H: Hasher>(&self, state: &mut H) {
-        state.write_u64(word(u32::from(self.role), self.response, self.station));
         state.write_u64(word(self.request, self.site, self.application));
-        state.write_u64(word(u32::from(self.entity), self.flag, 0));
+        state.write_u64(word(u32::from(self.flag), self.entity, self.station));
     }
 }
 

@@ -5,8 +5,8 @@
 //! place; and the [`Account`] of the whole recording. Each station's log is read alone, and logs are
 //! joined by equal bytes alone: it knows neither certificates nor an order between stations, so no
 //! certificate can change what it says. Its tables lie over the bytes of the log, under keys that
-//! strangers may have chosen. [`replace`] is an inner door to the crates above, which keep columns
-//! of their own.
+//! strangers may have chosen. [`Missing`] names a send that a log lacks, for the crates above, which look
+//! for it; [`replace`] is an inner door to them, since they keep columns of their own.
 #![tactic(auto)]
 
 mod account;
@@ -23,6 +23,7 @@ mod found;
 mod hashed;
 mod key;
 mod made;
+mod missing;
 mod number;
 mod pass;
 mod requests;
@@ -36,3 +37,4 @@ mod tables;
 pub use account::Account;
 pub use column::replace;
 pub use findings::Findings;
+pub use missing::Missing;

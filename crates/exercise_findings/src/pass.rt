@@ -13,6 +13,7 @@ use crate::earlier::{Looks, all_earlier, earlier_so_far, settle_source};
 use crate::found::{find_received, find_sent};
 use crate::number::{NO_ENTRY, entry_number};
 use crate::requests::{Requests, no_requests};
+use crate::sender::{Places, places_of};
 use crate::senders::{Hints, Senders, no_hints, no_senders, note_sender};
 use crate::tables::{Tables, no_tables, note_key, note_tables};
 use dis_records::EntityState;
@@ -25,6 +26,8 @@ const MANY: usize = 16;
 /// What a pass found so far.
 #[derive(Drop)]
 pub(crate) struct Pass<'a> {
+    /// Where the stations stand.
+    pub places: Places,
     /// What is kept of the entries.
     pub tables: Tables,
     /// The first cause that its station's log has against each entry.
@@ -76,7 +79,9 @@ fn nothing_found<'a, L: ExerciseLog>(alloc: Global, log: &'a L) -> Result<Pass<'
     let changes = Vec::with_capacity(alloc, entries)?;
     let earlier = Vec::with_capacity(alloc, entries)?;
     let tables = no_tables(alloc, log)?;
+    let places = places_of(alloc, log)?;
     Ok(Pass {
+        places,
         tables,
         causes,
         changes,
@@ -143,7 +148,7 @@ fn keep_received<L: ExerciseLog>(
     requires found { IsPass (L.recording log.now) entry found.old }
     ensures { OnOk result (IsPass (L.recording log.now) (entry + 1) found.new) }
 {
-    let here = find_received(log, entry, station, bytes);
+    let here = find_received(log, &found.places, entry, station, bytes);
     found.causes.push(here.cause)?;
     found.changes.push(here.change)?;
     let earlier = earlier_so_far(&found.senders, &mut found.looks, log, entry, bytes);
@@ -235,6 +240,7 @@ fn with_all_sources<'a, L: ExerciseLog>(log: &L, pass: Pass<'_>, hints: Hints) -
         ables,
         senders,
         others,
+        ..
     } = pass;
     let mut hints = hints;
     Passed {

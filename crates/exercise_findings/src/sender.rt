@@ -1,15 +1,76 @@
 //! Which recorded station a PDU comes from.
 
-ghost use Rattle.std.specs.Prelude.{◌≡◌, is_some};
+ghost use Rattle.std.specs.Prelude.{◌≡◌, is_some, Some, IfSome};
 ghost use Rattle.siman_pdus.specs.Reading.{pdu_of};
 ghost use Rattle.exercise_model.specs.Account.{sender_of};
 ghost use Rattle.exercise_model.specs.Setting.{is_recorded};
 
 use exercise_model::{ExerciseLog, is_from};
-use siman_pdus::PduView;
+use siman_pdus::{Message, PduView};
+use std::alloc::{AllocError, Global};
 
-/// The recorded station that a PDU comes from.
-pub(crate) fn sender_of<L: ExerciseLog>(log: &L, pdu: &PduView<'_>) -> Option<u16>
+/// Where a station stands among the stations, under so many of its address. What is found is the same
+/// whatever stands here.
+pub(crate) type Places = Vec<u16>;
+
+/// How many places are kept.
+const PLACES: usize = 1024;
+
+/// The number under which the place of the station at an address is kept.
+fn number_of(site: u16, application: u16) -> usize {
+    (usize::from(site) * 64 + usize::from(application)) % PLACES
+}
+
+/// Keeps the place of a station under a number.
+fn keep_place(places: &mut Places, number: usize, station: u16) {
+    if number < places.len() {
+        places[number] = station;
+    }
+}
+
+/// The places of the stations of a log.
+pub(crate) fn places_of<L: ExerciseLog>(alloc: Global, log: &L) -> Result<Places, AllocError> {
+    let mut places = vec![in alloc; 0; PLACES]?;
+    for station in 0..log.station_count() {
+        let address = log.station(station).address();
+        let number = number_of(address.site(), address.application());
+        keep_place(&mut places, number, station as u16);
+    }
+    Ok(places)
+}
+
+/// The recorded station that a PDU comes from, where it stands at the place that is kept.
+fn sender_at_place<L: ExerciseLog>(log: &L, places: &Places, pdu: &PduView<'_>) -> Option<u16>
+    ensures { IfSome result (λ station. sender_of (L.recording log.now) (pdu_of pdu.now) ≡ Some station) }
+{
+    let origin = pdu.origin();
+    let Some(place) = places.get(number_of(origin.site, origin.application)) else {
+        return None;
+    };
+    let station = *place;
+    if usize::from(station) >= log.station_count() {
+        return None;
+    }
+    if is_from(log.station(usize::from(station)).address(), pdu) {
+        Some(station)
+    } else {
+        None
+    }
+}
+
+/// The recorded station that a PDU comes from, looked for where its place is kept first.
+pub(crate) fn sender_of<L: ExerciseLog>(log: &L, places: &Places, pdu: &PduView<'_>) -> Option<u16>
+    ensures sender { result ≡ sender_of (L.recording log.now) (pdu_of pdu.now) }
+    ensures recorded { is_some result ≡ is_recorded (L.recording log.now).setting (pdu_of pdu.now) }
+{
+    match sender_at_place(log, places, pdu) {
+        Some(station) => Some(station),
+        None => sender_among(log, pdu),
+    }
+}
+
+/// The recorded station that a PDU comes from, looked for among all.
+fn sender_among<L: ExerciseLog>(log: &L, pdu: &PduView<'_>) -> Option<u16>
     ensures sender { result ≡ sender_of (L.recording log.now) (pdu_of pdu.now) }
     ensures recorded { is_some result ≡ is_recorded (L.recording log.now).setting (pdu_of pdu.now) }
 {

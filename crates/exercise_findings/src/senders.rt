@@ -112,16 +112,32 @@ pub(crate) fn latest_source(senders: &Senders<'_>, datagram: &[u8]) -> Option<u3
     }
 }
 
-/// Where the next datagram of a sender is looked for first, under so many of its address: behind the
-/// last one that was found. What is found is the same whatever stands here.
-pub(crate) type Hints = Vec<usize>;
+/// Where the next datagram of a sender is looked for first. What is found is the same whatever stands
+/// here.
+#[derive(Clone, Copy)]
+pub(crate) struct Hint {
+    /// Where the last one was found.
+    pub place: usize,
+    /// How far from there the next is looked for.
+    pub step: usize,
+    /// How far the last one was from the one before it.
+    pub way: usize,
+}
+
+/// The hints, under so many of the sender's address.
+pub(crate) type Hints = Vec<Hint>;
 
 /// How many hints there are.
 const HINTS: usize = 256;
 
 /// Nothing was found so far.
 pub(crate) fn no_hints(alloc: Global) -> Result<Hints, AllocError> {
-    vec![in alloc; 0; HINTS]
+    let nothing = Hint {
+        place: 0,
+        step: 1,
+        way: 1,
+    };
+    vec![in alloc; nothing; HINTS]
 }
 
 /// The number of the hint for a datagram, by where it says that it comes from.
@@ -134,23 +150,36 @@ fn hint_of(datagram: &[u8]) -> usize {
     }
 }
 
-/// Keeps that a datagram of this hint was found at a place.
-fn keep_hint(hints: &mut Hints, hint: usize, place: usize) {
-    if hint < hints.len() {
-        hints[hint] = place.saturating_add(1);
+/// The place where a hint leads.
+fn place_of(hints: &Hints, number: usize) -> usize {
+    match hints.get(number) {
+        Some(hint) => hint.place.wrapping_add(hint.step),
+        None => 0,
     }
 }
 
-/// As [`first_source`], looked for first behind the last datagram of the same sender: stations mostly
-/// receive what one sent in the order in which it was sent.
+/// What is kept once a datagram was found at a place: the next is looked for as far from there as this
+/// one and the one before it were from those before them, where both were as far.
+fn moved(hint: Hint, place: usize) -> Hint {
+    let way = place.wrapping_sub(hint.place);
+    let step = if way == hint.way { way } else { hint.step };
+    Hint { place, step, way }
+}
+
+/// Keeps that a datagram of this hint was found at a place.
+fn keep_hint(hints: &mut Hints, number: usize, place: usize) {
+    if number < hints.len() {
+        hints[number] = moved(hints[number], place);
+    }
+}
+
+/// As [`first_source`], looked for first where the hint of its sender leads: stations mostly receive
+/// what one sent in the order in which it was sent, or each so much of it.
 pub(crate) fn next_source(senders: &Senders<'_>, hints: &mut Hints, datagram: &[u8]) -> Option<u32>
     ensures { (r : PlainRecording) (n : ℕ) → AreSenders r n senders.now → result ≡ first_source r datagram.now n }
 {
     let hint = hint_of(datagram);
-    let place = match hints.get(hint) {
-        Some(place) => *place,
-        None => 0,
-    };
+    let place = place_of(hints, hint);
     if let Some(source) = kept_at(senders, place, datagram) {
         keep_hint(hints, hint, place);
         return Some(source);

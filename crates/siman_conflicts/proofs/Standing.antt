@@ -24,8 +24,8 @@ use Rattle.exercise_model.proofs.Offered.{IsFirst, first_found, entry_station}
 use Rattle.exercise_findings.specs.Source.{source_of}
 use Rattle.exercise_findings.specs.Tables.{own_cause}
 use Rattle.exercise_check.specs.Judging.{is_never_sent}
-use Rattle.exercise_review.specs.declared.missing.Missing.{Missing}
-use Rattle.exercise_review.specs.Missing.{is_first_receipt, missing_from, missing_pdu, missing_entry, missing_at}
+use Rattle.exercise_findings.specs.declared.missing.Missing.{Missing}
+use Rattle.exercise_findings.specs.Missing.{is_first_receipt, missing_from, missing_pdu, missing_entry, missing_at}
 use Rattle.exercise_check.specs.declared.certificate.Step.{Step}
 use Rattle.exercise_audit.specs.declared.blocks.Block.{Block}
 use Rattle.exercise_audit.specs.Audit.{AreBlocks, IsBlocked}

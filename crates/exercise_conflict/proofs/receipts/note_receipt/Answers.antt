@@ -1,7 +1,7 @@
 use Rattle.std.proofs.Common.{ap, ◌∙◌}
 use Rattle.std.specs.Prelude.{nat_eq, unwrap_or}
 use Rattle.exercise_model.specs.Recording.{PlainRecording}
-use Rattle.exercise_review.specs.Missing.{gets_bytes}
+use Rattle.exercise_findings.specs.Missing.{gets_bytes}
 use Rattle.exercise_conflict.specs.declared.receipts.Datagram.{Datagram}
 use Rattle.exercise_conflict.proofs.Tables.{receipts_more, kept_first}
 use Rattle.exercise_conflict.proofs.receipts.note_receipt.Goals as goal

@@ -4,7 +4,7 @@ use Rattle.exercise_model.specs.Station.{StationData, is_entity, listed_state}
 use Rattle.exercise_model.specs.History.{station_at}
 use Rattle.std.specs.Option.{option_map_or}
 use Rattle.exercise_model.specs.State.{changed}
-use Rattle.exercise_review.specs.Life.{state_before}
+use Rattle.exercise_findings.specs.State.{state_before}
 use Rattle.exercise_conflict.specs.Since.{made_since}
 use Rattle.exercise_conflict.proofs.Entities.{entity_none, entity_next, since_none, since_nowhere, since_alike, since_apart, state_nowhere, state_there}
 use Rattle.exercise_conflict.proofs.Owning.{state_skipped, since_skipped}

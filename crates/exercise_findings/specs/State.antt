@@ -1,0 +1,11 @@
+-- The state of an entity at a place of the log of its station (profile, over IEEE 1278.1-2012, 5.6.5).
+use Rattle.std.specs.Prelude.{ℕ}
+use Rattle.dis_records.specs.declared.entity_state.EntityState.{EntityState}
+use Rattle.exercise_model.specs.Recording.{PlainRecording}
+use Rattle.exercise_model.specs.History.{station_at}
+use Rattle.exercise_model.specs.State.{state_after}
+use Rattle.exercise_model.specs.Place.{log_before}
+
+-- the state of entity e of station s before entry n
+abbrev pub state_before : PlainRecording → ℕ → ℕ → ℕ → EntityState
+state_before r s e n = state_after r.setting.exercise (station_at r s) (log_before r s n) e

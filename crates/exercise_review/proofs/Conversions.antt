@@ -31,8 +31,9 @@ use Rattle.exercise_review.specs.Parties.{pair_numbered, outsider_at, addresses,
 use Rattle.exercise_review.specs.Reply.{is_reply, is_changing_reply, change_of_order, replies_in, has_reply_in, is_news}
 use Rattle.exercise_review.specs.Word.{word_at, settles_at, first_settling, telling}
 use Rattle.exercise_review.specs.Fate.{traces_of, fate_of}
-use Rattle.exercise_review.specs.Life.{state_before, stretch_of, lived_on, life_before, lives_of}
-use Rattle.exercise_review.specs.Missing.{gets_bytes, missing_at}
+use Rattle.exercise_findings.specs.State.{state_before}
+use Rattle.exercise_review.specs.Life.{stretch_of, lived_on, life_before, lives_of}
+use Rattle.exercise_findings.specs.Missing.{gets_bytes, missing_at}
 use Rattle.exercise_review.specs.Outcome.{stamp_at, outcome_here, outcome_outside, outcome_nowhere, outcome_at, outcomes_at, outcomes_of}
 use Rattle.exercise_review.specs.Review.{line_count, TellsReview, Reviews}
 use Rattle.exercise_review.specs.Room.{lists_below}

@@ -24,7 +24,8 @@ use Rattle.exercise_review.specs.declared.span.Made.{Made}
 use Rattle.exercise_review.specs.declared.span.Span.{Span}
 use Rattle.exercise_review.specs.declared.course.Own.{Own}
 use Rattle.exercise_review.specs.declared.course.Course.{Course}
-use Rattle.exercise_review.specs.Life.{state_before, LifeSoFar, stretch_of, lived_on, lives_of}
+use Rattle.exercise_findings.specs.State.{state_before}
+use Rattle.exercise_review.specs.Life.{LifeSoFar, stretch_of, lived_on, lives_of}
 use Rattle.exercise_review.specs.Room.{lists_below}
 use Rattle.exercise_review.specs.Span.{span_of, entity_at, entity_spans, own_change, made_of, made_at, changes_made, lived_by}
 use Rattle.exercise_review.specs.Course.{AreChanges, no_made, change_in, is_one, is_all, is_of, moves_all, IsNextIn, AreNextIn, AreOwn, IsCourse, IsStill, lived_in, lives_in}

@@ -9,7 +9,8 @@ use Rattle.exercise_model.specs.Station.{is_absent}
 use Rattle.exercise_model.specs.Recording.{PlainRecording}
 use Rattle.exercise_model.specs.Cause.{same_state}
 use Rattle.exercise_review.specs.declared.life.Stretch.{Stretch}
-use Rattle.exercise_review.specs.Life.{state_before, LifeSoFar, stretch_of, lived_on, life_before, lives_of, is_after, is_no_later, covers, states_at, if_there}
+use Rattle.exercise_findings.specs.State.{state_before}
+use Rattle.exercise_review.specs.Life.{LifeSoFar, stretch_of, lived_on, life_before, lives_of, is_after, is_no_later, covers, states_at, if_there}
 
 -- the states of two lists of stretches, one after the other
 states_at-append : (n : ℕ) (xs ys : List Stretch) → states_at n (xs ++ ys) ≡ states_at n xs ++ states_at n ys

@@ -15,7 +15,8 @@ use Rattle.exercise_model.specs.Place.{own_event, log_before}
 use Rattle.exercise_model.proofs.Offered.{log_before-more}
 use Rattle.exercise_review.specs.declared.life.Stretch.{Stretch}
 use Rattle.exercise_review.specs.declared.span.Made.{Made}
-use Rattle.exercise_review.specs.Life.{state_before, LifeSoFar, stretch_of, lived_on, life_before, lives_of}
+use Rattle.exercise_findings.specs.State.{state_before}
+use Rattle.exercise_review.specs.Life.{LifeSoFar, stretch_of, lived_on, life_before, lives_of}
 use Rattle.exercise_review.specs.Room.{lists_below}
 use Rattle.exercise_review.specs.Span.{own_change, made_of, made_at, changes_made, lived_by}
 use Rattle.exercise_review.proofs.Lists.{lists_more}

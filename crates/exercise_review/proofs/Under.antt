@@ -1,6 +1,6 @@
 -- All entries that have to do with an order at a station have the key of the station and of the order.
 use Rattle.std.proofs.Common.{◌≡◌, ℕ, List, Bool, true, false, cond, Option, Some, None, refl, sym, ap, ◌∙◌}
-use Rattle.std.specs.Prelude.{IfSome, nat_eq, ◌&&◌, slice_get, option_map, option_and_then, if◌then◌else◌}
+use Rattle.std.specs.Prelude.{IfSome, nat_eq, unwrap_or, ◌&&◌, slice_get, option_map, option_and_then, if◌then◌else◌}
 use Rattle.std.specs.Option.{option_map_or}
 use Rattle.std.proofs.lemmas.Bool.{eqb-true, eq-eqb, and_parts}
 use Rattle.dis_records.specs.Address.{Pair}
@@ -14,6 +14,7 @@ use Rattle.siman_pdus.specs.Role.{request_id_of, is_request_body, is_request_rol
 use Rattle.siman_pdus.specs.Same.{is_same_order}
 use Rattle.siman_pdus.specs.Spelling.{body_kind}
 use Rattle.siman_pdus.proofs.Offered.{order_decides}
+use Rattle.exercise_model.specs.declared.form.Form.{Form}
 use Rattle.exercise_model.specs.Entry.{Entry, Sent, Received, Told}
 use Rattle.exercise_model.specs.Recording.{PlainRecording}
 use Rattle.exercise_model.specs.Account.{pair_of}
@@ -21,7 +22,7 @@ use Rattle.exercise_model.specs.Meaning.{meaning}
 use Rattle.exercise_model.specs.Setting.{is_open}
 use Rattle.exercise_review.specs.Digest.{digest_of}
 use Rattle.exercise_review.specs.Entries.{bytes_sent_by, bytes_got_by, bytes_sent, bytes_got, sent_by, got_by}
-use Rattle.exercise_review.specs.Order.{OrderData, sends_order, gets_order, entry_gets, gets_anywhere, sends_under_id, is_first_under_id}
+use Rattle.exercise_review.specs.Order.{OrderData, sends_order, gets_order, entry_gets, gets_anywhere, is_outside, sends_under_id, is_first_under_id}
 use Rattle.exercise_review.specs.Party.{is_copy, is_told_from, tells_from}
 use Rattle.exercise_review.specs.Reply.{answers_order, is_reply, is_changing_reply, replies_in}
 use Rattle.exercise_review.specs.Word.{is_settling}
@@ -48,20 +49,20 @@ sent_keyed r s i q =
     of_entry (Received t stamp b) = λ h. absurd (cc)
     of_entry (Told t n y) = λ h. absurd (cc)
 
-got_keyed : (r : PlainRecording) (s i : ℕ) (q : Pdu) → got_by r s i ≡ Some q → key_at r i ≡ got_key s q
+got_keyed : (r : PlainRecording) (s i : ℕ) (q : Pdu) → got_by r s i ≡ Some q → key_at r i ≡ got_key r.setting.form s q
 unfolding got_by bytes_got key_at
 got_keyed r s i q =
     elim (slice_get r.entries i) as (λ o. option_and_then (meaning r.setting.exercise) (option_and_then (bytes_got_by s) o) ≡ Some q
-    → option_and_then (entry_key r i) o ≡ got_key s q) [
+    → option_and_then (entry_key r i) o ≡ got_key r.setting.form s q) [
       | None ↦ λ h. absurd (cc)
       | Some e ↦ of_entry e
     ]
   where
-    of_entry : (e : Entry) → option_and_then (meaning r.setting.exercise) (bytes_got_by s e) ≡ Some q → entry_key r i e ≡ got_key s q
+    of_entry : (e : Entry) → option_and_then (meaning r.setting.exercise) (bytes_got_by s e) ≡ Some q → entry_key r i e ≡ got_key r.setting.form s q
     of_entry (Sent t stamp b) = λ h. absurd (cc)
     of_entry (Received t stamp b) = elim (nat_eq t s) as (λ k. nat_eq t s ≡ k → option_and_then (meaning r.setting.exercise) (cond k (Some b) None) ≡ Some q
-        → option_and_then (got_key t) (meaning r.setting.exercise b) ≡ got_key s q) [
-          | true ↦ λ same h. ap (option_and_then (got_key t)) h ∙ ap (λ u. got_key u q) (eqb-true t s same)
+        → option_and_then (got_key r.setting.form t) (meaning r.setting.exercise b) ≡ got_key r.setting.form s q) [
+          | true ↦ λ same h. ap (option_and_then (got_key r.setting.form t)) h ∙ ap (λ u. got_key r.setting.form u q) (eqb-true t s same)
           | false ↦ λ _ h. absurd (cc)
         ] refl
     of_entry (Told t n y) = λ h. absurd (cc)
@@ -116,13 +117,15 @@ unfolding sent_key
 answer_key r s i q answers =
     ap (λ b. if b then order_key s q else option_and_then (order_key s) (option_and_then (got_by r s) (pair_of r i))) answers
 
-got_asked : (s : ℕ) (q : Pdu) → is_request_body q.body ≡ true → got_key s q ≡ order_key s q
+got_asked : (f : Form) (s : ℕ) (q : Pdu) → is_request_body q.body ≡ true → got_key f s q ≡ order_key s q
 unfolding got_key
-got_asked s q asks = ap (λ b. if b then order_key s q else id_key s q) asks
+got_asked f s q asks = ap (λ b. if b then order_key s q else (if is_open f then id_key s q else None)) asks
 
-got_answer : (s : ℕ) (q : Pdu) → is_request_body q.body ≡ false → got_key s q ≡ id_key s q
+got_answer : (f : Form) (s : ℕ) (q : Pdu) → is_open f ≡ true → is_request_body q.body ≡ false → got_key f s q ≡ id_key s q
 unfolding got_key
-got_answer s q answers = ap (λ b. if b then order_key s q else id_key s q) answers
+got_answer f s q is answers =
+    ap (λ b. if b then order_key s q else (if is_open f then id_key s q else None)) answers
+    ∙ ap (λ b. if b then id_key s q else None) is
 
 -- the same order has the same key, and is a request alike
 same_key : (s : ℕ) (p q : Pdu) → is_same_order p q ≡ true → order_key s p ≡ order_key s q
@@ -179,7 +182,7 @@ pub gets_under : (r : PlainRecording) (s : ℕ) (p : Pdu) → IfSome (order_key 
 unfolding gets_order
 gets_under r s p = if_key (order_key s p) (IsUnder r (gets_order r s p)) (λ k e i h.
     let q = there (is_same_order p) (got_by r s i) h in
-    has_it r i k (got_keyed r s i q.0 q.1 ∙ got_asked s q.0 (sym (same_asking p q.0 q.2) ∙ is_asking s k p e) ∙ sym (same_key s p q.0 q.2) ∙ e))
+    has_it r i k (got_keyed r s i q.0 q.1 ∙ got_asked r.setting.form s q.0 (sym (same_asking p q.0 q.2) ∙ is_asking s k p e) ∙ sym (same_key s p q.0 q.2) ∙ e))
 
 pub reply_has : (r : PlainRecording) (o : OrderData) (t k : ℕ) → order_key t o.request ≡ Some k → IsUnder r (is_reply r o t) k
 unfolding is_reply gets_order
@@ -207,14 +210,20 @@ unfolding replies_in
 in_bytes_under r o t b = if_key (order_key t o.request) (IsUnder r (replies_in r o t b)) (λ k e i h.
     reply_has r o t k e i (and_parts (is_reply r o t i) _ h).0)
 
+-- what comes from outside does so in an open recording
+from_open : (r : PlainRecording) (p : Pdu) → is_outside r p ≡ true → is_open r.setting.form ≡ true
+unfolding is_outside
+from_open r p h = (and_parts (is_open r.setting.form) _ h).0
+
 told_has : (r : PlainRecording) (o : OrderData) (a : Pair) (k : ℕ) (m : Option ℕ) → option_map_or (λ s. id_key s o.request) m (id_key 0 o.request) ≡ Some k
     → (i : ℕ) → option_map_or (tells_from r o a) (option_and_then (λ s. got_by r s i) m) false ≡ true → has_key r k i ≡ true
 told_has r o a k None e i h = absurd (cc)
 told_has r o a k (Some s) e i h =
     let q = there (tells_from r o a) (got_by r s i) h in
-    let answers = (and_parts (is_answer_to q.0 o.request) _ q.2).0 in
+    let parts = and_parts (is_answer_to q.0 o.request) _ q.2 in
+    let answers = parts.0 in
     has_it r i k (got_keyed r s i q.0 q.1
-    ∙ got_answer s q.0 (is_answering q.0 o.request answers)
+    ∙ got_answer r.setting.form s q.0 (from_open r q.0 (and_parts (is_outside r q.0) _ parts.1).0) (is_answering q.0 o.request answers)
     ∙ ap (option_map (number_under s)) (sym (answer_id q.0 o.request answers)) ∙ e)
 
 maker_is : (o : OrderData) (m : Option ℕ) → id_key (option_map_or (λ s. s) m 0) o.request ≡ option_map_or (λ s. id_key s o.request) m (id_key 0 o.request)
@@ -241,9 +250,16 @@ under_one keys f c all i passes =
     if_key (keys i) (λ k. (j : ℕ) → f j ≡ true → holds keys k j ≡ true)
     (λ k e j h. ap (λ o. option_map_or (λ l. nat_eq l k) o false) (all j h ∙ sym (all i passes) ∙ e) ∙ eq-eqb k k refl)
 
+-- a request has a key
+asked_digest : (s : ℕ) (p : Pdu) → is_request_body p.body ≡ true → order_key s p ≡ Some (digest_of s p)
+unfolding order_key
+asked_digest s p asks = ap (λ b. if b then Some (digest_of s p) else None) asks
+
 pub sends_first : (r : PlainRecording) (s i : ℕ) (p : Pdu) → is_request_body p.body ≡ true → sends_order r s p i ≡ true
-    → IfSome (key_at r i) (λ k. (j : ℕ) → sends_order r s p j ≡ true → has_key r k j ≡ true)
-sends_first r s i p asks = under_one (key_at r) (sends_order r s p) (order_key s p) (sends_keyed r s p asks) i
+    → (j : ℕ) → sends_order r s p j ≡ true → has_key r (unwrap_or (key_at r i) 0) j ≡ true
+sends_first r s i p asks passes j sends =
+    let key : key_at r i ≡ Some (digest_of s p) = sends_keyed r s p asks i passes ∙ asked_digest s p asks in
+    has_it r j (unwrap_or (key_at r i) 0) (sends_keyed r s p asks j sends ∙ asked_digest s p asks ∙ ap (λ (o : Option ℕ). Some (unwrap_or o 0)) (sym key))
 
 pub id_first : (r : PlainRecording) (s i : ℕ) (p : Pdu) → sends_under_id r s p i ≡ true
     → IfSome (second_at r i) (λ k. (j : ℕ) → sends_under_id r s p j ≡ true → holds (second_at r) k j ≡ true)

@@ -3,7 +3,7 @@ use Rattle.std.specs.Prelude.{◌≡◌, ℕ}
 use Rattle.exercise_model.specs.Recording.{PlainRecording}
 use Rattle.exercise_model.specs.Account.{others_of}
 use Rattle.exercise_review.specs.Order.{head_of}
-use Rattle.exercise_review.specs.Missing.{missing_at}
+use Rattle.exercise_findings.specs.Missing.{missing_at}
 use Rattle.exercise_review.specs.Review.{line_count}
 use Rattle.exercise_review.specs.Span.{all_spans}
 use Rattle.exercise_review.specs.Tally.{station_counts}

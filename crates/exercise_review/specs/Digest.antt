@@ -1,5 +1,5 @@
 -- Digests of requests: what is the same order at one station has one digest (profile).
-use Rattle.std.specs.Prelude.{ℕ, ◌+◌, ◌-◌, ◌*◌, List, length, take, fold, slice_get, unwrap_or}
+use Rattle.std.specs.Prelude.{ℕ, ◌+◌, ◌-◌, ◌*◌, List, [], ◌∷◌, Option, Some, None, length, take, fold, slice_get, unwrap_or}
 use Rattle.std.specs.Hash.{u64}
 use Rattle.std.specs.Hash.DefaultHasher.{initial, write, finish}
 use Rattle.std.specs.declared.hash.DefaultHasher.{DefaultHasher}
@@ -29,15 +29,19 @@ abbrev pub fixed_fed : DefaultHasher → FixedDatum → DefaultHasher
 fixed_fed h d = fed h d.id d.value
 
 -- the last byte of a value, if it has one
-abbrev pub last_of : Datum → ℕ
-last_of d = unwrap_or (slice_get d.bytes (length d.bytes - 1)) 0
+abbrev pub last_of : Datum → Option ℕ
+last_of d = slice_get d.bytes (length d.bytes - 1)
+
+abbrev pub last_fed : DefaultHasher → Option ℕ → DefaultHasher
+last_fed h None = h
+last_fed h (Some b) = write h (b ∷ [])
 
 -- the bytes before it
 abbrev pub front_of : Datum → List ℕ
 front_of d = take (length d.bytes - 1) d.bytes
 
 abbrev pub variable_fed : DefaultHasher → Datum → DefaultHasher
-variable_fed h d = fed (write (fed h d.id d.bits) (front_of d)) 0 (last_of d)
+variable_fed h d = last_fed (write (fed h d.id d.bits) (front_of d)) (last_of d)
 
 abbrev pub datums_fed : DefaultHasher → DatumLists → DefaultHasher
 datums_fed h d = fold variable_fed (fold fixed_fed (fed h (length d.fixed) (length d.variable)) d.fixed) d.variable

@@ -13,7 +13,6 @@ pub mod Word
 pub mod Fate
 pub mod Outcome
 pub mod Life
-pub mod Missing
 pub mod InRuns
 pub mod Answering
 pub mod Carried

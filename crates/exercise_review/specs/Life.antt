@@ -3,16 +3,10 @@ use Rattle.std.specs.Prelude.{ℕ, zero, suc, List, [], ◌∷◌, ◌++◌, len
 use Rattle.dis_records.specs.declared.entity_state.EntityState.{EntityState}
 use Rattle.exercise_model.specs.Station.{is_absent}
 use Rattle.exercise_model.specs.Recording.{PlainRecording}
-use Rattle.exercise_model.specs.History.{station_at}
-use Rattle.exercise_model.specs.State.{state_after}
 use Rattle.exercise_model.specs.Cause.{same_state}
-use Rattle.exercise_model.specs.Place.{log_before}
+pub use Rattle.exercise_findings.specs.State.{state_before}
 use Rattle.exercise_review.specs.declared.life.Stretch.{Stretch}
 use Rattle.exercise_review.specs.declared.life.Life.{Life}
-
--- the state of entity e of station s before entry n
-abbrev pub state_before : PlainRecording → ℕ → ℕ → ℕ → EntityState
-state_before r s e n = state_after r.setting.exercise (station_at r s) (log_before r s n) e
 
 -- a life so far: the stretches that ended, and the state since an entry, or since the start
 pub record LifeSoFar : Type 0 where

@@ -6,6 +6,7 @@ use Rattle.std.specs.declared.hash.DefaultHasher.{DefaultHasher}
 use Rattle.indexmap.specs.IndexMap.{IndexMap, get}
 use Rattle.siman_pdus.specs.declared.pdu.Pdu.{Pdu}
 use Rattle.siman_pdus.specs.Role.{is_request_body, request_id_of}
+use Rattle.exercise_model.specs.declared.form.Form.{Form}
 use Rattle.exercise_model.specs.Entry.{Entry, Sent, Received, Told}
 use Rattle.exercise_model.specs.Recording.{PlainRecording}
 use Rattle.exercise_model.specs.Account.{pair_of}
@@ -37,13 +38,13 @@ id_key s p = option_map (number_under s) (request_id_of p.body)
 unfoldable pub sent_key : PlainRecording → (s i : ℕ) → Pdu → Option ℕ
 sent_key r s i p = if is_request_body p.body then order_key s p else option_and_then (order_key s) (option_and_then (got_by r s) (pair_of r i))
 
--- what it receives with the order that it brings or, for an answer, under its identifier
-unfoldable pub got_key : ℕ → Pdu → Option ℕ
-got_key s p = if is_request_body p.body then order_key s p else id_key s p
+-- what it receives with the order that it brings or, for an answer in an open recording, under its identifier
+unfoldable pub got_key : Form → ℕ → Pdu → Option ℕ
+got_key f s p = if is_request_body p.body then order_key s p else (if is_open f then id_key s p else None)
 
 abbrev pub entry_key : PlainRecording → ℕ → Entry → Option ℕ
 entry_key r i (Sent s stamp b) = option_and_then (sent_key r s i) (meaning r.setting.exercise b)
-entry_key r i (Received s stamp b) = option_and_then (got_key s) (meaning r.setting.exercise b)
+entry_key r i (Received s stamp b) = option_and_then (got_key r.setting.form s) (meaning r.setting.exercise b)
 entry_key r i (Told s e y) = None
 
 -- THE KEY OF ENTRY i, if it has to do with an order

@@ -7,7 +7,7 @@ ghost use Rattle.std.specs.Hash.DefaultHasher.{write, initial};
 ghost use Rattle.dis_records.specs.Datum.{canonical};
 ghost use Rattle.dis_records.specs.Records.{shown};
 ghost use Rattle.siman_pdus.specs.Reading.{pdu_of, body_of, datums_of, ids_of};
-ghost use Rattle.exercise_review.specs.Digest.{fed, both, time_fed, fixed_fed, variable_fed, datums_fed, id_fed, ids_fed, body_fed, head_fed, digest_of};
+ghost use Rattle.exercise_review.specs.Digest.{fed, both, time_fed, fixed_fed, variable_fed, datums_fed, last_fed, id_fed, ids_fed, body_fed, head_fed, digest_of};
 
 use dis_records::records::{DatumIdRecords, FixedRecords, VariableRecords};
 use dis_records::{ClockTime, DatumsView, EntityId, IdsView, VariableView};
@@ -54,18 +54,24 @@ fn feed_ids(hasher: &mut DefaultHasher, ids: DatumIdRecords<'_>)
     }
 }
 
-/// Feeds a variable datum, its unused bits and its padding aside.
+/// Feeds the last byte of a value, if it has one.
+fn feed_last(hasher: &mut DefaultHasher, last: Option<u8>)
+    ensures { hasher.new ≡ last_fed hasher.old last }
+{
+    if let Some(last) = last {
+        hasher.write(&[last]);
+    }
+}
+
+/// Feeds a variable datum, its unused bits and its padding aside. The last byte stands behind those
+/// before it, so that whole words stay whole.
 #[tactic(auto, using(crate::proofs::Digests::front_stands, crate::proofs::Digests::last_stands))]
 fn feed_record(hasher: &mut DefaultHasher, datum: VariableView<'_>)
     ensures { hasher.new ≡ variable_fed hasher.old (canonical (shown datum.entry)) }
 {
     feed(hasher, datum.id, datum.bits);
     hasher.write(&datum.bytes[..datum.bytes.len().saturating_sub(1)]);
-    let last = match datum.last() {
-        Some(last) => last,
-        None => 0,
-    };
-    feed(hasher, 0, u32::from(last));
+    feed_last(hasher, datum.last());
 }
 
 /// Feeds variable datums.

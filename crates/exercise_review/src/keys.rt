@@ -83,16 +83,18 @@ fn sent_key<L: ExerciseLog>(
     }
 }
 
-/// The key of what a station receives: of the order that it brings or, for an answer, of its
-/// identifier.
+/// The key of what a station receives in a recording of a form: of the order that it brings or, for
+/// an answer, of its identifier where the recording is open. Nobody asks for that in others.
 #[tactic(auto, unfolding(crate::specs::Register::got_key))]
-pub(crate) fn got_key(station: u16, pdu: &PduView<'_>) -> Option<u64>
-    ensures { result ≡ got_key station (pdu_of pdu.now) }
+fn got_key(form: Form, station: u16, pdu: &PduView<'_>) -> Option<u64>
+    ensures { result ≡ got_key form station (pdu_of pdu.now) }
 {
     if is_request(pdu) {
         order_key(station, pdu)
-    } else {
+    } else if form == Form::Open {
         id_key(station, pdu)
+    } else {
+        None
     }
 }
 
@@ -111,7 +113,7 @@ fn key_at<L: ExerciseLog>(findings: &Findings<'_, L>, entry: usize) -> Option<u6
             None => None,
         },
         EntryView::Received { station, bytes, .. } => match meaning_view(log.exercise(), bytes) {
-            Some(pdu) => got_key(station, &pdu),
+            Some(pdu) => got_key(log.form(), station, &pdu),
             None => None,
         },
         EntryView::Told { .. } => None,

@@ -17,7 +17,8 @@ ghost use Rattle.exercise_review.specs.Party.{is_party_outside};
 ghost use Rattle.exercise_review.specs.Fate.{fate_heard, fate_of, asks_both};
 ghost use Rattle.exercise_review.specs.InRuns.{Receives, HasReplied, HasSettled, Hears, HearsWord};
 ghost use Rattle.exercise_review.specs.Answering.{SendsAnswer, SendsSettling, GetsSettling};
-ghost use Rattle.exercise_review.specs.Life.{state_before, lives_of, states_at, if_there};
+ghost use Rattle.exercise_findings.specs.State.{state_before};
+ghost use Rattle.exercise_review.specs.Life.{lives_of, states_at, if_there};
 
 /// The law of one side: where the maker of an order was not recorded, or the party was not, its fate
 /// is none of done, refused, answered and unheard, which ask both logs. In a recording of the first

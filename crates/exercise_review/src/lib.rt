@@ -59,6 +59,7 @@ mod word;
 
 pub use change_laws::changes_are_made;
 pub use conversion_laws::conversion_keeps_views;
+pub use exercise_findings::Missing;
 pub use fate::{Fate, Traces, fate_of, traces_of};
 pub use fault::ReviewFault;
 pub use filter::{EntryName, Filter, Filtered, keeps};
@@ -66,7 +67,7 @@ pub use laws::{fates_hold, lives_are_states, one_side_is_not_enough};
 pub use life::{Stretch, lives_of};
 pub use link_laws::links_are_of_the_logs;
 pub use manager_laws::managers_know;
-pub use missing::{Missing, missing_at};
+pub use missing::missing_at;
 pub use order::{Order, head_of, order_at};
 pub use outcome::{Outcome, outcomes_of};
 pub use parties::parties_of;

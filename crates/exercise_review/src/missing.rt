@@ -4,25 +4,16 @@ ghost use Rattle.std.specs.Prelude.{◌≡◌, ◌<◌, length};
 ghost use Rattle.siman_pdus.specs.Reading.{pdu_of};
 ghost use Rattle.exercise_model.specs.History.{station_at};
 ghost use Rattle.exercise_model.specs.Place.{brings_request};
-ghost use Rattle.exercise_review.specs.Missing.{gets_bytes, place_of, missing_pdu, is_first_receipt, missing_at};
+ghost use Rattle.exercise_findings.specs.Missing.{gets_bytes, place_of, missing_pdu, is_first_receipt, missing_at};
 
 use crate::entries::{entry_at, entry_count, got_by, meant};
 use crate::question::{Question, first_below};
 use crate::register::Register;
 use crate::stations::sender_of;
 use dis_records::Address;
+use exercise_findings::Missing;
 use exercise_model::{EntryView, ExerciseLog, is_answer, is_asked};
 use siman_pdus::PduView;
-
-/// A send that a log lacks.
-#[derive(Clone, Copy, Debug, PartialEq, Eq)]
-pub struct Missing {
-    /// The recorded station that the datagram comes from, by its index.
-    pub sender: u16,
-    /// The entry that it belongs right after: that of the request which it takes up. `None` where
-    /// it belongs at the start of the log.
-    pub after: Option<usize>,
-}
 
 /// Where any station receives these bytes.
 #[derive(Drop)]
@@ -34,7 +25,7 @@ struct GetsBytes<'a, L: ExerciseLog> {
 impl<L: ExerciseLog> Question for GetsBytes<'_, L> {
     ghost test = { λ q. gets_bytes q.findings.now q.bytes.now };
 
-    #[tactic(auto, unfolding(crate::specs::Missing::gets_bytes))]
+    #[tactic(auto, unfolding(exercise_findings::specs::Missing::gets_bytes))]
     fn passes(&self, entry: usize) -> bool {
         match entry_at(self.findings, entry) {
             Some(EntryView::Received { bytes, .. }) => self.bytes == bytes,
@@ -109,7 +100,7 @@ fn is_first_receipt<L: ExerciseLog>(findings: &Register<'_, L>, entry: usize, by
 /// The send that is missing by an entry: the entry is the first receipt of a datagram that comes from a
 /// recorded station, and no entry of that station sends the same bytes. `None` for all else and past
 /// the last entry. It takes no memory.
-#[tactic(auto, unfolding(crate::specs::Missing::missing_at))]
+#[tactic(auto, unfolding(exercise_findings::specs::Missing::missing_at))]
 pub fn missing_at<L: ExerciseLog>(findings: &Register<'_, L>, entry: usize) -> Option<Missing>
     ensures { result ≡ missing_at findings.now entry }
 {

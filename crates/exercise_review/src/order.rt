@@ -172,7 +172,6 @@ pub fn head_of<L: ExerciseLog>(findings: &Register<'_, L>, entry: usize) -> Opti
 }
 
 /// Whether an entry at which a station sends something is the head of that.
-#[tactic(auto, using(crate::proofs::Under::sends_first))]
 fn is_head_sent<L: ExerciseLog>(
     findings: &Register<'_, L>,
     station: u16,

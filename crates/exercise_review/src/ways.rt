@@ -1,6 +1,6 @@
 //! Entries by their keys: from the last under each key a way leads back to the first.
 
-ghost use Rattle.std.specs.Prelude.{◌≡◌, ◌<◌, ℕ, ◌+◌, true, nat_eq, None, Some, IfOk, OnOk, IfSome};
+ghost use Rattle.std.specs.Prelude.{◌≡◌, ◌<◌, ℕ, ◌+◌, true, nat_eq, None, Some, IfOk, OnOk, IfSome, unwrap_or};
 ghost use Rattle.indexmap.specs.IndexMap.{get};
 ghost use Rattle.siman_pdus.specs.Answers.{same_id};
 ghost use Rattle.exercise_model.specs.Place.{first_below};
@@ -73,37 +73,36 @@ pub(crate) fn ways_of<K: Keying>(alloc: Global, keying: &K, end: usize) -> Resul
 }
 
 /// The entry before one under their key.
-fn before<K: Keying>(ways: &Ways, keying: &K, end: usize, key: u64, entry: usize) -> Option<usize>
+fn before<K: Keying>(ways: &Ways, keying: &K, end: usize, entry: usize) -> Option<usize>
     requires within { entry < end }
     requires tied { AreRegistered (K.keys keying.now) end ways.now.last ways.now.before.items }
-    requires key { holds (K.keys keying.now) key entry ≡ true }
-    ensures { result ≡ last_below (holds (K.keys keying.now) key) entry }
+    ensures { (k : ℕ) → holds (K.keys keying.now) k entry ≡ true → result ≡ last_below (holds (K.keys keying.now) k) entry }
 {
+    let _keying = keying;
     ways.before[entry]
 }
 
-/// Whether an entry that passes is the first, where all that pass have this key: only those between
-/// it and the one before it that passes are asked.
-fn is_first_under<K: Keying, Q: Question>(
+/// Whether an entry that passes is the first, where it has a key and all that pass have that: only
+/// those between it and the one before it that passes are asked.
+pub(crate) fn is_first_under<K: Keying, Q: Question>(
     ways: &Ways,
     keying: &K,
     end: usize,
     question: &Q,
-    key: u64,
     entry: usize,
 ) -> bool
     requires within { entry < end }
     requires tied { AreRegistered (K.keys keying.now) end ways.now.last ways.now.before.items }
     requires passes { Q.test question.now entry ≡ true }
-    requires under { (i : ℕ) → Q.test question.now i ≡ true → holds (K.keys keying.now) key i ≡ true }
+    requires under { (i : ℕ) → Q.test question.now i ≡ true → holds (K.keys keying.now) (unwrap_or (K.keys keying.now entry) 0) i ≡ true }
     ensures { result ≡ same_id (first_below (Q.test question.now) end) (Some entry) }
 {
-    let mut next = before(ways, keying, end, key, entry);
+    let mut next = before(ways, keying, end, entry);
     while let Some(at) = next {
         if question.passes(at) {
             return false;
         }
-        next = before(ways, keying, end, key, at);
+        next = before(ways, keying, end, at);
     }
     true
 }
@@ -126,7 +125,7 @@ pub(crate) fn is_first<K: Keying, Q: Question>(
         return false;
     }
     match keying.key(entry) {
-        Some(key) => is_first_under(ways, keying, end, question, key, entry),
+        Some(_) => is_first_under(ways, keying, end, question, entry),
         None => is_first_of_all(question, end, entry),
     }
 }

@@ -1,4 +1,5 @@
 use Rattle.std.proofs.Common.{sym, ap, ◌∙◌, arith}
+use Rattle.std.specs.Prelude.{unwrap_or}
 use Rattle.exercise_review.specs.Register.{holds}
 use Rattle.exercise_review.proofs.FirstOnes.{passes_before, none_before, back_starts, back_fails, back_ends}
 use Rattle.exercise_review.proofs.Walks.{past, on_last, lower}
@@ -6,11 +7,12 @@ use Rattle.exercise_review.proofs.ways.is_first_under.Goals as goal
 
 pub loop-next-init : goal.loop-next-init
 loop-next-init g c =
-    let h = holds (g.K.Keying.keys c.args.keying.now) c.args.key in
+    let h = holds (g.K.Keying.keys c.args.keying.now) (unwrap_or (g.K.Keying.keys c.args.keying.now c.args.entry) 0) in
     let f = g.Q.Question.test c.args.question.now in
+    let behind = c.before-next.ensures _ (c.requires.under c.args.entry c.requires.passes) in
     record {
-      on = on_last h c.args.entry c.args.entry c.before-next.result c.before-next.ensures (omega arith);
-      back = back_starts f h c.args.entry c.before-next.result c.requires.under c.before-next.ensures;
+      on = on_last h c.args.entry c.args.entry c.before-next.result behind (omega arith);
+      back = back_starts f h c.args.entry c.before-next.result c.requires.under behind;
     }
 
 pub returns-then-passes : goal.returns-then-passes
@@ -20,17 +22,19 @@ returns-then-passes g c =
 
 pub loop-next-smaller : goal.loop-next-smaller
 loop-next-smaller g c =
-    let less = lower (holds (g.K.Keying.keys c.args.keying.now) c.args.key) c.in-Some.at c.before-next-in-Some.result c.before-next-in-Some.ensures in
+    let h = holds (g.K.Keying.keys c.args.keying.now) (unwrap_or (g.K.Keying.keys c.args.keying.now c.args.entry) 0) in
+    let at = rw c.in-Some.is at c.loop-next.invariant.on in
+    let less = lower h c.in-Some.at c.before-next-in-Some.result (c.before-next-in-Some.ensures _ at.1) in
     omega (arith, less, ap past c.in-Some.is)
 
 pub loop-next-preserved : goal.loop-next-preserved
 loop-next-preserved g c =
-    let h = holds (g.K.Keying.keys c.args.keying.now) c.args.key in
+    let h = holds (g.K.Keying.keys c.args.keying.now) (unwrap_or (g.K.Keying.keys c.args.keying.now c.args.entry) 0) in
     let f = g.Q.Question.test c.args.question.now in
     let at = rw c.in-Some.is at c.loop-next.invariant.on in
     record {
-      on = on_last h c.args.entry c.in-Some.at c.before-next-in-Some.result c.before-next-in-Some.ensures (omega (arith, at.0));
-      back = back_fails f h c.args.entry c.in-Some.at c.before-next-in-Some.result c.requires.under c.before-next-in-Some.ensures
+      on = on_last h c.args.entry c.in-Some.at c.before-next-in-Some.result (c.before-next-in-Some.ensures _ at.1) (omega (arith, at.0));
+      back = back_fails f h c.args.entry c.in-Some.at c.before-next-in-Some.result c.requires.under (c.before-next-in-Some.ensures _ at.1)
           (sym c.passes.ensures ∙ c.if-passes.false) (rw c.in-Some.is at c.loop-next.invariant.back);
     }
 

@@ -1,3 +1,4 @@
+use Rattle.std.specs.Prelude.{unwrap_or}
 use Rattle.exercise_review.specs.Register.{holds}
 use Rattle.exercise_review.proofs.FirstOnes.{IsBackOn}
 use Rattle.exercise_review.proofs.Walks.{past, IsOn}
@@ -6,7 +7,7 @@ use Rattle.exercise_review.proofs.ways.is_first_under.Given as goal
 -- None between the entry and the one that is next passes.
 abbrev pub invariant-loop-next : goal.invariant-loop-next
 invariant-loop-next g l = record {
-  on : IsOn (holds (g.K.Keying.keys l.keying) l.key) l.entry l.next;
+  on : IsOn (holds (g.K.Keying.keys l.keying) (unwrap_or (g.K.Keying.keys l.keying l.entry) 0)) l.entry l.next;
   back : IsBackOn (g.Q.Question.test l.question) l.entry l.next;
 }
 

@@ -17,7 +17,7 @@ pub(crate) fn taken<L: ExerciseLog>(log: &L, steps: &[Step], station: usize) -> 
 }
 
 /// How many of a station's entries stand before one.
-fn entries_before<L: ExerciseLog>(log: &L, station: usize, before: usize) -> usize {
+pub(crate) fn entries_before<L: ExerciseLog>(log: &L, station: usize, before: usize) -> usize {
     let mut count = 0usize;
     for entry in 0..before {
         if is_own(log, station, entry) {

@@ -1,4 +1,4 @@
-//! The entries of a recording, and what they send.
+//! The entries of a recording, and what they send and receive.
 
 use dis_records::Address;
 use exercise_model::{EntryView, ExerciseLog, meaning_view};
@@ -69,4 +69,17 @@ pub(crate) fn received_by<L: ExerciseLog>(
         } if usize::from(at) == station => meaning_view(log.exercise(), bytes),
         _ => None,
     }
+}
+
+/// The bytes that an entry sends or receives.
+pub(crate) fn bytes_at<L: ExerciseLog>(log: &L, entry: usize) -> Option<&[u8]> {
+    match entry_at(log, entry)? {
+        EntryView::Sent { bytes, .. } | EntryView::Received { bytes, .. } => Some(bytes),
+        EntryView::Told { .. } => None,
+    }
+}
+
+/// What an entry sends or receives, if that is not "other".
+pub(crate) fn meant_at<L: ExerciseLog>(log: &L, entry: usize) -> Option<PduView<'_>> {
+    meaning_view(log.exercise(), bytes_at(log, entry)?)
 }

@@ -69,16 +69,16 @@ pub fn plain_others<L: ExerciseLog>(log: &L) -> u32 {
     others
 }
 
-/// The changes of a station's log, in their order.
-fn changes<L: ExerciseLog>(
+/// The changes of a station's log with their entries, in their order.
+pub(crate) fn changes<L: ExerciseLog>(
     alloc: Global,
     log: &L,
     station: usize,
-) -> Result<Vec<Change>, AllocError> {
+) -> Result<Vec<(usize, Change)>, AllocError> {
     let mut changes = Vec::new(alloc);
     for entry in 0..log.entry_count() {
         if let Some(change) = change_made(log, station, entry) {
-            changes.push(change)?;
+            changes.push((entry, change))?;
         }
     }
     Ok(changes)
@@ -95,7 +95,7 @@ pub fn plain_states<L: ExerciseLog>(
     let mut entities = Vec::new(alloc);
     for entity in 1..=most {
         let mut state = opening_state(log, station, entity);
-        for change in &changes {
+        for (_, change) in &changes {
             state = change.changed(entity, state);
         }
         if state != EntityState::Absent {

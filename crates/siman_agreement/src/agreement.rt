@@ -1,5 +1,6 @@
-//! Whether the checker and the search answer as the plain ones do.
+//! Whether the checker, the search and the review answer as the plain ones do.
 
+use crate::reviews::compare_reviews;
 use exercise_audit::{Audit, audit};
 use exercise_check::{Certificate, CheckFault, Checked, check, read_certificate};
 use exercise_model::{ExerciseLog, LARGEST_ENTITY};
@@ -9,7 +10,7 @@ use siman_fixtures::{Case, WELL, read_from};
 use std::alloc::{AllocError, Global};
 
 /// The number of an entry as the checker reports it.
-fn is_number(reported: Option<u32>, entry: Option<usize>) -> bool {
+pub(crate) fn is_number(reported: Option<u32>, entry: Option<usize>) -> bool {
     match (reported, entry) {
         (Some(number), Some(entry)) => number as usize == entry,
         (None, None) => true,
@@ -96,8 +97,9 @@ fn file_at(case: &Case, word: usize) -> Option<&[u8]> {
     bytes
 }
 
-/// Whether the answer to a case of `check` or `audit` is what the plain ones answer; `None` for
-/// every other case, and where the recording or the certificate can't be read.
+/// Whether the answer to a case of `check`, `audit` or `review` is what the plain ones answer; `None`
+/// for every other case, where the recording or the certificate can't be read, and for a review of
+/// more than 64 entries.
 pub fn compare_case(alloc: Global, case: &Case) -> Result<Option<bool>, AllocError> {
     let (Some(command), Some(bytes)) = (case.words.first(), file_at(case, 1)) else {
         return Ok(None);
@@ -108,6 +110,9 @@ pub fn compare_case(alloc: Global, case: &Case) -> Result<Option<bool>, AllocErr
     match command.as_slice() {
         b"audit" => Ok(Some(compare_audits(alloc, &log, LARGEST_ENTITY)?.0)),
         b"check" => compare_certificate(alloc, &log, case),
+        b"review" if log.entry_count() <= 64 => {
+            Ok(Some(compare_reviews(alloc, &log, LARGEST_ENTITY)?.0))
+        }
         _ => Ok(None),
     }
 }

@@ -1,19 +1,15 @@
-//! Recordings that are made up by chance, on which the checker and the search are compared with the
-//! plain ones.
+//! The checker and the search compared with the plain ones, on recordings that are made up.
 
 use crate::agreement::{compare_audits, compare_checks};
-use dis_records::{Address, EntityState};
+use crate::recordings::recording;
 use exercise_audit::Audit;
 use exercise_check::{Certificate, CheckFault, NO_LINK, Step};
-use exercise_model::{Cause, ExerciseLog, Form, LogEntry, LogFault, Recording, Station};
+use exercise_model::{Cause, ExerciseLog, Form, Recording};
 use plain_check::plain_steps;
-use siman_fixtures::{Deed, ENTITIES, Random, Scene, begin, place_of, station_of};
+use siman_fixtures::{ENTITIES, Random};
 use std::alloc::{AllocError, Global};
 use std::io;
 use std::io::Write;
-
-/// How many deeds a scene has at most.
-const MOST_DEEDS: usize = 16;
 
 /// What was answered, and how often.
 #[derive(Drop)]
@@ -43,102 +39,6 @@ fn are_counted(counts: &[u32; 14], from: usize, end: usize) -> bool {
         }
     }
     true
-}
-
-/// The first stations of a scene, so many, as they are before its first deed.
-fn stations(alloc: Global, scene: &Scene, count: usize) -> Result<Vec<Station>, AllocError> {
-    let mut stations = Vec::new(alloc);
-    for index in 0..count {
-        let mut opening = Vec::new(alloc);
-        for entity in 1..=ENTITIES {
-            match scene.states.get(place_of(index, entity)) {
-                None | Some(EntityState::Absent) => {}
-                Some(state) => opening.push((u16::from(entity), *state))?,
-            }
-        }
-        let site = (index % 200) as u16;
-        if let Some(address) = Address::new(site.saturating_add(1), 1) {
-            if let Some(station) = Station::new(address, opening) {
-                stations.push(station)?;
-            }
-        }
-    }
-    Ok(stations)
-}
-
-/// The entry of a deed.
-fn entry(alloc: Global, deed: Deed, stamp: u64) -> Result<LogEntry, AllocError> {
-    Ok(match deed {
-        Deed::Sends(station, letter) => LogEntry::Sent {
-            station: (station % 256) as u16,
-            stamp,
-            bytes: letter.datagram(alloc)?,
-        },
-        Deed::Gets(station, letter) => LogEntry::Received {
-            station: (station % 256) as u16,
-            stamp,
-            bytes: letter.datagram(alloc)?,
-        },
-        Deed::Tells(station, entity, state) => LogEntry::Told {
-            station: (station % 256) as u16,
-            entity: u16::from(entity),
-            state,
-        },
-    })
-}
-
-/// Makes so much happen, and lets neighbours change places.
-fn happen(scene: &mut Scene) -> Result<(), AllocError> {
-    let deeds = scene.random.below(MOST_DEEDS).saturating_add(1);
-    for _ in 0..deeds {
-        scene.go_on()?;
-    }
-    for _ in 0..deeds {
-        scene.swap();
-    }
-    Ok(())
-}
-
-/// Adds what the first stations of a scene did, so many.
-fn add_deeds(
-    alloc: Global,
-    deeds: &[Deed],
-    count: usize,
-    recording: &mut Recording,
-) -> Result<(), LogFault> {
-    for deed in deeds {
-        if station_of(*deed) >= count {
-            continue;
-        }
-        match entry(alloc, *deed, recording.entry_count() as u64) {
-            Ok(entry) => recording.push(entry)?,
-            Err(_) => return Err(LogFault::Memory),
-        }
-    }
-    Ok(())
-}
-
-/// A recording of a form, of a scene in which nothing happened so far.
-fn recorded(alloc: Global, form: Form, scene: &mut Scene) -> Result<Recording, LogFault> {
-    // In an open recording the last station is not recorded.
-    let count = match form {
-        Form::Open => scene.stations.saturating_sub(1),
-        Form::First | Form::Closed => scene.stations,
-    };
-    let Ok(stations) = stations(alloc, scene, count) else {
-        return Err(LogFault::Memory);
-    };
-    if happen(scene).is_err() {
-        return Err(LogFault::Memory);
-    }
-    let mut recording = Recording::start_form(alloc, form, 1, stations)?;
-    add_deeds(alloc, &scene.deeds, count, &mut recording)?;
-    Ok(recording)
-}
-
-/// A recording of a form, of a scene that is made up.
-pub fn recording(alloc: Global, form: Form, random: Random) -> Result<Recording, LogFault> {
-    recorded(alloc, form, &mut begin(alloc, random))
 }
 
 /// Whether one of these steps names an entry.

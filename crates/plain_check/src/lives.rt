@@ -1,0 +1,124 @@
+//! How the entities of a recording lived.
+
+use crate::entries::meant_at;
+use crate::outcomes::stamp_of;
+use crate::parties::{outsider_at, station_address};
+use crate::report::{changes, plain_pair};
+use crate::state::opening_state;
+use dis_records::{EntityId, EntityState};
+use exercise_model::{Change, ExerciseLog, is_entity};
+use exercise_review::{Span, Stretch};
+use siman_pdus::request_id;
+use std::alloc::{AllocError, Global};
+
+/// Adds a stretch, unless it is one in which the entity is Absent.
+fn push_stretch(
+    stretches: &mut Vec<Stretch>,
+    state: EntityState,
+    from: Option<usize>,
+    until: Option<usize>,
+) -> Result<(), AllocError> {
+    if state != EntityState::Absent {
+        stretches.push(Stretch { state, from, until })?;
+    }
+    Ok(())
+}
+
+/// The stretches of an entity's life, in a state at the start and by the changes of its station: each
+/// ends where the state becomes another one.
+fn stretches_by(
+    alloc: Global,
+    entity: u16,
+    mut state: EntityState,
+    changes: &[(usize, Change)],
+) -> Result<Vec<Stretch>, AllocError> {
+    let mut stretches = Vec::new(alloc);
+    let mut from = None;
+    for (entry, change) in changes {
+        let next = change.changed(entity, state);
+        if next != state {
+            push_stretch(&mut stretches, state, from, Some(*entry))?;
+            state = next;
+            from = Some(*entry);
+        }
+    }
+    push_stretch(&mut stretches, state, from, None)?;
+    Ok(stretches)
+}
+
+/// How an entity of a station lived.
+pub fn plain_lives<L: ExerciseLog>(
+    alloc: Global,
+    log: &L,
+    station: u16,
+    entity: u16,
+) -> Result<Vec<Stretch>, AllocError> {
+    if !is_entity(entity) {
+        return Ok(Vec::new(alloc));
+    }
+    let changes = changes(alloc, log, usize::from(station))?;
+    let state = opening_state(log, usize::from(station), entity);
+    stretches_by(alloc, entity, state, &changes)
+}
+
+/// A stretch of an entity's life, as it is told.
+fn span_of<L: ExerciseLog>(log: &L, entity: EntityId, stretch: Stretch) -> Span {
+    let behind = match stretch.from {
+        Some(entry) => plain_pair(log, entry),
+        None => None,
+    };
+    let asked = match behind {
+        Some(request) => meant_at(log, request),
+        None => None,
+    };
+    let (by, request) = match asked {
+        Some(pdu) => (Some(outsider_at(pdu.origin)), request_id(&pdu)),
+        None => (None, None),
+    };
+    Span {
+        entity,
+        state: stretch.state,
+        from: stretch.from,
+        to: stretch.until,
+        since: stamp_of(log, stretch.from),
+        until: stamp_of(log, stretch.until),
+        by,
+        request,
+    }
+}
+
+/// Adds the stretches of an entity's life, as they are told.
+fn push_spans<L: ExerciseLog>(
+    log: &L,
+    spans: &mut Vec<Span>,
+    entity: EntityId,
+    stretches: &[Stretch],
+) -> Result<(), AllocError> {
+    for stretch in stretches {
+        spans.push(span_of(log, entity, *stretch))?;
+    }
+    Ok(())
+}
+
+/// Adds the stretches of the lives of a station's entities in `1..=most`.
+pub(crate) fn push_lives<L: ExerciseLog>(
+    alloc: Global,
+    log: &L,
+    spans: &mut Vec<Span>,
+    station: u16,
+    most: u16,
+) -> Result<(), AllocError> {
+    let changes = changes(alloc, log, usize::from(station))?;
+    let at = station_address(log, station);
+    for number in 1..=most {
+        let state = opening_state(log, usize::from(station), number);
+        let stretches = stretches_by(alloc, number, state, &changes)?;
+        let entity = EntityId {
+            site: at.site,
+            application: at.application,
+            entity: number,
+        };
+        push_spans(log, spans, entity, &stretches)?;
+    }
+    Ok(())
+}

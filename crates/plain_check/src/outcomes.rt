@@ -1,0 +1,173 @@
+//! What became of an order at each of its parties.
+
+use crate::change::change_made;
+use crate::entries::entry_at;
+use crate::orders::{copies_of, sends_of};
+use crate::parties::{outsider_at, parties_of, party_address, station_address, told_from};
+use crate::replies::{first_settling, news_of, replies_of, telling, word_of};
+use exercise_model::{EntryView, ExerciseLog};
+use exercise_review::{Fate, Order, OrderAt, Outcome, Outsider, Party, Word};
+use siman_pdus::{Message, request_id};
+use std::alloc::{AllocError, Global};
+
+/// The stamp of an entry, if there is one.
+pub(crate) fn stamp_of<L: ExerciseLog>(log: &L, entry: Option<usize>) -> Option<u64> {
+    match entry_at(log, entry?)? {
+        EntryView::Sent { stamp, .. } | EntryView::Received { stamp, .. } => Some(stamp),
+        EntryView::Told { .. } => None,
+    }
+}
+
+/// How long it took from an entry to another by the clock of their station, unless that was set back.
+fn took<L: ExerciseLog>(log: &L, first: usize, last: Option<usize>) -> Option<u64> {
+    let (from, until) = (stamp_of(log, Some(first))?, stamp_of(log, last)?);
+    if from <= until {
+        Some(until - from)
+    } else {
+        None
+    }
+}
+
+/// The fate of an order, of which this was received and replied at a party, and heard of that by its maker.
+fn fate_of<L: ExerciseLog>(
+    log: &L,
+    order: &Order<'_>,
+    copies: &[usize],
+    replies: &[usize],
+    news: &[usize],
+) -> Fate {
+    let is_made = order.maker.is_some();
+    let is_settled = first_settling(log, replies).is_some();
+    match word_of(log, first_settling(log, news)) {
+        Some(Word::Able | Word::Complete | Word::Data) if is_made => Fate::Done,
+        Some(Word::Unable | Word::Rejected) if is_made => Fate::Refused,
+        Some(_) if is_made => Fate::Answered,
+        _ if is_made && is_settled => Fate::Unheard,
+        _ if !replies.is_empty() && !is_settled => Fate::Pending,
+        _ if !copies.is_empty() && replies.is_empty() => Fate::Unanswered,
+        _ if copies.is_empty() => Fate::Lost,
+        _ => Fate::Unknown,
+    }
+}
+
+/// The first of these entries of a station that changes something.
+fn first_changing<L: ExerciseLog>(log: &L, station: u16, entries: &[usize]) -> Option<usize> {
+    for entry in entries {
+        if change_made(log, usize::from(station), *entry).is_some() {
+            return Some(*entry);
+        }
+    }
+    None
+}
+
+/// What is told of an order that has no party.
+fn outcome_nowhere<L: ExerciseLog>(
+    alloc: Global,
+    log: &L,
+    order: &Order<'_>,
+) -> Result<Outcome, AllocError> {
+    let sends = match order.maker {
+        Some(maker) => Some(sends_of(alloc, log, maker, &order.request)?.len()),
+        None => None,
+    };
+    Ok(Outcome {
+        party: None,
+        sends,
+        receipts: None,
+        got: None,
+        said: None,
+        answer: None,
+        heard: None,
+        news: None,
+        took: None,
+        change: None,
+        fate: Fate::Nobody,
+    })
+}
+
+/// What is told of an order at a recorded station.
+fn outcome_here<L: ExerciseLog>(
+    alloc: Global,
+    log: &L,
+    order: &Order<'_>,
+    station: u16,
+) -> Result<Outcome, AllocError> {
+    let copies = copies_of(alloc, log, Some(station), &order.request)?;
+    let replies = replies_of(alloc, log, order, station)?;
+    let news = news_of(alloc, log, order, &replies)?;
+    let mut outcome = outcome_nowhere(alloc, log, order)?;
+    outcome.party = Some(Party::Station(station));
+    outcome.receipts = Some(copies.len());
+    outcome.got = copies.first().copied();
+    outcome.answer = telling(log, &replies);
+    outcome.said = word_of(log, outcome.answer);
+    outcome.news = telling(log, &news);
+    outcome.heard = word_of(log, outcome.news);
+    outcome.took = took(log, order.head, outcome.news);
+    outcome.change = first_changing(log, station, &replies);
+    outcome.fate = fate_of(log, order, &copies, &replies, &news);
+    Ok(outcome)
+}
+
+/// What is told of an order at an address that nobody recorded.
+fn outcome_outside<L: ExerciseLog>(
+    alloc: Global,
+    log: &L,
+    order: &Order<'_>,
+    address: Outsider,
+) -> Result<Outcome, AllocError> {
+    let told = told_from(alloc, log, order, address)?;
+    let mut outcome = outcome_nowhere(alloc, log, order)?;
+    outcome.party = Some(Party::Outside(address));
+    outcome.news = telling(log, &told);
+    outcome.heard = word_of(log, outcome.news);
+    outcome.took = took(log, order.head, outcome.news);
+    outcome.fate = Fate::Unknown;
+    Ok(outcome)
+}
+
+/// An order at a party, or at none, as it is told.
+fn order_told<L: ExerciseLog>(
+    alloc: Global,
+    log: &L,
+    order: &Order<'_>,
+    party: Option<Party>,
+) -> Result<OrderAt, AllocError> {
+    let outcome = match party {
+        Some(Party::Station(station)) => outcome_here(alloc, log, order, station)?,
+        Some(Party::Outside(address)) => outcome_outside(alloc, log, order, address)?,
+        None => outcome_nowhere(alloc, log, order)?,
+    };
+    Ok(OrderAt {
+        head: order.head,
+        from: match order.maker {
+            Some(maker) => station_address(log, maker),
+            None => outsider_at(order.request.origin),
+        },
+        request: request_id(&order.request),
+        kind: order.request.kind(),
+        to: order.request.target,
+        at: match party {
+            Some(party) => Some(party_address(log, party)),
+            None => None,
+        },
+        outcome,
+    })
+}
+
+/// Adds an order at each of its parties, or once where it has none.
+pub(crate) fn push_order<L: ExerciseLog>(
+    alloc: Global,
+    log: &L,
+    told: &mut Vec<OrderAt>,
+    order: &Order<'_>,
+) -> Result<(), AllocError> {
+    let parties = parties_of(alloc, log, order)?;
+    if parties.is_empty() {
+        told.push(order_told(alloc, log, order, None)?)?;
+    }
+    for party in &parties {
+        told.push(order_told(alloc, log, order, Some(*party))?)?;
+    }
+    Ok(())
+}

@@ -1,0 +1,160 @@
+//! The parties of an order: whom it is for, and who answered it from outside.
+
+use crate::entries::{address_of, received_by};
+use crate::orders::{copies_of, is_first_under_id, is_meant, is_outside};
+use dis_records::{Address, EntityId};
+use exercise_model::{ExerciseLog, Form};
+use exercise_review::{Order, Outsider, Party};
+use siman_pdus::answers;
+use std::alloc::{AllocError, Global};
+
+/// The site and the application of an identifier.
+pub(crate) fn outsider_at(id: EntityId) -> Outsider {
+    Outsider {
+        site: id.site,
+        application: id.application,
+    }
+}
+
+/// The site and the application of a recorded station; 0 and 0 past the last.
+pub(crate) fn station_address<L: ExerciseLog>(log: &L, station: u16) -> Outsider {
+    match address_of(log, usize::from(station)) {
+        Some(address) => Outsider {
+            site: address.site(),
+            application: address.application(),
+        },
+        None => Outsider {
+            site: 0,
+            application: 0,
+        },
+    }
+}
+
+/// The site and the application of a party.
+pub(crate) fn party_address<L: ExerciseLog>(log: &L, party: Party) -> Outsider {
+    match party {
+        Party::Station(station) => station_address(log, station),
+        Party::Outside(address) => address,
+    }
+}
+
+/// Whether a recorded station is a party of an order: it is addressed, and if it made the order it
+/// received it too.
+fn is_party<L: ExerciseLog>(
+    alloc: Global,
+    log: &L,
+    order: &Order<'_>,
+    station: u16,
+) -> Result<bool, AllocError> {
+    if !is_meant(log, &order.request, usize::from(station)) {
+        return Ok(false);
+    }
+    let copies = copies_of(alloc, log, Some(station), &order.request)?;
+    Ok(order.maker != Some(station) || !copies.is_empty())
+}
+
+/// From where outside the maker of an order is told of it at an entry: it receives an answer to it there,
+/// after it sent the order, the first under its identifier.
+fn told_at<L: ExerciseLog>(log: &L, order: &Order<'_>, entry: usize) -> Option<Outsider> {
+    let maker = order.maker?;
+    let pdu = received_by(log, usize::from(maker), entry)?;
+    let is_told = answers(&pdu, &order.request)
+        && is_outside(log, &pdu)
+        && order.head < entry
+        && is_first_under_id(log, maker, order);
+    if is_told {
+        Some(outsider_at(pdu.origin))
+    } else {
+        None
+    }
+}
+
+/// The entries at which the maker of an order is told of it from an address outside.
+pub(crate) fn told_from<L: ExerciseLog>(
+    alloc: Global,
+    log: &L,
+    order: &Order<'_>,
+    address: Outsider,
+) -> Result<Vec<usize>, AllocError> {
+    let mut told = Vec::new(alloc);
+    for entry in 0..log.entry_count() {
+        if told_at(log, order, entry) == Some(address) {
+            told.push(entry)?;
+        }
+    }
+    Ok(told)
+}
+
+/// Whether a recorded station has an address.
+fn is_recorded_at<L: ExerciseLog>(log: &L, address: Address) -> bool {
+    for station in 0..log.station_count() {
+        if address_of(log, station) == Some(address) {
+            return true;
+        }
+    }
+    false
+}
+
+/// Adds a party, if it is not there yet, before the first with a higher address.
+fn push_party<L: ExerciseLog>(
+    log: &L,
+    parties: &mut Vec<Party>,
+    party: Party,
+) -> Result<(), AllocError> {
+    let at = party_address(log, party);
+    let mut place = 0usize;
+    for other in parties.iter() {
+        let other = party_address(log, *other);
+        if other == at {
+            return Ok(());
+        }
+        if other.site < at.site || other.site == at.site && other.application < at.application {
+            place = place.saturating_add(1);
+        }
+    }
+    if place <= parties.len() {
+        parties.insert(place, party)?;
+    }
+    Ok(())
+}
+
+/// Adds the addresses outside that an order names, or from which its maker was told of it.
+fn push_outsiders<L: ExerciseLog>(
+    log: &L,
+    order: &Order<'_>,
+    parties: &mut Vec<Party>,
+) -> Result<(), AllocError> {
+    let named = outsider_at(order.request.target);
+    match Address::new(named.site, named.application) {
+        Some(address) if !is_recorded_at(log, address) => {
+            push_party(log, parties, Party::Outside(named))?;
+        }
+        _ => {}
+    }
+    for entry in 0..log.entry_count() {
+        if let Some(address) = told_at(log, order, entry) {
+            push_party(log, parties, Party::Outside(address))?;
+        }
+    }
+    Ok(())
+}
+
+/// The parties of an order, by rising addresses.
+pub(crate) fn parties_of<L: ExerciseLog>(
+    alloc: Global,
+    log: &L,
+    order: &Order<'_>,
+) -> Result<Vec<Party>, AllocError> {
+    let mut parties = Vec::new(alloc);
+    for station in 0..log.station_count() {
+        if let Ok(station) = u16::try_from(station) {
+            if is_party(alloc, log, order, station)? {
+                push_party(log, &mut parties, Party::Station(station))?;
+            }
+        }
+    }
+    if log.form() == Form::Open && order.maker.is_some() {
+        push_outsiders(log, order, &mut parties)?;
+    }
+    Ok(parties)
+}

@@ -1,0 +1,114 @@
+//! What is told of a whole recording.
+
+use crate::check::entries_before;
+use crate::lives::push_lives;
+use crate::orders::orders_of;
+use crate::outcomes::push_order;
+use crate::parties::station_address;
+use crate::report::{plain_others, plain_states};
+use dis_records::EntityState;
+use exercise_model::ExerciseLog;
+use exercise_review::{Fate, FateCounts, Order, OrderAt, Party, Review, StationCounts};
+use std::alloc::{AllocError, Global};
+
+/// How many of these orders at their parties have a fate, of all or of those at one station.
+fn fated(told: &[OrderAt], station: Option<u16>, fate: Fate) -> usize {
+    let mut count = 0usize;
+    for at in told {
+        let is_there = match station {
+            Some(station) => at.outcome.party == Some(Party::Station(station)),
+            None => true,
+        };
+        if is_there && at.outcome.fate == fate {
+            count = count.saturating_add(1);
+        }
+    }
+    count
+}
+
+/// How many of these orders at their parties have each fate, of all or of those at one station.
+fn fates_of(told: &[OrderAt], station: Option<u16>) -> FateCounts {
+    FateCounts {
+        done: fated(told, station, Fate::Done),
+        answered: fated(told, station, Fate::Answered),
+        refused: fated(told, station, Fate::Refused),
+        pending: fated(told, station, Fate::Pending),
+        unheard: fated(told, station, Fate::Unheard),
+        unanswered: fated(told, station, Fate::Unanswered),
+        lost: fated(told, station, Fate::Lost),
+        unknown: fated(told, station, Fate::Unknown),
+        nobody: fated(told, station, Fate::Nobody),
+    }
+}
+
+/// How many of these orders a station made.
+fn made_by(orders: &[Order<'_>], station: u16) -> usize {
+    let mut count = 0usize;
+    for order in orders {
+        if order.maker == Some(station) {
+            count = count.saturating_add(1);
+        }
+    }
+    count
+}
+
+/// How many of these entities are Running.
+fn running(states: &[(u16, EntityState)]) -> usize {
+    let mut count = 0usize;
+    for (_, state) in states {
+        if *state == EntityState::Running {
+            count = count.saturating_add(1);
+        }
+    }
+    count
+}
+
+/// What is counted of a station, no entity of which is above `most`.
+fn station_counts<L: ExerciseLog>(
+    alloc: Global,
+    log: &L,
+    orders: &[Order<'_>],
+    told: &[OrderAt],
+    station: u16,
+    most: u16,
+) -> Result<StationCounts, AllocError> {
+    let states = plain_states(alloc, log, usize::from(station), most)?;
+    Ok(StationCounts {
+        at: station_address(log, station),
+        records: entries_before(log, usize::from(station), log.entry_count()),
+        made: made_by(orders, station),
+        fates: fates_of(told, Some(station)),
+        entities: states.len(),
+        running: running(&states),
+    })
+}
+
+/// What is told of a recording, in which no entity is above `most`. It never says that it takes too
+/// many lines.
+pub fn plain_review<L: ExerciseLog>(
+    alloc: Global,
+    log: &L,
+    most: u16,
+) -> Result<Review, AllocError> {
+    let orders = orders_of(alloc, log)?;
+    let mut told = Vec::new(alloc);
+    for order in &orders {
+        push_order(alloc, log, &mut told, order)?;
+    }
+    let mut stations = Vec::new(alloc);
+    let mut spans = Vec::new(alloc);
+    for station in 0..log.station_count() {
+        if let Ok(station) = u16::try_from(station) {
+            stations.push(station_counts(alloc, log, &orders, &told, station, most)?)?;
+            push_lives(alloc, log, &mut spans, station, most)?;
+        }
+    }
+    Ok(Review {
+        orders: orders.len(),
+        others: plain_others(log),
+        fates: fates_of(&told, None),
+        stations,
+        told,
+        spans,
+    })
+}

@@ -73,7 +73,8 @@ impl<L: Line + Drop> Post<L> {
         node: Node,
         line: L,
     ) -> Result<Post<L>, AllocError>
-        ensures { IfOk result (IsBegun exercise address node) }
+        ensures begun { IfOk result (IsBegun exercise address node) }
+        ensures line { IfOk result (λ post. post.station.line.line ≡ line) }
     {
         Ok(Post {
             station: StationAtLine {

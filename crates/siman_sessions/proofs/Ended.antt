@@ -1,6 +1,6 @@
 -- How a session ends.
 use Rattle.std.proofs.Common.{◌≡◌, ℕ, List, refl, ap, inl, inr, ◌∙◌}
-use Rattle.std.specs.Prelude.{false, Option, Some, None, is_some, IsSome, Result, Err}
+use Rattle.std.specs.Prelude.{Bool, true, false, if◌then◌else◌, Option, Some, None, is_some, IsSome, Result, Err}
 use Rattle.exercise_recording.specs.declared.fault.WriterFault.{WriterFault}
 use Rattle.exercise_recording.specs.declared.fault.WriterFault.TheVariants as faults
 use Rattle.exercise_recording.specs.Text.{end_text}
@@ -13,13 +13,18 @@ use Rattle.siman_sessions.specs.declared.told.Told.{Told}
 use Rattle.siman_sessions.specs.Closing.{IsUnended, PrintsCounts, PrintsEnd}
 use Rattle.siman_sessions.specs.Sessions.{TellsUnread, ClosesAt, EndsSession}
 
+-- a recorder that is refused an end was spent before
+spent_by : (spent : Bool) (fault : WriterFault) → (if spent then Some faults.Spent else None) ≡ Some fault → spent ≡ true
+spent_by true fault refused = refl
+spent_by false fault refused = absurd cc
+
 -- why an end was not written
 unended_by : (old new : WriterState) (fault : WriterFault) → finish_refusal old ≡ unless_write fault → (IsSome (unless_write fault) → new ≡ old)
     → (fault ≡ faults.Write → Tears old new (end_text old.entries)) → IsUnended old new
 unended_by old new faults.Write refused unchanged torn = inr (refused, torn refl)
-unended_by old new faults.Spent refused unchanged torn = inl (unchanged refl)
-unended_by old new faults.Count refused unchanged torn = inl (unchanged refl)
-unended_by old new faults.Argument refused unchanged torn = inl (unchanged refl)
+unended_by old new faults.Spent refused unchanged torn = inl (spent_by old.spent faults.Spent refused, unchanged refl)
+unended_by old new faults.Count refused unchanged torn = inl (spent_by old.spent faults.Count refused, unchanged refl)
+unended_by old new faults.Argument refused unchanged torn = inl (spent_by old.spent faults.Argument refused, unchanged refl)
 
 pub unended : (old new : WriterState) (r : Result (Unit {0}) WriterFault) (fault : WriterFault) → r ≡ Err fault → finish_refusal old ≡ unless_write fault
     → (IsSome (unless_write fault) → new ≡ old) → (r ≡ Err faults.Write → Tears old new (end_text old.entries)) → IsUnended old new

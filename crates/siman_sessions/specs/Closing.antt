@@ -1,5 +1,5 @@
 -- The end of a session (profile).
-use Rattle.std.specs.Prelude.{◌≡◌, ◌⊎◌, ℕ, List, [], ◌∷◌, codes, Option, Some, None, Result, Ok, Err}
+use Rattle.std.specs.Prelude.{◌≡◌, ◌⊎◌, ℕ, true, List, [], ◌∷◌, codes, Option, Some, None, Result, Ok, Err}
 use Rattle.std.specs.Io.KnownBytes.{Appends, Keeps}
 use Rattle.byte_files.specs.Writing.{WritesPart}
 use Rattle.exercise_recording.specs.Text.{end_text}
@@ -32,7 +32,7 @@ PrintsEnd (Some fault) text old new closed = (closed ≡ Ok tt) × (new ≡ old)
 
 -- The recording has no end: it was spent before, or a prefix of the end was written
 abbrev pub IsUnended : (old new : WriterState) → Type 0
-IsUnended old new = (new ≡ old) ⊎ ((finish_refusal old ≡ None) × Tears old new (end_text old.entries))
+IsUnended old new = ((old.spent ≡ true) × (new ≡ old)) ⊎ ((finish_refusal old ≡ None) × Tears old new (end_text old.entries))
 
 -- THE RECORDING IS ENDED, and its counts are printed; or it is not, and nothing is printed
 abbrev pub Closes : {L : Type 0} → (strangers : L → ℕ) → Post L → (w v : WriterState) → (old new : Option (List ℕ)) → Result (Unit {0}) PrintFault → Type 0

@@ -3,5 +3,4 @@ pub mod EntryLines
 pub mod Head
 pub mod Records
 pub mod Report
-pub mod Review
-pub mod Noted
+pub mod Values

@@ -28,7 +28,7 @@ pub fn counts_line<L: ExerciseLog>(alloc: Global, log: &L) -> Result<String, All
 
 /// What the first line says of the form: nothing of the first, and of the second format whether it
 /// is closed or open.
-pub(crate) fn put_form(line: &mut String, spelling: Spelling, form: Form) -> Result<(), AllocError>
+pub fn put_form(line: &mut String, spelling: Spelling, form: Form) -> Result<(), AllocError>
     ensures { OnOk result (string_bytes line.new ≡ string_bytes line.old ++ fields_spelled spelling (form_fields form)) }
 {
     let said = match form {

@@ -1,0 +1,4 @@
+mod Kept
+mod LineParts
+mod Keyed
+mod CarriedLines

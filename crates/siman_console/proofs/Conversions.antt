@@ -12,8 +12,8 @@ use Rattle.exercise_check.proofs.Offered.{good_alike, refused_alike}
 use Rattle.exercise_audit.specs.declared.blocks.Block.{Block}
 use Rattle.exercise_audit.proofs.Offered.{blocked_alike}
 use Rattle.siman_reports.specs.Report.{report_text}
-use Rattle.siman_console.specs.Program.Check.{IsDue}
-use Rattle.siman_console.specs.Program.Audit.{blocked_text, IsListOf}
+use Rattle.siman_files.specs.Check.{IsDue}
+use Rattle.siman_views.specs.Audit.{blocked_text, IsListOf}
 
 pub report_alike : (r : PlainRecording) → report_text (converted r) ≡ report_text r
 unfolding pair_of change_behind sender_of first_able entry_taken_up own_event others_of log_of

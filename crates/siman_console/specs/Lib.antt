@@ -1,11 +1,1 @@
-pub mod HexText
-pub mod Answer
-pub mod ChartWords
-pub mod Ending
-pub mod Endpoints
-pub mod Outside
 pub mod Program
-pub mod Making
-pub mod Opening
-pub mod Saying
-pub mod FilterWords

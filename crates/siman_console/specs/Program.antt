@@ -1,19 +1,4 @@
 -- How the program ends, from the words of its command line to its status.
-pub mod Audit
-pub mod Chart
-pub mod Check
-pub mod Convert
-pub mod Join
-pub mod Live
-pub mod Log
-pub mod Mend
-pub mod Pdus
-pub mod Review
-pub mod Show
-pub mod ScriptTrial
-pub mod Station
-pub mod Why
-pub mod World
 use Rattle.std.specs.Prelude.{◌≡◌, ◌⊎◌, ℕ, List, [], Option, Some, None, Result, Ok, Err, map, string_bytes, Vec, String, Bool, true, false}
 use Rattle.std.specs.declared.alloc.Global.{Global}
 use Rattle.std.specs.Io.KnownBytes.{Keeps}
@@ -27,29 +12,29 @@ use Rattle.siman_words.specs.declared.commands.ViewWord.{ViewWord}
 use Rattle.siman_words.specs.Words.{Asked, Trial, Bare, One, Two, View, asked, asks_help}
 use Rattle.siman_words.specs.Words as asks
 use Rattle.siman_lines.specs.AtLines.{Telling}
-use Rattle.siman_console.specs.declared.fault.Fault.{Fault}
-use Rattle.siman_console.specs.declared.fault.Fault.TheVariants.{Words, Output, Memory}
-use Rattle.siman_console.specs.Answer.{said_of_hex, IsSaid}
-use Rattle.siman_console.specs.Program.Audit.{SearchesFile, MakesFinding}
-use Rattle.siman_console.specs.Program.Chart.{ChartsNamed}
-use Rattle.siman_console.specs.Program.Check.{ChecksFiles}
-use Rattle.siman_console.specs.Program.Convert.{CarriesFile, MakesConverted}
-use Rattle.siman_console.specs.Ending.{Ends, IsToldAs}
-use Rattle.siman_console.specs.Outside.{Has, Stream, Outcome, Deed}
-use Rattle.siman_console.specs.Program.Join.{word_of, JoinsPieces}
-use Rattle.siman_console.specs.Program.Live.{EndsLive}
-use Rattle.siman_console.specs.Making.{Answered}
-use Rattle.siman_console.specs.Program.Mend.{MendsFile, MakesMended}
-use Rattle.siman_console.specs.Opening.{WorksOn}
-use Rattle.siman_console.specs.Program.Pdus.{EndsLines}
-use Rattle.siman_console.specs.Program.Log.{LogsNamed}
-use Rattle.siman_console.specs.Program.Review.{ReviewsNamed}
-use Rattle.siman_console.specs.Saying.{SaysOfFile, SaysOfFiles}
-use Rattle.siman_console.specs.Program.Show.{ShowsFile}
-use Rattle.siman_console.specs.Program.ScriptTrial.{TriesInput}
-use Rattle.siman_console.specs.Program.Station.{EndsStation}
-use Rattle.siman_console.specs.Program.Why.{WhyNamed}
-use Rattle.siman_console.specs.Program.World.{RunsFile, MakesWorld}
+use Rattle.siman_answers.specs.declared.fault.Fault.{Fault}
+use Rattle.siman_answers.specs.declared.fault.Fault.TheVariants.{Words, Output, Memory}
+use Rattle.siman_files.specs.Answer.{said_of_hex, IsSaid}
+use Rattle.siman_views.specs.Audit.{SearchesFile, MakesFinding}
+use Rattle.siman_views.specs.Chart.{ChartsNamed}
+use Rattle.siman_files.specs.Check.{ChecksFiles}
+use Rattle.siman_files.specs.Convert.{CarriesFile, MakesConverted}
+use Rattle.siman_answers.specs.Ending.{Ends, IsToldAs}
+use Rattle.siman_answers.specs.Outside.{Has, Stream, Outcome, Deed}
+use Rattle.siman_files.specs.Join.{word_of, JoinsPieces}
+use Rattle.siman_plays.specs.Live.{EndsLive}
+use Rattle.siman_answers.specs.Making.{Answered}
+use Rattle.siman_files.specs.Mend.{MendsFile, MakesMended}
+use Rattle.siman_answers.specs.Opening.{WorksOn}
+use Rattle.siman_files.specs.Pdus.{EndsLines}
+use Rattle.siman_views.specs.Log.{LogsNamed}
+use Rattle.siman_views.specs.Review.{ReviewsNamed}
+use Rattle.siman_answers.specs.Saying.{SaysOfFile, SaysOfFiles}
+use Rattle.siman_files.specs.Show.{ShowsFile}
+use Rattle.siman_plays.specs.ScriptTrial.{TriesInput}
+use Rattle.siman_plays.specs.Station.{EndsStation}
+use Rattle.siman_views.specs.Why.{WhyNamed}
+use Rattle.siman_plays.specs.World.{RunsFile, MakesWorld}
 
 -- WHAT A COMMAND DOES: which files it opened and made, in their order, what it answered or the fault that it met, and what it left on the writer of answers
 abbrev pub DoesOne : OneWord → (word : List ℕ) → List Deed → Answered → Stream → Type 0

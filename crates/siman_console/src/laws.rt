@@ -7,8 +7,8 @@ ghost use Rattle.exercise_model.specs.Conversion.{converted};
 ghost use Rattle.exercise_check.specs.declared.certificate.Step.{Step};
 ghost use Rattle.exercise_audit.specs.declared.blocks.Block.{Block};
 ghost use Rattle.siman_reports.specs.Report.{report_text};
-ghost use Rattle.siman_console.specs.Program.Check.{IsDue};
-ghost use Rattle.siman_console.specs.Program.Audit.{blocked_text, IsListOf};
+ghost use Rattle.siman_files.specs.Check.{IsDue};
+ghost use Rattle.siman_views.specs.Audit.{blocked_text, IsListOf};
 
 /// The law of conversion: of a recording and its conversion the report is the same text (`report`),
 /// and so is each blocked list (`blocked`); what `check` is to say of one of the first form with some

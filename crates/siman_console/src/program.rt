@@ -3,50 +3,21 @@
 ghost use Rattle.std.specs.Prelude.{List, string_bytes, map};
 ghost use Rattle.std.specs.IoError.{error_kind};
 ghost use Rattle.std.specs.List.{All};
-ghost use Rattle.siman_console.specs.Outside.{Deed, Adds, WasHeld, Stream, Outcome};
+ghost use Rattle.siman_answers.specs.Outside.{Deed, Adds, WasHeld, Stream, Outcome};
 ghost use Rattle.siman_console.specs.Program.{DoesOne, DoesView, EndsTwo, EndsTask, EndsProgram, words_by};
 ghost use Rattle.siman_words.specs.Words.{asked_by};
 ghost use Rattle.siman_lines.specs.AtLines.{Telling};
 
-pub(crate) mod audit;
-pub(crate) mod chart;
-pub(crate) mod check;
-pub(crate) mod convert;
-mod join;
-mod live;
-pub(crate) mod log;
-mod mend;
-pub(crate) mod pdu;
-pub(crate) mod pdus;
-pub(crate) mod review;
-pub(crate) mod script_trial;
-pub(crate) mod show;
-mod station;
-pub(crate) mod why;
-pub(crate) mod world;
-
-use crate::fault::{Ended, Fault, end, of_error};
-use crate::outside::Outside;
-use crate::product::make_of_file;
-use crate::program::audit::Finding;
-use crate::program::chart::chart_named;
-use crate::program::check::CheckCommand;
-use crate::program::convert::Carried;
-use crate::program::join::{join_pieces, word_of};
-use crate::program::live::end_live;
-use crate::program::log::log_named;
-use crate::program::mend::MendedFile;
-use crate::program::pdu::tell_word;
-use crate::program::pdus::end_lines;
-use crate::program::review::review_named;
-use crate::program::script_trial::TrialCommand;
-use crate::program::show::ShowCommand;
-use crate::program::station::end_station;
-use crate::program::why::why_named;
-use crate::saying::{OfFile, say_of_file, say_of_files};
 use crate::usage::end_usage;
-use exercise_model::Recording;
+use siman_answers::{
+    Ended, Fault, OfFile, Outside, end, make_of_file, of_error, say_of_file, say_of_files,
+};
+use siman_files::{
+    Carried, CheckCommand, MendedFile, ShowCommand, end_lines, join_pieces, tell_word, word_of,
+};
+use siman_plays::{TrialCommand, WorldFile, end_live, end_station};
 use siman_texts::Spelling;
+use siman_views::{Finding, chart_named, log_named, review_named, why_named};
 use siman_words::{NoWord, OneWord, Task, TwoWords, ViewWord, asks_help, read_words};
 use std::alloc::Global;
 use std::io;
@@ -92,7 +63,7 @@ fn end_two<O: Outside, W: Write, E: Write>(
             errors,
         ),
         TwoWords::World => end(
-            make_of_file::<Recording, O, W>(alloc, words, outside, out),
+            make_of_file::<WorldFile, O, W>(alloc, words, outside, out),
             errors,
         ),
         TwoWords::Live => end_live(alloc, words, outside, out, errors),

@@ -1,13 +1,13 @@
 //! What is told of words that gave no task, and of none at a terminal.
 
 ghost use Rattle.std.specs.Prelude.{false};
-ghost use Rattle.siman_console.specs.Outside.{Outcome};
+ghost use Rattle.siman_answers.specs.Outside.{Outcome};
 ghost use Rattle.siman_console.specs.Program.{EndsUsage};
 
-use crate::fault::{Ended, Fault, end};
 use byte_files::put_shown;
 use clap::Error;
 use clap::error::ErrorKind;
+use siman_answers::{Ended, Fault, end};
 use siman_words::refuse_terminal;
 use std::alloc::Global;
 use std::io::Write;

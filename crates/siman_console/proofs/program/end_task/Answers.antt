@@ -4,10 +4,10 @@ use Rattle.std.proofs.lemmas.List.Elements.{All-nil}
 use Rattle.siman_words.specs.declared.commands.NoWord.{NoWord}
 use Rattle.siman_words.specs.declared.commands.NoWord.TheVariants.{Pdus}
 use Rattle.siman_scripts.specs.Text.{lines_of}
-use Rattle.siman_console.specs.Outside.{Has, Outcome, WasHeld}
+use Rattle.siman_answers.specs.Outside.{Has, Outcome, WasHeld}
 use Rattle.siman_console.specs.Program.{EndsBare}
-use Rattle.siman_console.specs.Program.Pdus.{EndsLines}
-use Rattle.siman_console.proofs.Openings.{adds_none}
+use Rattle.siman_files.specs.Pdus.{EndsLines}
+use Rattle.siman_answers.proofs.Offered.{adds_none}
 use Rattle.siman_console.proofs.program.end_task.Goals as goal
 
 pub returns-in-Trial : goal.returns-in-Trial

@@ -2,8 +2,8 @@
 use Rattle.std.proofs.Common.{[], refl}
 use Rattle.std.proofs.KnownBytes.{Keeps-refl}
 use Rattle.std.proofs.lemmas.List.Elements.{All-nil}
-use Rattle.siman_console.specs.Outside.{WasHeld}
-use Rattle.siman_console.proofs.Openings.{adds_none}
+use Rattle.siman_answers.specs.Outside.{WasHeld}
+use Rattle.siman_answers.proofs.Offered.{adds_none}
 use Rattle.siman_console.proofs.program.run.Goals as goal
 
 pub returns-in-Err : goal.returns-in-Err

@@ -1,0 +1,7 @@
+mod Inputs
+mod Openings
+mod Passings
+mod Shown
+mod Searches
+mod Verdicts
+pub mod Offered

@@ -1,0 +1,10 @@
+pub mod Outside
+pub mod Ending
+pub mod FilesFaults
+pub mod TrialFaults
+pub mod Endpoints
+pub mod Making
+pub mod Opening
+pub mod Saying
+pub mod Passing
+pub mod Recorded

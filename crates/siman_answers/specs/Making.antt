@@ -1,0 +1,51 @@
+-- What becomes of a file that a command makes (profile).
+use Rattle.std.specs.Prelude.{◌≡◌, ◌⊎◌, ℕ, List, [], ◌∷◌, Option, Result, Ok, Err}
+use Rattle.std.specs.Io.KnownBytes.{Appends, Keeps}
+use Rattle.byte_files.specs.Writing.{WritesPart}
+use Rattle.std.specs.declared.io.ErrorKind.{ErrorKind}
+use Rattle.siman_answers.specs.Ending.{IsToldAs}
+use Rattle.siman_answers.specs.declared.fault.Fault.{Fault}
+use Rattle.siman_answers.specs.declared.fault.Fault.TheVariants.{Output}
+use Rattle.siman_answers.specs.Outside.{Deed, Saved, Makes, Saves, Discards, Stream}
+
+-- what a command answered, its status, or the fault that it met
+abbrev pub Answered : Type 0
+Answered = Result ℕ Fault
+
+-- A line was written once the file was settled, or a prefix of it.
+abbrev pub SaysSettled : (line : List ℕ) → Result (Unit {0}) Fault → (file out : Stream) → Type 0
+SaysSettled line (Ok x) file out = Keeps file.old file.new × Appends out.old out.new line
+SaysSettled line (Err fault) file out = (fault ≡ Output) × Keeps file.old file.new × WritesPart out.old out.new line
+
+-- A failed write leaves a prefix of the file and no line, or the whole file and a prefix of the line.
+abbrev pub WritesShort : (first second : List ℕ) → (file out : Stream) → Type 0
+WritesShort first second file out =
+    (WritesPart file.old file.new first × Keeps out.old out.new)
+    ⊎ (Appends file.old file.new first × WritesPart out.old out.new second)
+
+-- Two texts were written, the first whole to a file before the second, or a write failed.
+abbrev pub PutsBoth : (first second : List ℕ) → Result ℕ Fault → (file out : Stream) → Type 0
+PutsBoth first second (Ok status) file out =
+    (status ≡ 0) × Appends file.old file.new first × Appends out.old out.new second
+PutsBoth first second (Err fault) file out = (fault ≡ Output) × WritesShort first second file out
+
+-- that the file to be written was not made or not saved is told as a failed write, or as want of memory
+abbrev pub TellsUnmade : ErrorKind → Answered → Stream → Type 0
+TellsUnmade kind answered out = Keeps out.old out.new × ((fault : Fault) × IsToldAs kind Output fault × (answered ≡ Err fault))
+
+-- The status is answered where the file was saved.
+abbrev pub AnswersSaved : Saved → (status : ℕ) → Answered → Type 0
+AnswersSaved (Ok x) status answered = answered ≡ Ok status
+AnswersSaved (Err kind) status answered = (fault : Fault) × IsToldAs kind Output fault × (answered ≡ Err fault)
+
+-- AFTER AN ANSWER THE FILE IS SAVED, with what it was left with, and after a fault it is discarded
+abbrev pub IsSaved : (left : Option (List ℕ)) → (put : Answered) → Deed → Answered → Type 0
+IsSaved left (Ok status) deed answered = (saved : Saved) × (deed ≡ Saves left saved) × AnswersSaved saved status answered
+IsSaved left (Err fault) deed answered = (deed ≡ Discards left) × (answered ≡ Err fault)
+
+-- A FILE IS MADE, of which this is written and said; and then it is saved, or discarded
+abbrev pub MakesFile : (Puts : Answered → (file out : Stream) → Type 0) → (name : List ℕ) → List Deed → Answered → Stream → Type 0
+MakesFile Puts name (Makes made (Err kind) ∷ []) answered out = (made ≡ name) × TellsUnmade kind answered out
+MakesFile Puts name (Makes made (Ok fresh) ∷ deed ∷ []) answered out =
+    (made ≡ name) × ((left : Option (List ℕ)) × (put : Answered) × (let file : Stream = record { old = fresh; new = left } in Puts put file out) × IsSaved left put deed answered)
+MakesFile Puts name deeds answered out = ⊥

@@ -1,0 +1,70 @@
+-- How files are opened to be read, while another is to be made (profile).
+use Rattle.std.specs.Prelude.{◌≡◌, ◌≢◌, ◌⊎◌, ℕ, true, false, List, [], ◌∷◌, ◌++◌, codes, Option, Result, Ok, Err}
+use Rattle.std.specs.Io.KnownBytes.{Keeps}
+use Rattle.std.specs.declared.io.ErrorKind.{ErrorKind}
+use Rattle.std.specs.declared.io.ErrorKind.TheVariants.{OutOfMemory}
+use Rattle.siman_answers.specs.declared.fault.Fault.{Fault}
+use Rattle.siman_answers.specs.declared.fault.Fault.TheVariants.{Memory}
+use Rattle.siman_answers.specs.Ending.{fault_text, reason_of, reason_text}
+use Rattle.siman_answers.specs.Making.{Answered}
+use Rattle.siman_answers.specs.Outside.{Deed, Opens, Compares, Reads, Stream}
+
+-- how a file that was not opened is told: want of memory, or else `file: NAME: REASON` with the name as it was given
+abbrev pub IsUnopened : List ℕ → ErrorKind → Fault → Type 0
+IsUnopened name kind fault = ((kind ≡ OutOfMemory) × (fault ≡ Memory)) ⊎ ((kind ≢ OutOfMemory) × (fault_text fault ≡ (codes "file: " ++ name) ++ codes ": " ++ reason_text (reason_of kind)))
+
+abbrev pub TellsUnopened : List ℕ → ErrorKind → Answered → Stream → Type 0
+TellsUnopened name kind answered out = Keeps out.old out.new × ((fault : Fault) × IsUnopened name kind fault × (answered ≡ Err fault))
+
+-- how it is told that the file to be made is the one that was opened: `output: same as NAME` with the name of that one as it was given
+abbrev pub IsSame : List ℕ → Fault → Type 0
+IsSame name fault = fault_text fault ≡ codes "output: same as " ++ name
+
+-- the bytes of a file that was opened, where they are known, or why it was not
+abbrev pub bytes_by : {F : Type 0} → (F → Option (List ℕ)) → Result F Fault → Result (Option (List ℕ)) Fault
+bytes_by bytes (Ok file) = Ok (bytes file)
+bytes_by bytes (Err fault) = Err fault
+
+-- A FILE IS OPENED that is not the one to be made; else nothing is read of it
+abbrev pub OpensApart : (name made : List ℕ) → List Deed → Result (Option (List ℕ)) Fault → Type 0
+OpensApart name made deeds (Ok bytes) = deeds ≡ Opens name (Ok bytes) ∷ Compares made false ∷ []
+OpensApart name made deeds (Err fault) =
+    ((kind : ErrorKind) × (deeds ≡ Opens name (Err kind) ∷ []) × IsUnopened name kind fault)
+    ⊎ ((bytes : Option (List ℕ)) × (deeds ≡ Opens name (Ok bytes) ∷ Compares made true ∷ []) × IsSame name fault)
+
+-- A FILE IS OPENED, something is made of what is read of it, and another file of that; or it is told why not, of a file that is not opened, and of one of which nothing comes
+abbrev pub WorksOn : {A : Type 0} → (Gives : Option (List ℕ) → Result A Fault → Type 0) → (Makes : A → (made : List ℕ) → List Deed → Answered → Stream → Type 0)
+    → (name made : List ℕ) → List Deed → Answered → Stream → Type 0
+WorksOn {A} Gives Makes name made deeds answered out =
+    ((fault : Fault) × OpensApart name made deeds (Err fault) × (answered ≡ Err fault) × Keeps out.old out.new)
+    ⊎ ((known : Option (List ℕ)) × (fault : Fault) × (deeds ≡ Opens name (Ok known) ∷ Compares made false ∷ Reads known ∷ []) × Gives known (Err fault)
+    × (answered ≡ Err fault) × Keeps out.old out.new)
+    ⊎ ((known : Option (List ℕ)) × (rest : List Deed) × (a : A) × (deeds ≡ Opens name (Ok known) ∷ Compares made false ∷ Reads known ∷ rest) × Gives known (Ok a)
+    × Makes a made rest answered out)
+
+-- two files are opened, neither of which is the one to be made
+abbrev pub opens_both : (name other made : List ℕ) → (first second : Option (List ℕ)) → List Deed
+opens_both name other made first second =
+    Opens name (Ok first) ∷ Compares made false ∷ Opens other (Ok second) ∷ Compares made false ∷ []
+
+-- the bytes of two files that were opened, where they are known, or why one was not
+abbrev pub both_by : {F : Type 0} → (F → Option (List ℕ)) → Result (F × F) Fault → Result (Option (List ℕ) × Option (List ℕ)) Fault
+both_by bytes (Ok files) = Ok (bytes files.0, bytes files.1)
+both_by bytes (Err fault) = Err fault
+
+-- BOTH FILES ARE OPENED in the order of the words, neither of which is the one to be made; else nothing is read of either, and the second is not asked for where the first is not opened
+abbrev pub OpensBoth : (name other made : List ℕ) → List Deed → Result (Option (List ℕ) × Option (List ℕ)) Fault → Type 0
+OpensBoth name other made deeds (Ok bytes) = deeds ≡ opens_both name other made bytes.0 bytes.1
+OpensBoth name other made deeds (Err fault) =
+    OpensApart name made deeds (Err fault)
+    ⊎ ((first : Option (List ℕ)) × (last : List Deed) × (deeds ≡ (Opens name (Ok first) ∷ Compares made false ∷ []) ++ last) × OpensApart other made last (Err fault))
+
+-- TWO FILES ARE OPENED before either is read, something is made of what is read of them, and another file of that; or it is told why not, as of one
+abbrev pub WorksOnBoth : {A : Type 0} → (Gives : (first second : Option (List ℕ)) → Result A Fault → Type 0) → (Makes : A → (made : List ℕ) → List Deed → Answered → Stream → Type 0)
+    → (name other made : List ℕ) → List Deed → Answered → Stream → Type 0
+WorksOnBoth {A} Gives Makes name other made deeds answered out =
+    ((fault : Fault) × OpensBoth name other made deeds (Err fault) × (answered ≡ Err fault) × Keeps out.old out.new)
+    ⊎ ((first second : Option (List ℕ)) × (fault : Fault) × (deeds ≡ opens_both name other made first second ++ Reads first ∷ Reads second ∷ [])
+    × Gives first second (Err fault) × (answered ≡ Err fault) × Keeps out.old out.new)
+    ⊎ ((first second : Option (List ℕ)) × (rest : List Deed) × (a : A) × (deeds ≡ opens_both name other made first second ++ Reads first ∷ Reads second ∷ rest)
+    × Gives first second (Ok a) × Makes a made rest answered out)

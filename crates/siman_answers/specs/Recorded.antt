@@ -1,0 +1,29 @@
+-- What reading a recording and its certificate gives, and how it is told that none was read, or that one is explained.
+use Rattle.std.specs.Prelude.{◌≡◌, ◌⊎◌, ℕ, List, codes, Result, Err}
+use Rattle.exercise_model.specs.Recording.{PlainRecording}
+use Rattle.exercise_recording.specs.declared.format_fault.FormatFault.{FormatFault}
+use Rattle.exercise_recording.specs.declared.format_fault.RecordingFault.TheVariants as recordings
+use Rattle.exercise_check.specs.declared.certificate.Step.{Step}
+use Rattle.exercise_check.specs.declared.certificate_fault.CertificateFormatFault.{CertificateFormatFault}
+use Rattle.siman_texts.specs.Spelled.{line_text}
+use Rattle.siman_reports.specs.CountLine.{counted}
+use Rattle.siman_answers.specs.declared.fault.Fault.{Fault}
+use Rattle.siman_answers.specs.declared.fault.Fault.TheVariants.{Recording, Memory}
+
+-- what reading a recording gives, and what reading a certificate gives: its steps
+abbrev pub Recorded : Type 0
+Recorded = Result PlainRecording FormatFault
+
+abbrev pub Certified : Type 0
+Certified = Result (List Step) CertificateFormatFault
+
+-- NOTHING WAS SEARCHED: the file has a bad field, a read failed, or memory ran out
+abbrev pub IsUnsearched : Recorded → Fault → Type 0
+IsUnsearched recorded fault =
+    ((bad : FormatFault) × (recorded ≡ Err bad) × (fault ≡ Recording (recordings.Format bad)))
+    ⊎ (fault ≡ Recording recordings.Read)
+    ⊎ (fault ≡ Memory)
+
+-- explained steps=N
+abbrev pub explained_text : ℕ → List ℕ
+explained_text steps = line_text (counted (codes "explained") (codes "steps") steps)

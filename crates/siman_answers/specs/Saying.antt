@@ -1,0 +1,20 @@
+-- What a command opens that says something of one file, or of two (profile).
+use Rattle.std.specs.Prelude.{◌≡◌, ℕ, List, [], ◌∷◌, Option, Ok, Err}
+use Rattle.siman_answers.specs.Making.{Answered}
+use Rattle.siman_answers.specs.Opening.{TellsUnopened}
+use Rattle.siman_answers.specs.Outside.{Stream, Deed, Opens, Reads}
+
+-- ONE FILE IS OPENED and read, of which this is said
+abbrev pub SaysOfFile : (Says : Option (List ℕ) → Answered → Stream → Type 0) → (name : List ℕ) → List Deed → Answered → Stream → Type 0
+SaysOfFile Says name (Opens opened (Ok known) ∷ Reads read ∷ []) answered out = (opened ≡ name) × (read ≡ known) × Says known answered out
+SaysOfFile Says name (Opens opened (Err kind) ∷ []) answered out = (opened ≡ name) × TellsUnopened name kind answered out
+SaysOfFile Says name deeds answered out = ⊥
+
+-- TWO FILES ARE OPENED in the order of the words before either is read, of which this is said; where the first is not, the other is not asked for
+abbrev pub SaysOfFiles : (Says : (first second : Option (List ℕ)) → Answered → Stream → Type 0) → (name other : List ℕ) → List Deed → Answered → Stream → Type 0
+SaysOfFiles Says name other (Opens opened (Err kind) ∷ []) answered out = (opened ≡ name) × TellsUnopened name kind answered out
+SaysOfFiles Says name other (Opens opened (Ok first) ∷ Opens next (Err kind) ∷ []) answered out =
+    (opened ≡ name) × (next ≡ other) × TellsUnopened other kind answered out
+SaysOfFiles Says name other (Opens opened (Ok first) ∷ Opens next (Ok second) ∷ Reads one ∷ Reads two ∷ []) answered out =
+    (opened ≡ name) × (next ≡ other) × (one ≡ first) × (two ≡ second) × Says first second answered out
+SaysOfFiles Says name other deeds answered out = ⊥

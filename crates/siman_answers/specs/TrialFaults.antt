@@ -1,0 +1,22 @@
+-- How it is told that a trial was not made.
+use Rattle.siman_scripts.specs.declared.script_fault.ScriptFault.{ScriptFault}
+use Rattle.siman_scripts.specs.declared.script_fault.ScriptFault.TheVariants as scripts
+use Rattle.siman_worlds.specs.declared.world_fault.WorldFault.{WorldFault}
+use Rattle.siman_worlds.specs.declared.world_fault.WorldFault.TheVariants as worlds
+use Rattle.siman_answers.specs.declared.input.InputFault.{InputFault}
+use Rattle.siman_answers.specs.declared.input.InputFault.TheVariants as inputs
+use Rattle.siman_answers.specs.declared.trial_fault.TrialFault.{TrialFault}
+use Rattle.siman_answers.specs.declared.trial_fault.TrialFault.TheVariants.{Read, Script, World, Memory}
+
+-- how it is passed on that a text was not read whole, the fault of a script, and that of its world
+abbrev pub unread : InputFault → TrialFault
+unread (inputs.Unread failed) = Read failed
+unread inputs.Memory = Memory
+
+abbrev pub script_refused : ScriptFault → TrialFault
+script_refused scripts.Memory = Memory
+script_refused fault = Script fault
+
+abbrev pub world_refused : WorldFault → TrialFault
+world_refused worlds.Memory = Memory
+world_refused fault = World fault

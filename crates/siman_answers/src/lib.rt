@@ -1,0 +1,41 @@
+//! What all commands of `siman` share: the faults that they meet and how each is told, what a program
+//! may do outside, and how files are opened, read, made and written.
+//!
+//! It knows no command, opens no file itself and ends no process. A command is a [`Product`], of which
+//! a file is made ([`make_of_file`]), or says something of one file or two ([`OfFile`], [`OfFiles`]),
+//! over what a program may do ([`Outside`]), and gives a status or a [`Fault`], as which [`end`] ends.
+//! The contracts here say which files are opened and made, in which order (`SaysOfFile`, `WorksOn`,
+//! `MakesFile`), and what is told of each fault, to the byte (`fault_line`, `Ends`); the crates of the
+//! commands say what is made of what is read.
+#![tactic(auto)]
+
+mod endpoint;
+mod fault;
+mod files_fault;
+mod input;
+mod join_limit;
+mod limits;
+mod making;
+mod opening;
+mod outside;
+mod passing;
+mod place;
+mod product;
+mod reason;
+mod saying;
+mod trial_fault;
+
+pub use endpoint::{Endpoint, endpoint_of};
+pub use fault::{Ended, Fault, end, of_error, tell};
+pub use files_fault::FilesFault;
+pub use input::{InputFault, Unread, read_text};
+pub use join_limit::JoinLimit;
+pub use limits::{LARGEST_CERTIFICATE, LARGEST_RECORDING};
+pub use making::{Making, make_file, settle_and_say};
+pub use opening::{open_apart, open_both, unopened};
+pub use outside::Outside;
+pub use passing::{HELD, pass_on, status_of};
+pub use product::{Product, make_of_file};
+pub use reason::Reason;
+pub use saying::{OfFile, OfFiles, say_of_file, say_of_files};
+pub use trial_fault::TrialFault;

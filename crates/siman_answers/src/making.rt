@@ -1,0 +1,93 @@
+//! Making a file: what is written to it, and what is said then.
+
+ghost use Rattle.std.specs.Prelude.{◌≡◌, ◌∷◌, [], ℕ, List, Option, Result};
+ghost use Rattle.std.specs.List.{All};
+ghost use Rattle.siman_answers.specs.declared.fault.Fault.{Fault};
+ghost use Rattle.siman_answers.specs.Outside.{Deed, Found, Adds, WasHeld, Stream};
+ghost use Rattle.siman_answers.specs.Making.{SaysSettled, IsSaved, MakesFile};
+
+use crate::fault::{Fault, of_error};
+use crate::outside::Outside;
+use byte_files::put;
+use std::alloc::Global;
+use std::io::Write;
+
+/// What a command makes a file of.
+pub trait Making {
+    /// What is written to the file and said, and the status or the fault that is answered.
+    ghost puts: { Self → Result ℕ Fault → (file out : Stream) → Type 0 };
+
+    /// Writes it to a file, whole, has that outlast the machine, and then says what there is to say;
+    /// gives the status.
+    fn put<F: Write, W: Write>(
+        &self,
+        alloc: Global,
+        file: &mut F,
+        out: &mut W,
+    ) -> Result<u8, Fault<'static>>
+        ensures { let file : Stream = record { old = F.contents file.old; new = F.contents file.new } in
+            let out : Stream = record { old = W.contents out.old; new = W.contents out.new } in
+            puts self.now result file out };
+}
+
+/// Has what was written to a file outlast the machine, and then writes a line.
+pub fn settle_and_say<F: Write, W: Write>(
+    file: &mut F,
+    line: &str,
+    out: &mut W,
+) -> Result<(), Fault<'static>>
+    ensures { let file : Stream = record { old = F.contents file.old; new = F.contents file.new } in
+        let out : Stream = record { old = W.contents out.old; new = W.contents out.new } in
+        SaysSettled line.now result file out }
+{
+    if file.flush().is_err() {
+        return Err(Fault::Output);
+    }
+    match put(out, line.as_bytes()) {
+        Ok(()) => Ok(()),
+        Err(_) => Err(Fault::Output),
+    }
+}
+
+/// Saves a file that was written, or discards it where there was a fault.
+fn save_or_discard<O: Outside>(
+    put: Result<u8, Fault<'static>>,
+    file: O::Made,
+    outside: &mut O,
+) -> Result<u8, Fault<'static>>
+    ensures { (deed : Deed) × Adds (O.deeds outside.old) (O.deeds outside.new) (deed ∷ []) × IsSaved (O.Made.contents file) put.entry deed result }
+{
+    let status = match put {
+        Ok(status) => status,
+        Err(fault) => {
+            outside.discard(file);
+            return Err(fault);
+        }
+    };
+    match outside.save(file) {
+        Ok(()) => Ok(status),
+        Err(error) => Err(of_error(&error, Fault::Output)),
+    }
+}
+
+/// Makes the file of a name, writes what there is to write, whole, and then says what there is to
+/// say. The file is saved after that, and discarded after a fault.
+pub fn make_file<M: Making, O: Outside, W: Write>(
+    alloc: Global,
+    made: &M,
+    name: &str,
+    outside: &mut O,
+    out: &mut W,
+) -> Result<u8, Fault<'static>>
+    ensures { let out : Stream = record { old = W.contents out.old; new = W.contents out.new } in
+        (deeds : List Deed) × Adds (O.deeds outside.old) (O.deeds outside.new) deeds × ((holds : List ℕ → Option Found) → All (WasHeld holds) deeds) × MakesFile (M.puts made.now) name.now deeds result out }
+{
+    match outside.make(name) {
+        Ok(file) => {
+            let mut file = file;
+            let put = made.put(alloc, &mut file, out);
+            save_or_discard(put, file, outside)
+        }
+        Err(error) => Err(of_error(&error, Fault::Output)),
+    }
+}

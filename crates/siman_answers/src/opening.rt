@@ -1,0 +1,57 @@
+//! Opening files to be read, while another is to be made.
+
+ghost use Rattle.std.specs.Prelude.{◌≡◌, List};
+ghost use Rattle.std.specs.IoError.{error_kind};
+ghost use Rattle.std.specs.List.{All};
+ghost use Rattle.siman_answers.specs.Outside.{Deed, Adds, WasHeld};
+ghost use Rattle.siman_answers.specs.Opening.{IsUnopened, OpensApart, OpensBoth, bytes_by, both_by};
+
+use crate::fault::Fault;
+use crate::outside::Outside;
+use crate::reason::reason_of;
+use std::io;
+use std::io::ErrorKind;
+
+/// How it is told that the file of a name could not be opened.
+pub fn unopened<'a>(name: &'a str, error: &io::Error) -> Fault<'a>
+    ensures { IsUnopened name.now (error_kind error.now) result }
+{
+    if error.kind() == ErrorKind::OutOfMemory {
+        return Fault::Memory;
+    }
+    Fault::File(name, reason_of(error.kind()))
+}
+
+/// Opens the file of the first name to be read, which must not be the one that is to be made under
+/// the second.
+pub fn open_apart<'a, O: Outside>(
+    names: (&'a str, &'a str),
+    outside: &mut O,
+) -> Result<O::Opened, Fault<'a>>
+    ensures { (deeds : List Deed) × Adds (O.deeds outside.old) (O.deeds outside.new) deeds × All (WasHeld (O.holds outside.old)) deeds × OpensApart names.entry.0.now names.entry.1.now deeds (bytes_by O.bytes result) × (O.holds outside.new ≡ O.holds outside.old) }
+{
+    let (name, made) = names;
+    match outside.open(name) {
+        Ok(file) => {
+            if outside.is_opened(&file, made) {
+                return Err(Fault::SameAs(name));
+            }
+            Ok(file)
+        }
+        Err(error) => Err(unopened(name, &error)),
+    }
+}
+
+/// Opens two files in the order of their names, neither of which may be the one that is to be made.
+pub fn open_both<'a, O: Outside>(
+    names: (&'a str, &'a str),
+    made: &'a str,
+    outside: &mut O,
+) -> Result<(O::Opened, O::Opened), Fault<'a>>
+    ensures { (deeds : List Deed) × Adds (O.deeds outside.old) (O.deeds outside.new) deeds × All (WasHeld (O.holds outside.old)) deeds × OpensBoth names.entry.0.now names.entry.1.now made.now deeds (both_by O.bytes result) }
+{
+    let (name, other) = names;
+    let first = open_apart((name, made), outside)?;
+    let second = open_apart((other, made), outside)?;
+    Ok((first, second))
+}

@@ -1,0 +1,45 @@
+//! Why a file could not be opened.
+
+ghost use Rattle.std.specs.Prelude.{◌≡◌};
+ghost use Rattle.siman_answers.specs.Ending.{reason_of, reason_text};
+
+use std::io::ErrorKind;
+
+/// Why a file could not be opened.
+#[derive(Clone, Copy)]
+pub enum Reason {
+    /// None stands under its name.
+    Missing,
+    /// It may not be read.
+    Denied,
+    /// It is a directory.
+    Directory,
+    /// Something else.
+    Other,
+}
+
+impl Reason {
+    /// How it is told.
+    pub(crate) fn name(self) -> &'static str
+        ensures { result.now ≡ reason_text self }
+    {
+        match self {
+            Reason::Missing => "no such file",
+            Reason::Denied => "permission denied",
+            Reason::Directory => "is a directory",
+            Reason::Other => "cannot be opened",
+        }
+    }
+}
+
+/// The reason that an error gives.
+pub(crate) fn reason_of(kind: ErrorKind) -> Reason
+    ensures { result ≡ reason_of kind }
+{
+    match kind {
+        ErrorKind::NotFound => Reason::Missing,
+        ErrorKind::PermissionDenied => Reason::Denied,
+        ErrorKind::IsADirectory => Reason::Directory,
+        _ => Reason::Other,
+    }
+}

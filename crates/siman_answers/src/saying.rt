@@ -1,0 +1,94 @@
+//! Saying something of files: what a command opens, in which order, and what it says of them.
+
+ghost use Rattle.std.specs.Prelude.{◌≡◌, ℕ, List, Option, Result};
+ghost use Rattle.std.specs.List.{All};
+ghost use Rattle.siman_answers.specs.declared.fault.Fault.{Fault};
+ghost use Rattle.siman_answers.specs.Outside.{Deed, Adds, WasHeld, Stream};
+ghost use Rattle.siman_answers.specs.Saying.{SaysOfFile, SaysOfFiles};
+
+use crate::fault::Fault;
+use crate::opening::unopened;
+use crate::outside::Outside;
+use std::alloc::Global;
+use std::io::{Read, Write};
+
+/// A command that says something of one file.
+pub trait OfFile {
+    /// What is said of a file that has these bytes, where they are known, and the status or the
+    /// fault that is answered.
+    ghost says: { Self → (known : Option (List ℕ)) → Result ℕ Fault → (out : Stream) → Type 0 };
+
+    /// Says what there is to say of what a reader has, and gives the status.
+    fn say<R: Read + Drop, W: Write>(
+        &self,
+        alloc: Global,
+        file: R,
+        out: &mut W,
+    ) -> Result<u8, Fault<'static>>
+        ensures { let out : Stream = record { old = W.contents out.old; new = W.contents out.new } in
+            says self.now (R.remaining file) result out };
+}
+
+/// A command that says something of two files.
+pub trait OfFiles {
+    /// What is said of files that have these bytes, as of one.
+    ghost says: { Self → (first second : Option (List ℕ)) → Result ℕ Fault → (out : Stream) → Type 0 };
+
+    /// Says what there is to say of what two readers have, and gives the status.
+    fn say<R: Read + Drop, S: Read + Drop, W: Write>(
+        &self,
+        alloc: Global,
+        first: R,
+        second: S,
+        out: &mut W,
+    ) -> Result<u8, Fault<'static>>
+        ensures { let out : Stream = record { old = W.contents out.old; new = W.contents out.new } in
+            says self.now (R.remaining first) (S.remaining second) result out };
+}
+
+/// Opens a file, and says of it what a command says.
+pub fn say_of_file<'a, C: OfFile, O: Outside, W: Write>(
+    alloc: Global,
+    command: &C,
+    name: &'a str,
+    outside: &mut O,
+    out: &mut W,
+) -> Result<u8, Fault<'a>>
+    ensures { let out : Stream = record { old = W.contents out.old; new = W.contents out.new } in
+        (deeds : List Deed) × Adds (O.deeds outside.old) (O.deeds outside.new) deeds × All (WasHeld (O.holds outside.old)) deeds × SaysOfFile (C.says command.now) name.now deeds result out }
+{
+    match outside.open(name) {
+        Ok(opened) => {
+            let file = outside.read(opened);
+            command.say(alloc, file, out)
+        }
+        Err(error) => Err(unopened(name, &error)),
+    }
+}
+
+/// Opens two files in the order of the words before any of them is read, and says of them what a
+/// command says.
+pub fn say_of_files<'a, C: OfFiles, O: Outside, W: Write>(
+    alloc: Global,
+    command: &C,
+    names: (&'a str, &'a str),
+    outside: &mut O,
+    out: &mut W,
+) -> Result<u8, Fault<'a>>
+    ensures { let out : Stream = record { old = W.contents out.old; new = W.contents out.new } in
+        (deeds : List Deed) × Adds (O.deeds outside.old) (O.deeds outside.new) deeds × All (WasHeld (O.holds outside.old)) deeds × SaysOfFiles (C.says command.now) names.entry.0.now names.entry.1.now deeds result out }
+{
+    let (name, other) = names;
+    let first = match outside.open(name) {
+        Ok(opened) => opened,
+        Err(error) => return Err(unopened(name, &error)),
+    };
+    match outside.open(other) {
+        Ok(second) => {
+            let first = outside.read(first);
+            let second = outside.read(second);
+            command.say(alloc, first, second, out)
+        }
+        Err(error) => Err(unopened(other, &error)),
+    }
+}

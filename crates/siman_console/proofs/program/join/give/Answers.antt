@@ -1,9 +1,0 @@
--- Memory ran out for the line.
-use Rattle.std.proofs.Common.{refl}
-use Rattle.exercise_recording.specs.declared.join_fault.JoinFault.TheVariants as joins
-use Rattle.siman_console.specs.Program.Join.{Gives}
-use Rattle.siman_console.proofs.Inputs.{at_fault}
-use Rattle.siman_console.proofs.program.join.give.Goals as goal
-
-pub returns-in_err-line : goal.returns-in_err-line
-returns-in_err-line c = at_fault (Gives c.args.joining) _ _ c.from_residual.ensures.1 (joins.Memory, tt, refl)

@@ -1,7 +1,0 @@
--- The status alone is answered.
-use Rattle.siman_console.proofs.program.pdus.pdus_command.Goals as goal
-
-pub returns : goal.returns
-returns g c =
-    let ends = c.end_lines.ensures in
-    (ends.0, ends.1, (c.end_lines.result.written, ends.2))

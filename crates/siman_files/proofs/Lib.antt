@@ -1,0 +1,6 @@
+mod Readings
+mod Tellings
+mod Shown
+mod Verdicts
+mod Conversions
+mod JoinedPieces

@@ -1,0 +1,111 @@
+-- What `check` says of a recording and a certificate, and how it ends.
+use Rattle.std.specs.Prelude.{◌≡◌, ◌⊎◌, ℕ, List, Bool, true, false, Option, Result, Ok, Err}
+use Rattle.std.specs.Io.KnownBytes.{Appends, Keeps}
+use Rattle.exercise_model.specs.declared.cause.Cause.{Cause}
+use Rattle.exercise_recording.specs.declared.format_fault.RecordingFault.TheVariants as recordings
+use Rattle.exercise_model.specs.Recording.{PlainRecording}
+use Rattle.exercise_model.specs.Headline.{Holds}
+use Rattle.exercise_model.specs.Alike.{IsAlwaysAsSaid}
+use Rattle.byte_files.specs.Writing.{WritesPart}
+use Rattle.exercise_check.specs.declared.certificate.Step.{Step}
+use Rattle.exercise_check.specs.declared.certificate_fault.CertificateFault.TheVariants as certificates
+use Rattle.exercise_check.specs.declared.checker.CheckFault.TheVariants.{Bad}
+use Rattle.exercise_findings.specs.Account.{AccountData, TellsAccount}
+use Rattle.exercise_check.specs.Checked.{TellsKnowledge, TellsPairs}
+use Rattle.exercise_check.specs.Order.{order_of}
+use Rattle.exercise_check.specs.Goodness.{IsGood, Refuses}
+use Rattle.siman_answers.specs.declared.files_fault.FilesFault.{FilesFault}
+use Rattle.siman_answers.specs.declared.files_fault.FilesFault.TheVariants.{Recording, Certificate, Write, Memory}
+use Rattle.siman_answers.specs.declared.fault.Fault.{Fault}
+use Rattle.siman_answers.specs.Ending.{EndsWith, of_files}
+use Rattle.siman_answers.specs.declared.limits.TheConstants.{LARGEST_CERTIFICATE, LARGEST_RECORDING}
+use Rattle.exercise_recording.specs.Reading.{recording_at}
+use Rattle.exercise_check.specs.Certificate.{certificate_at}
+use Rattle.siman_answers.specs.Outside.{Has, Stream}
+use Rattle.siman_answers.specs.Recorded.{Recorded, Certified}
+use Rattle.siman_reports.specs.Report.{report_text, no_text}
+
+-- WHAT A YES SAYS
+pub record SaysYes (recorded : Recorded) (certified : Certified) (old new : Option (List ℕ)) : Type 0 where
+  -- the first file is this recording
+  pub recording : PlainRecording
+  pub read : recorded ≡ Ok recording
+  -- the second file is the certificate of these steps
+  pub steps : List Step
+  pub certificate : certified ≡ Ok steps
+  -- it has a step for each entry, and each step is good
+  pub good : IsGood recording steps
+  -- the order that it names is a run that explains the recording: the headline's sentences hold of it
+  pub holds : Holds recording (order_of recording steps)
+  -- what it tells of answers and of the changes behind Ables is what the recording says; each pair is the request that is taken up in that run, and each change is known in it
+  pub knows : (checked : AccountData) × TellsAccount recording checked × TellsPairs recording (order_of recording steps) checked × TellsKnowledge recording (order_of recording steps) checked
+  -- and what it tells is so in every run that explains the recording: the same pairs, the same states at the end
+  pub said : IsAlwaysAsSaid recording
+  -- the report of the recording is out, behind what was there
+  pub out : Appends old new (report_text recording)
+
+-- WHAT A NO SAYS
+pub record SaysNo (recorded : Recorded) (certified : Certified) (old new : Option (List ℕ)) : Type 0 where
+  pub recording : PlainRecording
+  pub read : recorded ≡ Ok recording
+  pub steps : List Step
+  pub certificate : certified ≡ Ok steps
+  -- this step is the first bad one, and this cause the first that holds there; or the count differs
+  pub step : ℕ
+  pub cause : Cause
+  pub refused : Refuses recording steps (Bad step cause)
+  -- so the certificate is not good
+  pub bad : ¬ IsGood recording steps
+  -- its line is out, behind what was there
+  pub out : Appends old new (no_text step cause)
+
+-- the text that is to go out for a recording and the steps of a certificate
+abbrev pub IsDue : PlainRecording → List Step → List ℕ → Type 0
+IsDue r steps text =
+    (IsGood r steps × (text ≡ report_text r)) ⊎ ((k : ℕ) × (cause : Cause) × Refuses r steps (Bad k cause) × (text ≡ no_text k cause))
+
+-- WHAT A FAILED WRITE LEAVES: of the text that was to go out a prefix
+pub record SaysPart (recorded : Recorded) (certified : Certified) (old new : Option (List ℕ)) : Type 0 where
+  pub recording : PlainRecording
+  pub read : recorded ≡ Ok recording
+  pub steps : List Step
+  pub certificate : certified ≡ Ok steps
+  pub text : List ℕ
+  pub due : IsDue recording steps text
+  pub part : WritesPart old new text
+
+-- A recording and a certificate were judged: a yes, a no, or the first file that is none; a failed read may come in place of either file, want of memory at any time.
+abbrev pub Judges : Recorded → Certified → Result Bool FilesFault → Option (List ℕ) → Option (List ℕ) → Type 0
+Judges recorded certified (Ok true) old new = SaysYes recorded certified old new
+Judges recorded certified (Ok false) old new = SaysNo recorded certified old new
+Judges recorded certified (Err (Recording (recordings.Format fault))) old new = (recorded ≡ Err fault) × Keeps old new
+Judges recorded certified (Err (Recording recordings.Read)) old new = Keeps old new
+Judges recorded certified (Err (Recording recordings.Memory)) old new = ⊥
+Judges recorded certified (Err (Certificate (certificates.Format fault))) old new =
+    ((r : PlainRecording) × (recorded ≡ Ok r)) × (certified ≡ Err fault) × Keeps old new
+Judges recorded certified (Err (Certificate certificates.Read)) old new = ((r : PlainRecording) × (recorded ≡ Ok r)) × Keeps old new
+Judges recorded certified (Err (Certificate certificates.Memory)) old new = ⊥
+Judges recorded certified (Err Write) old new = SaysPart recorded certified old new
+Judges recorded certified (Err Memory) old new = Keeps old new
+
+-- the status of what was judged: 0 yes, 1 no
+abbrev pub judged_status : Result Bool FilesFault → Result ℕ Fault
+judged_status (Ok true) = Ok 0
+judged_status (Ok false) = Ok 1
+judged_status (Err fault) = Err (of_files fault)
+
+-- What `check` tells: what it judged is out, with status 0 or 1, or it met a fault.
+abbrev pub TellsCheck : Recorded → Certified → (answered : Result ℕ Fault) → (old new : Option (List ℕ)) → Type 0
+TellsCheck recorded certified answered old new =
+    (judged : Result Bool FilesFault) × Judges recorded certified judged old new × (answered ≡ judged_status judged)
+
+-- WHAT `check` SAYS of two files that have these bytes, where they are known
+abbrev pub ChecksFiles : (recording certificate : Option (List ℕ)) → Result ℕ Fault → (out : Stream) → Type 0
+ChecksFiles recording certificate answered out =
+    (bytes : List ℕ) × Has recording bytes
+    × ((text : List ℕ) × Has certificate text × TellsCheck (recording_at LARGEST_RECORDING bytes) (certificate_at LARGEST_CERTIFICATE text) answered out.old out.new)
+
+-- HOW `check` ENDS: what it judged is out, and it ends as that asks for
+abbrev pub EndsCheck : Recorded → Certified → (status : ℕ) → (old new : Option (List ℕ)) → (errors_old errors_new : Option (List ℕ)) → Type 0
+EndsCheck recorded certified status old new errors_old errors_new =
+    (answered : Result ℕ Fault) × TellsCheck recorded certified answered old new × EndsWith answered status errors_old errors_new

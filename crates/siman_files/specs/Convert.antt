@@ -1,0 +1,41 @@
+-- What `convert` does with a recording, and how it ends.
+use Rattle.std.specs.Prelude.{◌≡◌, ◌⊎◌, ℕ, List, length, codes, Option, Result, Ok, Err, string_bytes}
+use Rattle.exercise_model.specs.Recording.{PlainRecording}
+use Rattle.exercise_model.specs.Conversion.{converted}
+use Rattle.exercise_recording.specs.Text.{recording_text}
+use Rattle.exercise_recording.specs.Conversion.{IsOld, IsAlready}
+use Rattle.siman_files.specs.declared.convert.Carried.{Carried}
+use Rattle.siman_answers.specs.declared.fault.Fault.{Fault}
+use Rattle.siman_answers.specs.declared.fault.Fault.TheVariants.{Already}
+use Rattle.siman_answers.specs.Recorded.{Recorded, IsUnsearched}
+use Rattle.siman_reports.specs.CountLine.{counted}
+use Rattle.siman_files.specs.declared.convert.TheConstants.{LARGEST_OLD_RECORDING}
+use Rattle.exercise_recording.specs.Reading.{recording_at}
+use Rattle.siman_answers.specs.Outside.{Has, Stream, Deed}
+use Rattle.siman_answers.specs.Making.{MakesFile, PutsBoth}
+use Rattle.siman_texts.specs.Spelled.{line_text}
+
+-- converted records=N
+abbrev pub converted_text : (entries : ℕ) → List ℕ
+converted_text entries = line_text (counted (codes "converted") (codes "records") entries)
+
+-- NOTHING IS CARRIED OVER: the file has a bad field, a read failed, memory ran out, or it is a recording of the second format already
+abbrev pub IsUncarried : Recorded → Fault → Type 0
+IsUncarried recorded fault = IsUnsearched recorded fault ⊎ (IsAlready recorded × (fault ≡ Already))
+
+-- the texts of a recording that is carried over: that of its conversion, and its line
+pub record CarriesTexts (r : PlainRecording) (text line : List ℕ) : Type 0 where
+  pub text_is : text ≡ recording_text (converted r)
+  pub line_is : line ≡ converted_text (length r.entries)
+
+-- what is carried over, with its texts
+abbrev pub Carries : Recorded → Result Carried Fault → Type 0
+Carries recorded (Ok carried) = (r : PlainRecording) × IsOld recorded r × CarriesTexts r carried.conversion.text (string_bytes carried.line)
+Carries recorded (Err fault) = IsUncarried recorded fault
+
+-- WHAT COMES OF A FILE for `convert` that has these bytes, where they are known; and a file of the conversion is made: its text, whole, and then its line, with status 0
+abbrev pub CarriesFile : (known : Option (List ℕ)) → Result Carried Fault → Type 0
+CarriesFile known carried = (bytes : List ℕ) × Has known bytes × Carries (recording_at LARGEST_OLD_RECORDING bytes) carried
+
+abbrev pub MakesConverted : Carried → (name : List ℕ) → List Deed → Result ℕ Fault → (out : Stream) → Type 0
+MakesConverted carried name = MakesFile (PutsBoth carried.conversion.text (string_bytes carried.line)) name

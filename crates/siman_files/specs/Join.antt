@@ -1,0 +1,140 @@
+-- What `join` does with pieces of a recording, and how it ends.
+use Rattle.std.specs.Prelude.{◌≡◌, ◌⊎◌, ℕ, List, [], ◌∷◌, ◌++◌, map, codes, false, Option, Some, None, Result, Ok, Err, Vec, string_bytes, if◌then◌else◌}
+use Rattle.std.specs.List.{flat_map}
+use Rattle.std.specs.declared.alloc.Global.{Global}
+use Rattle.std.specs.Io.KnownBytes.{Keeps}
+use Rattle.exercise_model.specs.declared.form.Form.{Form}
+use Rattle.exercise_model.specs.Setting.{is_open}
+use Rattle.exercise_recording.specs.declared.join_fault.JoinFault.{JoinFault}
+use Rattle.exercise_recording.specs.declared.join_fault.JoinFault.TheVariants as joins
+use Rattle.exercise_recording.specs.declared.joined.FormWord.{FormWord}
+use Rattle.exercise_recording.specs.declared.joined.FormWord.TheVariants.{Unsaid, Open, Closed}
+use Rattle.exercise_recording.specs.declared.joined.Joined.{Joined}
+use Rattle.exercise_recording.specs.FaultText.{join_fault_text}
+use Rattle.exercise_recording.specs.Joining.{JoiningData, Recorded, Takes, Ends}
+use Rattle.exercise_recording.specs.Reading.{recording_at}
+use Rattle.siman_words.specs.declared.commands.JoinForm.{JoinForm}
+use Rattle.siman_words.specs.declared.commands.JoinForm.TheVariants as asked
+use Rattle.siman_texts.specs.Line.{Line, Number, Word, Keyed, named_line}
+use Rattle.siman_texts.specs.Spelled.{line_text}
+use Rattle.siman_answers.specs.declared.fault.Fault.{Fault}
+use Rattle.siman_answers.specs.declared.fault.Fault.TheVariants.{Output, Memory}
+use Rattle.siman_files.specs.declared.join.JoinedFile.{JoinedFile}
+use Rattle.siman_files.specs.declared.join.OpenPiece.{OpenPiece}
+use Rattle.siman_answers.specs.declared.limits.TheConstants.{LARGEST_RECORDING}
+use Rattle.siman_answers.specs.Ending.{fault_text}
+use Rattle.siman_answers.specs.Making.{Answered, MakesFile, PutsBoth}
+use Rattle.siman_answers.specs.Opening.{OpensApart}
+use Rattle.siman_answers.specs.Outside.{Has, Stream, Deed, Opens, Compares, Reads}
+
+-- the form that words ask for, if they ask for one
+abbrev pub word_of : Option JoinForm → FormWord
+word_of None = Unsaid
+word_of (Some asked.Open) = Open
+word_of (Some asked.Closed) = Closed
+
+-- ---- what is told
+
+-- the name of a form of the second format
+abbrev pub form_word : Form → List ℕ
+form_word form = if is_open form then codes "open" else codes "closed"
+
+-- joined pieces=N stations=N records=N form=FORM
+abbrev pub joined_line : Joined → Line
+joined_line told =
+    named_line (codes "joined") (Keyed (codes "pieces") (Number told.pieces) ∷ Keyed (codes "stations") (Number told.stations)
+    ∷ Keyed (codes "records") (Number told.entries) ∷ Keyed (codes "form") (Word (form_word told.form)) ∷ [])
+
+abbrev pub joined_text : Joined → List ℕ
+joined_text told = line_text (joined_line told)
+
+-- HOW IT IS TOLD that pieces are not joined: of a piece that was not taken, its fault and its name as it was given
+abbrev pub IsToldOf : JoinFault → (name : List ℕ) → Fault → Type 0
+IsToldOf (joins.Recording why) name fault = fault_text fault ≡ codes "recording: " ++ join_fault_text (joins.Recording why) ++ codes " in " ++ name
+IsToldOf joins.Exercise name fault = fault_text fault ≡ codes "join: exercise in " ++ name
+IsToldOf (joins.Station a) name fault = fault_text fault ≡ codes "join: " ++ join_fault_text (joins.Station a) ++ codes " in " ++ name
+IsToldOf joins.Stations name fault = fault_text fault ≡ codes "join: stations"
+IsToldOf joins.Records name fault = fault_text fault ≡ codes "join: records"
+IsToldOf joins.Size name fault = fault_text fault ≡ codes "join: size"
+IsToldOf joins.Write name fault = fault ≡ Output
+IsToldOf joins.Memory name fault = fault ≡ Memory
+
+-- ---- opening
+
+-- a piece that was opened: its name, and its bytes where they are known
+pub record Seen : Type 0 where
+  pub name : List ℕ
+  pub bytes : Option (List ℕ)
+
+-- it as it is held
+abbrev pub seen_by : {F : Type 0} → (F → Option (List ℕ)) → OpenPiece F → Seen
+seen_by bytes piece = record { name = piece.name.now; bytes = bytes piece.file }
+
+-- the pieces that were opened, or why one was not
+abbrev pub Opening : Type 0
+Opening = Result (List Seen) Fault
+
+abbrev pub opened_by : {F : Type 0} → (F → Option (List ℕ)) → Result (Vec (OpenPiece F) Global) Fault → Opening
+opened_by bytes (Ok pieces) = Ok (map (seen_by bytes) pieces.items)
+opened_by bytes (Err fault) = Err fault
+
+-- each was opened, and is not the file to be made
+abbrev pub opening_deeds : (made : List ℕ) → Seen → List Deed
+opening_deeds made piece = Opens piece.name (Ok piece.bytes) ∷ Compares made false ∷ []
+
+-- Why no further piece is opened: memory ran out, or one is not opened, or is the file to be made.
+abbrev pub StopsAt : (left : List (List ℕ)) → (made : List ℕ) → List Deed → Fault → Type 0
+StopsAt left made deeds fault =
+    ((deeds ≡ []) × (fault ≡ Memory))
+    ⊎ ((name : List ℕ) × (more : List (List ℕ)) × (left ≡ name ∷ more) × OpensApart name made deeds (Err fault))
+
+-- PIECES ARE OPENED in the order of the words, none of which is the file to be made; or some are, and then no other
+abbrev pub OpensPieces : (names : List (List ℕ)) → (made : List ℕ) → List Deed → Opening → Type 0
+OpensPieces names made deeds (Ok pieces) = (names ≡ map (λ (piece : Seen). piece.name) pieces) × (deeds ≡ flat_map (opening_deeds made) pieces)
+OpensPieces names made deeds (Err fault) =
+    (pieces : List Seen) × (left : List (List ℕ)) × (last : List Deed) × (names ≡ map (λ (piece : Seen). piece.name) pieces ++ left)
+    × (deeds ≡ flat_map (opening_deeds made) pieces ++ last) × StopsAt left made last fault
+
+-- ---- reading
+
+-- a piece that was read is taken behind the others, or it is told why not
+abbrev pub TellsTaken : Recorded → (name : List ℕ) → (old : JoiningData) → Result (Unit {0}) Fault → (new : JoiningData) → Type 0
+TellsTaken recorded name old (Ok u) new = Takes recorded (Ok u) old new
+TellsTaken recorded name old (Err fault) new = (why : JoinFault) × Takes recorded (Err why) old new × IsToldOf why name fault
+
+-- WHAT READING A PIECE DOES
+abbrev pub TakesPiece : Seen → (old : JoiningData) → List Deed → Result (Unit {0}) Fault → (new : JoiningData) → Type 0
+TakesPiece piece old deeds result new =
+    (bytes : List ℕ) × Has piece.bytes bytes × (deeds ≡ Reads piece.bytes ∷ []) × TellsTaken (recording_at LARGEST_RECORDING bytes) piece.name old result new
+
+-- what becomes of pieces behind those that were taken: each is read and taken, or the first that is not is told, and no other is read
+abbrev pub ReadsBehind : JoiningData → List Seen → List Deed → Result JoiningData Fault → Type 0
+ReadsBehind j [] deeds result = (deeds ≡ []) × (result ≡ Ok j)
+ReadsBehind j (piece ∷ pieces) deeds result =
+    ((first rest : List Deed) × (next : JoiningData) × TakesPiece piece j first (Ok tt) next × (deeds ≡ first ++ rest) × ReadsBehind next pieces rest result)
+    ⊎ ((fault : Fault) × (next : JoiningData) × TakesPiece piece j deeds (Err fault) next × (result ≡ Err fault))
+
+-- PIECES ARE READ in the order of the words
+abbrev pub ReadsPieces : FormWord → List Seen → List Deed → Result JoiningData Fault → Type 0
+ReadsPieces word pieces deeds result = ReadsBehind (record { word = word; pieces = [] }) pieces deeds result
+
+-- ---- what is made
+
+-- WHAT PIECES GIVE that were taken, with the line that tells of it; or why they give nothing
+abbrev pub Gives : JoiningData → Result JoinedFile Fault → Type 0
+Gives j (Ok file) = Ends LARGEST_RECORDING j (Ok file.joint) × (string_bytes file.line ≡ joined_text file.joint.told)
+Gives j (Err fault) = (why : JoinFault) × Ends LARGEST_RECORDING j (Err why) × IsToldOf why [] fault
+
+abbrev pub ReadsAndGives : FormWord → List Seen → List Deed → Result JoinedFile Fault → Type 0
+ReadsAndGives word pieces deeds result =
+    ((fault : Fault) × ReadsPieces word pieces deeds (Err fault) × (result ≡ Err fault))
+    ⊎ ((j : JoiningData) × ReadsPieces word pieces deeds (Ok j) × Gives j result)
+
+-- WHAT `join` DOES: all pieces are opened before any is read, and the file is made when all are read: its text, whole, and then the line, with status 0
+abbrev pub JoinsPieces : (names : List (List ℕ)) → (made : List ℕ) → FormWord → List Deed → Answered → Stream → Type 0
+JoinsPieces names made word deeds answered out =
+    ((fault : Fault) × OpensPieces names made deeds (Err fault) × (answered ≡ Err fault) × Keeps out.old out.new)
+    ⊎ ((pieces : List Seen) × (opened read : List Deed) × (fault : Fault) × OpensPieces names made opened (Ok pieces) × ReadsAndGives word pieces read (Err fault)
+    × (deeds ≡ opened ++ read) × (answered ≡ Err fault) × Keeps out.old out.new)
+    ⊎ ((pieces : List Seen) × (opened read rest : List Deed) × (file : JoinedFile) × OpensPieces names made opened (Ok pieces) × ReadsAndGives word pieces read (Ok file)
+    × (deeds ≡ opened ++ read ++ rest) × MakesFile (PutsBoth file.joint.text (string_bytes file.line)) made rest answered out)

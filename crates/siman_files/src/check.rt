@@ -1,0 +1,133 @@
+//! The command `check`: a recording, judged by a certificate.
+
+ghost use Rattle.std.specs.Prelude.{◌≡◌, ◌≤◌, ℕ, List, Ok};
+ghost use Rattle.std.specs.Io.KnownBytes.{Keeps};
+ghost use Rattle.siman_answers.specs.declared.limits.TheConstants.{LARGEST_CERTIFICATE, LARGEST_RECORDING};
+ghost use Rattle.exercise_recording.specs.Reading.{recording_at};
+ghost use Rattle.exercise_check.specs.Certificate.{certificate_at};
+ghost use Rattle.siman_answers.specs.Outside.{Has};
+ghost use Rattle.siman_files.specs.Check.{Judges, judged_status, EndsCheck};
+
+use byte_files::put;
+use exercise_check::{Certificate, CheckFault, check, fetch_certificate};
+use exercise_model::ExerciseLog;
+use exercise_recording::{RecordingView, fetch_recording};
+use siman_answers::{Fault, FilesFault, LARGEST_CERTIFICATE, LARGEST_RECORDING, OfFiles, end};
+use siman_reports::{no_line, report_text};
+use std::alloc::Global;
+use std::io::{Read, Write};
+
+/// Judges the recording that the first reader has by the certificate that the second one has, and
+/// writes what is to be said: true is a yes with the report of the recording, false a no with the
+/// line of its first bad step. The recording is read first, whole, then the certificate, whole; the
+/// answer is made whole before any of it is written.
+///
+/// A recording that is none, has more than 268,435,456 bytes or can't be read gives Recording, a
+/// certificate that is none, has more than 1,048,576 steps or can't be read Certificate, want of
+/// memory Memory, all with nothing out. After Write a prefix of the answer is out.
+pub fn check_files<R: Read + Drop, C: Read + Drop, W: Write>(
+    alloc: Global,
+    recording: R,
+    certificate: C,
+    out: &mut W,
+) -> Result<bool, FilesFault>
+    ensures { (bytes : List ℕ) × Has (R.remaining recording) bytes
+        × ((text : List ℕ) × Has (C.remaining certificate) text
+        × Judges (recording_at LARGEST_RECORDING bytes) (certificate_at LARGEST_CERTIFICATE text) result (W.contents out.old) (W.contents out.new)) }
+{
+    let bytes = fetch_recording(alloc, recording, LARGEST_RECORDING)?;
+    check_bytes(alloc, &bytes, certificate, out)
+}
+
+/// As [`check_files`], of the recording whose file these bytes are.
+fn check_bytes<C: Read + Drop, W: Write>(
+    alloc: Global,
+    bytes: &[u8],
+    certificate: C,
+    out: &mut W,
+) -> Result<bool, FilesFault>
+    ensures { (text : List ℕ) × Has (C.remaining certificate) text
+        × Judges (recording_at LARGEST_RECORDING bytes.now) (certificate_at LARGEST_CERTIFICATE text) result (W.contents out.old) (W.contents out.new) }
+{
+    let log = RecordingView::over_limited(alloc, bytes, LARGEST_RECORDING)?;
+    let certificate = fetch_certificate(alloc, certificate, LARGEST_CERTIFICATE)?;
+    judge(alloc, &log, &certificate, out)
+}
+
+/// As [`check_files`], and tells a fault on `errors`: status 0 is a yes, 1 a no, 2 a fault with its
+/// line (`recording: NAME at N`, `recording: read`, `certificate: NAME at N`, `certificate: read`
+/// with nothing on `out`; `output: write` with a prefix of the answer there), 3 want of memory
+/// (`memory`) with nothing on `out`.
+pub fn check_command<R: Read + Drop, C: Read + Drop, W: Write, E: Write>(
+    alloc: Global,
+    recording: R,
+    certificate: C,
+    out: &mut W,
+    errors: &mut E,
+) -> u8
+    ensures ends { (bytes : List ℕ) × Has (R.remaining recording) bytes
+        × ((text : List ℕ) × Has (C.remaining certificate) text
+        × EndsCheck (recording_at LARGEST_RECORDING bytes) (certificate_at LARGEST_CERTIFICATE text) result (W.contents out.old) (W.contents out.new) (E.contents errors.old) (E.contents errors.new)) }
+    ensures silent { result ≤ 1 → Keeps (E.contents errors.old) (E.contents errors.new) }
+{
+    end(CheckCommand.say(alloc, recording, certificate, out), errors).status
+}
+
+/// The command, which judges the recording of a file by the certificate of another.
+pub struct CheckCommand;
+
+impl OfFiles for CheckCommand {
+    ghost use Rattle.siman_files.specs.Check.{ChecksFiles};
+
+    ghost says = { λ _. ChecksFiles };
+
+    fn say<R: Read + Drop, S: Read + Drop, W: Write>(
+        &self,
+        alloc: Global,
+        first: R,
+        second: S,
+        out: &mut W,
+    ) -> Result<u8, Fault<'static>> {
+        status_of(check_files(alloc, first, second, out))
+    }
+}
+
+/// Writes what is to be said of a log and a certificate.
+#[tactic(auto, using(siman_answers::proofs::Offered::not_good))]
+fn judge<L: ExerciseLog, W: Write>(
+    alloc: Global,
+    log: &L,
+    certificate: &Certificate,
+    out: &mut W,
+) -> Result<bool, FilesFault>
+    ensures { Judges (Ok (L.recording log.now)) (Ok certificate.now.steps.items) result (W.contents out.old) (W.contents out.new) }
+{
+    match check(alloc, log, certificate) {
+        Ok(checked) => {
+            let text = report_text(alloc, log, &checked)?;
+            match put(out, text.as_bytes()) {
+                Ok(()) => Ok(true),
+                Err(_) => Err(FilesFault::Write),
+            }
+        }
+        Err(CheckFault::Bad { step, cause }) => {
+            let text = no_line(alloc, step, cause)?;
+            match put(out, text.as_bytes()) {
+                Ok(()) => Ok(false),
+                Err(_) => Err(FilesFault::Write),
+            }
+        }
+        Err(CheckFault::Memory) => Err(FilesFault::Memory),
+    }
+}
+
+/// The status of what was judged: 0 is a yes, 1 a no.
+fn status_of(judged: Result<bool, FilesFault>) -> Result<u8, Fault<'static>>
+    ensures { result ≡ judged_status judged }
+{
+    match judged {
+        Ok(true) => Ok(0),
+        Ok(false) => Ok(1),
+        Err(fault) => Err(Fault::from(fault)),
+    }
+}

@@ -1,0 +1,80 @@
+//! The command `convert`: a recording of the first format as one of the second.
+
+ghost use Rattle.std.specs.Prelude.{ℕ, List};
+ghost use Rattle.exercise_recording.specs.Reading.{recording_at};
+ghost use Rattle.siman_files.specs.declared.convert.TheConstants.{LARGEST_OLD_RECORDING};
+ghost use Rattle.siman_answers.specs.Outside.{Has};
+ghost use Rattle.siman_files.specs.Convert.{Carries};
+
+use exercise_recording::Conversion;
+use siman_answers::{Fault, Making, Outside, Product, make_file, settle_and_say};
+use siman_reports::counted;
+use std::alloc::Global;
+use std::io::{Read, Write};
+
+/// The size in bytes of the largest recording that is carried over to the second format: the new one
+/// is a byte longer, so each that is made can be read.
+pub const LARGEST_OLD_RECORDING: u64 = 268_435_455;
+
+/// A recording that is to be written in the second format, and its line.
+#[derive(Drop)]
+pub struct Carried {
+    pub conversion: Conversion,
+    pub line: String,
+}
+
+/// Reads the recording that a reader has, to be written in the second format.
+fn carry<R: Read + Drop>(alloc: Global, old: R) -> Result<Carried, Fault<'static>>
+    ensures { (bytes : List ℕ) × Has (R.remaining old) bytes × Carries (recording_at LARGEST_OLD_RECORDING bytes) result }
+{
+    let conversion = Conversion::read(alloc, old, LARGEST_OLD_RECORDING)?;
+    let entries = conversion.entry_count() as usize;
+    let line = counted(alloc, "converted", "records", entries)?;
+    Ok(Carried { conversion, line })
+}
+
+/// The file of a recording in the second format.
+impl Making for Carried {
+    ghost use Rattle.std.specs.Prelude.{string_bytes};
+    ghost use Rattle.siman_answers.specs.Making.{PutsBoth};
+
+    ghost puts = { λ carried. PutsBoth carried.conversion.text (string_bytes carried.line) };
+
+    fn put<F: Write, W: Write>(
+        &self,
+        _alloc: Global,
+        file: &mut F,
+        out: &mut W,
+    ) -> Result<u8, Fault<'static>> {
+        if self.conversion.write(file).is_err() {
+            return Err(Fault::Output);
+        }
+        match settle_and_say(file, &self.line, out) {
+            Ok(()) => Ok(0),
+            Err(fault) => Err(fault),
+        }
+    }
+}
+
+/// What comes of a recording: the file of its conversion.
+impl Product for Carried {
+    ghost use Rattle.siman_files.specs.Convert.{CarriesFile, MakesConverted};
+
+    ghost reads = { CarriesFile };
+
+    ghost makes = { MakesConverted };
+
+    fn read<R: Read + Drop>(alloc: Global, file: R) -> Result<Carried, Fault<'static>> {
+        carry(alloc, file)
+    }
+
+    fn make<O: Outside, W: Write>(
+        self,
+        alloc: Global,
+        name: &str,
+        outside: &mut O,
+        out: &mut W,
+    ) -> Result<u8, Fault<'static>> {
+        make_file(alloc, &self, name, outside, out)
+    }
+}

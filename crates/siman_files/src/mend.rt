@@ -1,0 +1,106 @@
+//! The command `mend`: what of a torn recording stands whole, with an end.
+
+ghost use Rattle.std.specs.Prelude.{◌≡◌, ℕ, List, IfOk, string_bytes};
+ghost use Rattle.exercise_recording.specs.Mending.{mended_at};
+ghost use Rattle.siman_files.specs.declared.mend.TheConstants.{LARGEST_TORN_RECORDING};
+ghost use Rattle.siman_answers.specs.Outside.{Has};
+ghost use Rattle.siman_files.specs.Mend.{torn_line, mended_text, Mends};
+ghost use Rattle.siman_texts.specs.Spelled.{line_text};
+
+use exercise_recording::{FormatFault, Mended, Mending};
+use siman_answers::{Fault, Making, Outside, Product, make_file, settle_and_say};
+use siman_reports::counted;
+use siman_texts::{Field, Line, Spelling, Value, put_line};
+use std::alloc::{AllocError, Global};
+use std::io::{Read, Write};
+
+/// The size in bytes of the largest recording that is mended: the new one is at most five bytes
+/// longer, so each that is made can be read.
+pub(crate) const LARGEST_TORN_RECORDING: u64 = 268_435_451;
+
+/// What of a recording stands whole, to be written with an end, and the line that tells of it.
+#[derive(Drop)]
+pub struct MendedFile {
+    pub mending: Mending,
+    pub line: String,
+}
+
+/// The line of a recording that was torn, with its fault.
+fn torn_line(alloc: Global, told: Mended, fault: FormatFault) -> Result<String, AllocError>
+    ensures { IfOk result (λ line. string_bytes line ≡ line_text (torn_line told fault)) }
+{
+    let words = format!(in alloc; "{fault}")?;
+    let fields = [
+        Field::Keyed("records", Value::Number(u64::from(told.entries))),
+        Field::Keyed("kept", Value::Number(told.kept as u64)),
+        Field::Bare("fault", Value::Phrase(&words)),
+    ];
+    let mut line = String::new(alloc);
+    put_line(&mut line, Spelling::Text, &Line::named("mended", &fields))?;
+    Ok(line)
+}
+
+/// The line that tells what was mended.
+fn mended_line(alloc: Global, told: Mended) -> Result<String, AllocError>
+    ensures { IfOk result (λ line. string_bytes line ≡ mended_text told) }
+{
+    match told.fault {
+        Some(fault) => torn_line(alloc, told, fault),
+        None => counted(alloc, "whole", "records", told.entries as usize),
+    }
+}
+
+/// Reads the recording that a reader has, of which what stands whole is to be written.
+fn read_torn<R: Read + Drop>(alloc: Global, old: R) -> Result<MendedFile, Fault<'static>>
+    ensures { (bytes : List ℕ) × Has (R.remaining old) bytes × Mends (mended_at LARGEST_TORN_RECORDING bytes) result }
+{
+    let mending = Mending::read(alloc, old, LARGEST_TORN_RECORDING)?;
+    let line = mended_line(alloc, mending.told())?;
+    Ok(MendedFile { mending, line })
+}
+
+/// The file of what stands whole.
+impl Making for MendedFile {
+    ghost use Rattle.std.specs.Prelude.{string_bytes};
+    ghost use Rattle.siman_answers.specs.Making.{PutsBoth};
+
+    ghost puts = { λ mended. PutsBoth mended.mending.text (string_bytes mended.line) };
+
+    fn put<F: Write, W: Write>(
+        &self,
+        _alloc: Global,
+        file: &mut F,
+        out: &mut W,
+    ) -> Result<u8, Fault<'static>> {
+        if self.mending.write(file).is_err() {
+            return Err(Fault::Output);
+        }
+        match settle_and_say(file, &self.line, out) {
+            Ok(()) => Ok(0),
+            Err(fault) => Err(fault),
+        }
+    }
+}
+
+/// What comes of a recording: the file of what stands whole.
+impl Product for MendedFile {
+    ghost use Rattle.siman_files.specs.Mend.{MendsFile, MakesMended};
+
+    ghost reads = { MendsFile };
+
+    ghost makes = { MakesMended };
+
+    fn read<R: Read + Drop>(alloc: Global, file: R) -> Result<MendedFile, Fault<'static>> {
+        read_torn(alloc, file)
+    }
+
+    fn make<O: Outside, W: Write>(
+        self,
+        alloc: Global,
+        name: &str,
+        outside: &mut O,
+        out: &mut W,
+    ) -> Result<u8, Fault<'static>> {
+        make_file(alloc, &self, name, outside, out)
+    }
+}

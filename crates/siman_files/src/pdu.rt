@@ -1,0 +1,44 @@
+//! The command `pdu`: a datagram in hex text, shown.
+
+ghost use Rattle.std.specs.Prelude.{◌≡◌, ◌≤◌};
+ghost use Rattle.std.specs.Io.KnownBytes.{Keeps};
+ghost use Rattle.siman_files.specs.Answer.{said_of_hex, IsSaid, EndsPdu};
+
+use crate::answer::Answer;
+use crate::hex_text::hex_bytes;
+use byte_files::put;
+use siman_answers::{Fault, end};
+use std::alloc::Global;
+use std::io::Write;
+
+/// Shows the datagram that a word spells in hex: prints the PDU, one line for its head and one for
+/// each record, with status 0, or `refused NUMBER NAME` with status 1.
+///
+/// Status 2 with a line on `errors` tells that the word is not pairs of hex digits (`hex: not byte
+/// pairs`), or that a write to `out` failed (`output: write`), after which a prefix of the text is
+/// out. Status 3 is want of memory (`memory`), and nothing is out.
+pub fn pdu_command<W: Write, E: Write>(alloc: Global, hex: &str, out: &mut W, errors: &mut E) -> u8
+    ensures ends { EndsPdu (said_of_hex hex.now) result (W.contents out.old) (W.contents out.new) (E.contents errors.old) (E.contents errors.new) }
+    ensures silent { result ≤ 1 → Keeps (E.contents errors.old) (E.contents errors.new) }
+{
+    end(tell_word(alloc, hex, out), errors).status
+}
+
+/// Writes the answer for a word, and gives its status.
+pub fn tell_word<W: Write>(alloc: Global, hex: &str, out: &mut W) -> Result<u8, Fault<'static>>
+    ensures { IsSaid (said_of_hex hex.now) result (W.contents out.old) (W.contents out.new) }
+{
+    tell(alloc, hex.as_bytes(), out)
+}
+
+/// Writes the answer for hex text, and gives its status.
+pub(crate) fn tell<W: Write>(alloc: Global, hex: &[u8], out: &mut W) -> Result<u8, Fault<'static>>
+    ensures { IsSaid (said_of_hex hex.now) result (W.contents out.old) (W.contents out.new) }
+{
+    let datagram = hex_bytes(alloc, hex)?;
+    let answer = Answer::to(alloc, &datagram)?;
+    match put(out, answer.text().as_bytes()) {
+        Ok(()) => Ok(answer.status()),
+        Err(_) => Err(Fault::Output),
+    }
+}

@@ -1,0 +1,183 @@
+//! The command `pdus`: datagrams in hex text, one a line, shown.
+
+ghost use Rattle.std.specs.Prelude.{◌≡◌, ◌+◌, List, ℕ, length, IfOk};
+ghost use Rattle.std.specs.Io.Buffered.{reader_remaining};
+ghost use Rattle.siman_scripts.specs.Text.{lines_of};
+ghost use Rattle.siman_files.specs.declared.hex_text.TheConstants.{LONGEST_HEX};
+ghost use Rattle.siman_answers.specs.declared.fault.Fault.TheVariants.{Memory};
+ghost use Rattle.siman_files.specs.declared.pdus.Stop.TheVariants as stops;
+ghost use Rattle.siman_answers.specs.Ending.{Wrote};
+ghost use Rattle.siman_answers.specs.Outside.{Has, Stream, Outcome};
+ghost use Rattle.siman_files.specs.Pdus.{told_of_line, TellsBad, TellsLine, TellsLines, EndsAt, EndsLines};
+
+use crate::hex_text::LONGEST_HEX;
+use crate::input::{Count, Unread, read_line};
+use crate::pdu::tell;
+use byte_files::WriteFailed;
+use siman_answers::{Ended, Fault, end, tell as tell_fault};
+use std::alloc::{AllocError, Global};
+use std::io::{BufReader, Read, Write};
+
+/// Why the lines of an input were not all told.
+#[derive(Clone, Copy)]
+pub(crate) enum Stop {
+    /// Memory ran out, or an answer could not be written whole.
+    Fault(Fault<'static>),
+    /// A read failed.
+    Unread(Unread),
+    /// The line that tells of a bad line could not be written whole.
+    Untold(WriteFailed),
+}
+
+impl From<AllocError> for Stop {
+    ghost from_gives = { λ _ stop. stop ≡ stops.Fault Memory };
+
+    fn from(_e: AllocError) -> Stop {
+        Stop::Fault(Fault::Memory)
+    }
+}
+
+impl From<Unread> for Stop {
+    ghost from_gives = { λ failed stop. stop ≡ stops.Unread failed };
+
+    fn from(failed: Unread) -> Stop {
+        Stop::Unread(failed)
+    }
+}
+
+/// Shows the datagrams that a reader has in hex text, one a line, each in its turn as
+/// [`pdu_command`](crate::pdu_command) does; an empty line is passed over. A line that is not pairs
+/// of hex digits, or of more than 65,536 bytes, is told with its number, from 1, on `errors`
+/// (`hex: not byte pairs at line N`), and the rest goes on. A line ends with a line feed, which the
+/// last may lack; a carriage return is no hex digit.
+///
+/// The status is the worst of the lines: 0, 1 where a datagram was refused, 2 where a line was bad.
+/// A failed read (`file: -`) or write (`output: write`) ends it with status 2, want of memory
+/// (`memory`) with status 3; what was told of the lines before stands. No more than 65,537 bytes of
+/// a line are held.
+pub fn pdus_command<R: Read + Drop, W: Write, E: Write>(
+    alloc: Global,
+    input: R,
+    out: &mut W,
+    errors: &mut E,
+) -> u8
+    ensures { (bytes : List ℕ) × Has (R.remaining input) bytes × ((wrote : Wrote) × (let o : Outcome = record { ended = record { status = result; written = wrote }; out = record { old = W.contents out.old; new = W.contents out.new }; errors = record { old = E.contents errors.old; new = E.contents errors.new } } in
+        EndsLines (lines_of bytes) o)) }
+{
+    end_lines(alloc, input, out, errors).status
+}
+
+/// As [`pdus_command`].
+pub fn end_lines<R: Read + Drop, W: Write, E: Write>(
+    alloc: Global,
+    input: R,
+    out: &mut W,
+    errors: &mut E,
+) -> Ended
+    ensures { let o : Outcome = record { ended = result; out = record { old = W.contents out.old; new = W.contents out.new }; errors = record { old = E.contents errors.old; new = E.contents errors.new } } in
+        (bytes : List ℕ) × Has (R.remaining input) bytes × EndsLines (lines_of bytes) o }
+{
+    end_at(tell_input(alloc, input, out, errors), errors)
+}
+
+/// Ends the command that told all lines, or stopped.
+fn end_at<E: Write>(answered: Result<u8, Stop>, errors: &mut E) -> Ended
+    ensures { EndsAt answered result (E.contents errors.old) (E.contents errors.new) }
+{
+    match answered {
+        Ok(status) => end(Ok(status), errors),
+        Err(Stop::Fault(fault)) => end(Err(fault), errors),
+        Err(Stop::Unread(_)) => end(Err(Fault::Input), errors),
+        Err(Stop::Untold(failed)) => Ended {
+            status: 2,
+            written: Err(failed),
+        },
+    }
+}
+
+/// Tells the lines that a reader has, and gives the worst status.
+fn tell_input<R: Read + Drop, W: Write, E: Write>(
+    alloc: Global,
+    input: R,
+    out: &mut W,
+    errors: &mut E,
+) -> Result<u8, Stop>
+    ensures { let out : Stream = record { old = W.contents out.old; new = W.contents out.new } in
+        let errors : Stream = record { old = E.contents errors.old; new = E.contents errors.new } in
+        (bytes : List ℕ) × Has (R.remaining input) bytes × TellsLines (lines_of bytes) result out errors }
+{
+    let mut reader = buffered(alloc, input)?;
+    let mut line = vec![in alloc; 0u8; LONGEST_HEX + 1]?;
+    tell_lines(alloc, &mut reader, &mut line, out, errors)
+}
+
+/// A reader that reads ahead.
+fn buffered<R: Read + Drop>(alloc: Global, input: R) -> Result<BufReader<R>, AllocError>
+    ensures { IfOk result (λ reader. reader_remaining R.remaining reader ≡ R.remaining input) }
+{
+    match BufReader::new(alloc, input) {
+        Ok(reader) => Ok(reader),
+        Err(_) => Err(AllocError),
+    }
+}
+
+/// Tells the lines that are left of a reader, each of which is held in a buffer while it is told,
+/// and gives the worst status.
+fn tell_lines<R: Read, W: Write, E: Write>(
+    alloc: Global,
+    reader: &mut R,
+    buffer: &mut [u8],
+    out: &mut W,
+    errors: &mut E,
+) -> Result<u8, Stop>
+    requires { length buffer.old ≡ LONGEST_HEX + 1 }
+    ensures { let out : Stream = record { old = W.contents out.old; new = W.contents out.new } in
+        let errors : Stream = record { old = E.contents errors.old; new = E.contents errors.new } in
+        (bytes : List ℕ) × Has (R.remaining reader.old) bytes × TellsLines (lines_of bytes) result out errors }
+{
+    let mut worst = 0;
+    let mut count = Count::new();
+    loop {
+        let number = count.one_more()?;
+        let Some(held) = read_line(reader, buffer)? else {
+            return Ok(worst);
+        };
+        let status = tell_line(alloc, number, &buffer[..held], out, errors)?;
+        worst = worst.max(status);
+    }
+}
+
+/// Tells a line, and gives its status.
+fn tell_line<W: Write, E: Write>(
+    alloc: Global,
+    number: usize,
+    line: &[u8],
+    out: &mut W,
+    errors: &mut E,
+) -> Result<u8, Stop>
+    ensures { let out : Stream = record { old = W.contents out.old; new = W.contents out.new } in
+        let errors : Stream = record { old = E.contents errors.old; new = E.contents errors.new } in
+        TellsLine (told_of_line number line.now) result out errors }
+{
+    if line.is_empty() {
+        return Ok(0);
+    }
+    match tell(alloc, line, out) {
+        Ok(status) => Ok(status),
+        Err(fault) => match fault {
+            Fault::NotBytePairs => tell_bad(number, errors),
+            _ => Err(Stop::Fault(fault)),
+        },
+    }
+}
+
+/// Tells that the line of a number is bad, and gives the status of that.
+fn tell_bad<E: Write>(number: usize, errors: &mut E) -> Result<u8, Stop>
+    ensures { let errors : Stream = record { old = E.contents errors.old; new = E.contents errors.new } in
+        TellsBad number result errors }
+{
+    match tell_fault(Fault::HexLine(number), errors) {
+        Ok(()) => Ok(2),
+        Err(failed) => Err(Stop::Untold(failed)),
+    }
+}

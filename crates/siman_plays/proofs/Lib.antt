@@ -1,0 +1,9 @@
+mod Scripts
+mod Files
+mod Trials
+mod Judged
+mod Moved
+mod Lived
+mod Posts
+mod Placed
+mod Stood

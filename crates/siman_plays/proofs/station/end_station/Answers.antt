@@ -1,0 +1,20 @@
+-- The words say where the station is, and it ended as what came of it says; or one of them does not.
+use Rattle.std.proofs.Common.{[], refl, inl, inr}
+use Rattle.std.proofs.KnownBytes.{Keeps-refl}
+use Rattle.std.proofs.lemmas.List.Elements.{All-nil}
+use Rattle.siman_answers.specs.Outside.{WasHeld}
+use Rattle.siman_answers.proofs.Offered.{adds_none}
+use Rattle.siman_plays.proofs.station.end_station.Goals as goal
+
+pub returns-in-Err : goal.returns-in-Err
+returns-in-Err g c = (
+  [],
+  adds_none _,
+  All-nil (WasHeld (g.O.Outside.holds c.args.outside.now)),
+  inl (c.in-Err.fault, c.in-Err.ensures, refl, Keeps-refl (g.W.Write.contents c.args.out.now), c.end.ensures),
+)
+
+pub returns : goal.returns
+returns g c =
+    let did = c.play_file-played.ensures in
+    (did.0, did.1, did.2, inr (c.in-Ok.placed, c.play_file-played.result, _, c.in-Ok.ensures, did.3, c.end_played.ensures))

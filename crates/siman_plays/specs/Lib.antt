@@ -1,0 +1,4 @@
+pub mod World
+pub mod ScriptTrial
+pub mod Live
+pub mod Station

@@ -1,0 +1,121 @@
+-- What `live` does with the stations and moves of a script, and how it ends (profile).
+pub mod Lived
+pub mod Moves
+use Rattle.std.specs.Prelude.{◌≡◌, ◌≢◌, ◌⊎◌, ⊤, ℕ, Bool, true, false, List, [], ◌∷◌, ◌++◌, length, codes, Option, Result, Ok, Err}
+use Rattle.std.specs.Io.KnownBytes.{Keeps}
+use Rattle.byte_files.specs.Writing.{Writes}
+use Rattle.exercise_model.specs.Setting.{SettingData}
+use Rattle.siman_scripts.specs.declared.script_fault.ScriptFault.TheVariants as scripts
+use Rattle.siman_worlds.specs.declared.world_fault.WorldFault.TheVariants as worlds
+use Rattle.siman_scripts.specs.Script.{ScriptData, script_at}
+use Rattle.siman_worlds.specs.World.{are_world_stations}
+use Rattle.siman_worlds.specs.Holds.{AreNewNodes}
+use Rattle.siman_answers.specs.declared.fault.Fault.{Fault}
+use Rattle.siman_answers.specs.declared.fault.Fault.TheVariants.{Script, ScriptRead, World, LineFailed, Output, Exists, Memory}
+use Rattle.siman_plays.specs.declared.live.Begun.{Begun}
+use Rattle.std.specs.declared.io.ErrorKind.{ErrorKind}
+use Rattle.std.specs.declared.io.ErrorKind.TheVariants.{AlreadyExists, OutOfMemory}
+use Rattle.siman_answers.specs.Outside.{Has, Stream, Outcome, Deed, LooksFor, Lines, Creates, Leaves}
+use Rattle.siman_answers.specs.Ending.{Wrote, fault_line, status_of, IsToldAs}
+use Rattle.siman_answers.specs.Making.{Answered}
+use Rattle.siman_answers.specs.Opening.{WorksOn}
+use Rattle.siman_reports.specs.Records.{line_end}
+use Rattle.siman_answers.specs.declared.fault.Ended.{Ended}
+use Rattle.siman_plays.specs.World.{Scripted}
+use Rattle.siman_plays.specs.Live.Lived.{setting_of, Lives}
+use Rattle.siman_lines.specs.declared.station_at_line.StationAtLine.{StationAtLine}
+use Rattle.siman_lines.specs.AtLines.{Telling, Misfits, posts_of}
+use Rattle.siman_scripts.specs.declared.act.Move.{Move}
+
+-- WHAT COMES OF A SCRIPT BEFORE ITS MOVES: its stations begin, or it is told why not. The first line of the script that is refused, or stations that a world cannot have; a failed read may come in place of the script, want of memory at any time.
+abbrev pub BeginsNone : Scripted → Fault → Type 0
+BeginsNone scripted (Script (scripts.BadLine line)) = scripted ≡ Err (scripts.BadLine line)
+BeginsNone scripted (Script (scripts.UnknownStation line)) = scripted ≡ Err (scripts.UnknownStation line)
+BeginsNone scripted (ScriptRead failed) = ⊤
+BeginsNone scripted (World worlds.Stations) = (s : ScriptData) × (scripted ≡ Ok s) × (are_world_stations s.stations ≡ false)
+BeginsNone scripted Memory = ⊤
+BeginsNone scripted other = ⊥
+
+-- the stations of a script were begun, each with its halves, and its moves are these
+pub record IsBegun (scripted : Scripted) (begun : Begun) : Type 0 where
+  pub script : ScriptData
+  pub read : scripted ≡ Ok script
+  pub stations : are_world_stations script.stations ≡ true
+  pub moves : begun.moves.items ≡ script.moves
+  pub setting : begun.recording.setting ≡ setting_of script
+  pub nodes : AreNewNodes script.exercise script.stations begun.nodes.items
+
+abbrev pub Begins : Scripted → Result Begun Fault → Type 0
+Begins scripted (Ok begun) = IsBegun scripted begun
+Begins scripted (Err fault) = BeginsNone scripted fault
+
+-- WHAT COMES OF A FILE for `live` that has these bytes, where they are known; what is done then follows
+abbrev pub BeginsFile : (known : Option (List ℕ)) → Result Begun Fault → Type 0
+BeginsFile known begun = (text : List ℕ) × Has known text × Begins (script_at text) begun
+
+-- how it is told that a file was not created: want of memory, or that one stands there, or else as a failed write
+abbrev pub IsUncreated : ErrorKind → Fault → Type 0
+IsUncreated kind fault =
+    ((kind ≡ OutOfMemory) × (fault ≡ Memory)) ⊎ ((kind ≡ AlreadyExists) × (fault ≡ Exists))
+    ⊎ ((kind ≢ OutOfMemory) × (kind ≢ AlreadyExists) × (fault ≡ Output))
+
+-- A FILE IS CREATED, in which the stations record what they do, and is left
+abbrev pub CreatesLived : {L : Type 0} → Telling L → SettingData → List Move → List (StationAtLine L) → (name : List ℕ) → List Deed → Answered → Stream → Type 0
+CreatesLived told w moves posts name (Creates made (Err kind) ∷ []) answered out =
+    (made ≡ name) × Keeps out.old out.new × ((fault : Fault) × IsUncreated kind fault × (answered ≡ Err fault))
+CreatesLived told w moves posts name (Creates made (Ok fresh) ∷ Leaves left ∷ []) answered out =
+    (made ≡ name) × (let file : Stream = record { old = fresh; new = left } in Lives told w moves posts file answered out)
+CreatesLived told w moves posts name deeds answered out = ⊥
+
+-- none is created, and nothing is out
+abbrev pub CreatesNone : Fault → List Deed → Answered → Stream → Type 0
+CreatesNone fault deeds answered out = (deeds ≡ []) × (answered ≡ Err fault) × Keeps out.old out.new
+
+-- STATIONS STAND AT THEIR LINES, post i with node i, line i and station i; none does where there are not as many lines as stations, or where memory runs out
+abbrev pub StandsAtLines : {L : Type 0} → Telling L → Begun → List L → (name : List ℕ) → List Deed → Answered → Stream → Type 0
+StandsAtLines told begun lines name deeds answered out =
+    (Misfits begun.nodes.items lines × CreatesNone LineFailed deeds answered out)
+    ⊎ CreatesNone Memory deeds answered out
+    ⊎ ((length lines ≡ length begun.nodes.items)
+    × CreatesLived told begun.recording.setting begun.moves.items (posts_of begun.nodes.items lines) name deeds answered out)
+
+-- AS MANY LINES AS STATIONS are asked for; that none could be had is told as `live: line`, or as want of memory
+abbrev pub LivesAtLines : {L : Type 0} → Telling L → Begun → (name : List ℕ) → List Deed → Answered → Stream → Type 0
+LivesAtLines told begun name (Lines stations (Err kind) ∷ deeds) answered out =
+    (stations ≡ length begun.nodes.items) × ((fault : Fault) × IsToldAs kind LineFailed fault × CreatesNone fault deeds answered out)
+LivesAtLines {L} told begun name (Lines stations (Ok count) ∷ deeds) answered out =
+    (stations ≡ length begun.nodes.items) × ((lines : List L) × (length lines ≡ count) × StandsAtLines told begun lines name deeds answered out)
+LivesAtLines told begun name deeds answered out = ⊥
+
+-- WHERE A FILE STANDS under the name nothing is done, and no line is asked for
+abbrev pub LivesBegun : {L : Type 0} → Telling L → Begun → (name : List ℕ) → List Deed → Answered → Stream → Type 0
+LivesBegun told begun name (LooksFor looked true ∷ deeds) answered out = (looked ≡ name) × CreatesNone Exists deeds answered out
+LivesBegun told begun name (LooksFor looked false ∷ deeds) answered out = (looked ≡ name) × LivesAtLines told begun name deeds answered out
+LivesBegun told begun name deeds answered out = ⊥
+
+-- HOW `live` ENDS.
+
+-- a file was created
+abbrev pub is_created : List Deed → Bool
+is_created [] = false
+is_created (Creates name (Ok fresh) ∷ deeds) = true
+is_created (deed ∷ deeds) = is_created deeds
+
+-- mend REC NEW, with the name of the file in the place of REC; the word NEW stands as it is
+abbrev pub mend_line : (created : Bool) → (name : List ℕ) → List ℕ
+mend_line true name = (codes "mend " ++ name) ++ (codes " NEW" ++ line_end)
+mend_line false name = []
+
+-- After a fault its line is told, and, where the file was created before, how what it has is mended; or a prefix of that, where the writer failed.
+abbrev pub TellsLived : (created : Bool) → (name : List ℕ) → Answered → Wrote → (old new : Option (List ℕ)) → Type 0
+TellsLived created name (Ok status) wrote old new = (wrote ≡ Ok tt) × Keeps old new
+TellsLived created name (Err fault) wrote old new = Writes wrote old new (fault_line fault ++ mend_line created name)
+
+pub record EndsLived (created : Bool) (name : List ℕ) (answered : Answered) (ended : Ended) (old new : Option (List ℕ)) : Type 0 where
+  pub status_is : ended.status ≡ status_of answered
+  pub tells : TellsLived created name answered ended.written old new
+
+abbrev pub EndsLive : {L : Type 0} → Telling L → (script recording : List ℕ) → List Deed → Outcome → Type 0
+EndsLive told script recording deeds o =
+    (answered : Answered) × WorksOn BeginsFile (LivesBegun told) script recording deeds answered o.out
+    × EndsLived (is_created deeds) recording answered o.ended o.errors.old o.errors.new

@@ -1,0 +1,81 @@
+-- What a trial of a script comes to: its world is run, its recording searched for an order, and the recording judged by that order.
+use Rattle.std.specs.Prelude.{◌≡◌, ℕ, Bool, true, false, List, ◌++◌, length, Option, Some, None, Result, Ok, Err}
+use Rattle.std.specs.Io.KnownBytes.{Appends, Keeps}
+use Rattle.byte_files.specs.Writing.{WritesPart}
+use Rattle.exercise_model.specs.History.{past}
+use Rattle.exercise_model.specs.Recording.{PlainRecording}
+use Rattle.exercise_model.specs.Run.{IsRun}
+use Rattle.exercise_check.specs.declared.certificate.Step.{Step}
+use Rattle.exercise_check.specs.Goodness.{IsGood}
+use Rattle.siman_scripts.specs.declared.script_fault.ScriptFault.TheVariants as scripts
+use Rattle.siman_worlds.specs.declared.world_fault.WorldFault.TheVariants as worlds
+use Rattle.siman_scripts.specs.Script.{ScriptData, script_at}
+use Rattle.siman_answers.specs.declared.fault.Fault.{Fault}
+use Rattle.siman_answers.specs.declared.trial_fault.TrialFault.{TrialFault}
+use Rattle.siman_answers.specs.declared.trial_fault.TrialFault.TheVariants.{Read, Script, World, Write, Memory}
+use Rattle.siman_answers.specs.Ending.{of_trial}
+use Rattle.siman_answers.specs.Outside.{Has, Stream}
+use Rattle.siman_reports.specs.Report.{report_text}
+use Rattle.siman_answers.specs.Recorded.{explained_text}
+use Rattle.siman_plays.specs.World.{Scripted, recording_of, refusal_of, world_text}
+
+-- THE TEXT OF A TRIAL, a function of the recording alone: the line of its world, the line of an order with a step for each entry, and the report
+abbrev pub trial_text : PlainRecording → List ℕ
+trial_text r = world_text r ++ explained_text (length r.entries) ++ report_text r
+
+-- CLOSURE: the world of a script runs; the entries of its recording, in their order, are a run; and an order is found of it that `check` accepts
+pub record IsClosed (s : ScriptData) : Type 0 where
+  pub runs : refusal_of s ≡ None
+  pub run : IsRun (recording_of s).setting (past (recording_of s).entries)
+  pub steps : List Step
+  pub good : IsGood (recording_of s) steps
+
+-- A script was tried, and the whole text of its trial is out; or of that text a prefix.
+abbrev pub IsTried : ScriptData → Option (List ℕ) → Option (List ℕ) → Type 0
+IsTried s old new = IsClosed s × Appends old new (trial_text (recording_of s))
+
+abbrev pub IsTriedInPart : ScriptData → Option (List ℕ) → Option (List ℕ) → Type 0
+IsTriedInPart s old new = IsClosed s × WritesPart old new (trial_text (recording_of s))
+
+-- WHAT A TRIAL OF A SCRIPT ANSWERS: where it answers, yes, and its text, which the script alone decides, is out; else why its world does not run, with nothing out, or a failed write; want of memory may come at any time before anything is out
+abbrev pub Performs : ScriptData → Result Bool TrialFault → Option (List ℕ) → Option (List ℕ) → Type 0
+Performs s (Ok true) old new = IsTried s old new
+Performs s (Ok false) old new = ⊥
+Performs s (Err (Read failed)) old new = ⊥
+Performs s (Err (Script fault)) old new = ⊥
+Performs s (Err (World worlds.Stations)) old new = (refusal_of s ≡ Some worlds.Stations) × Keeps old new
+Performs s (Err (World (worlds.Move number fault))) old new = (refusal_of s ≡ Some (worlds.Move number fault)) × Keeps old new
+Performs s (Err (World worlds.Memory)) old new = ⊥
+Performs s (Err Write) old new = IsTriedInPart s old new
+Performs s (Err Memory) old new = Keeps old new
+
+-- the text is that of a script, of which this holds
+abbrev pub OfScript : Scripted → (ScriptData → Type 0) → Type 0
+OfScript scripted Holds = (s : ScriptData) × (scripted ≡ Ok s) × Holds s
+
+-- WHAT A TRIAL OF A TEXT ANSWERS: what the trial of the script answers that the text spells; or its first line that is refused, with nothing out; a failed read may come in place of the text
+abbrev pub Tries : Scripted → Result Bool TrialFault → Option (List ℕ) → Option (List ℕ) → Type 0
+Tries scripted (Ok true) old new = OfScript scripted (λ s. Performs s (Ok true) old new)
+Tries scripted (Ok false) old new = ⊥
+Tries scripted (Err (Read failed)) old new = Keeps old new
+Tries scripted (Err (Script (scripts.BadLine line))) old new = (scripted ≡ Err (scripts.BadLine line)) × Keeps old new
+Tries scripted (Err (Script (scripts.UnknownStation line))) old new = (scripted ≡ Err (scripts.UnknownStation line)) × Keeps old new
+Tries scripted (Err (Script scripts.Memory)) old new = ⊥
+Tries scripted (Err (World fault)) old new = OfScript scripted (λ s. Performs s (Err (World fault)) old new)
+Tries scripted (Err Write) old new = OfScript scripted (λ s. Performs s (Err Write) old new)
+Tries scripted (Err Memory) old new = Keeps old new
+
+-- the status of what was tried: 0 yes
+abbrev pub tried_status : Result Bool TrialFault → Result ℕ Fault
+tried_status (Ok true) = Ok 0
+tried_status (Ok false) = Ok 1
+tried_status (Err fault) = Err (of_trial fault)
+
+-- What a trial tells: its text is out, with status 0, or it met a fault.
+abbrev pub TellsTrial : Scripted → (answered : Result ℕ Fault) → (old new : Option (List ℕ)) → Type 0
+TellsTrial scripted answered old new =
+    (tried : Result Bool TrialFault) × Tries scripted tried old new × (answered ≡ tried_status tried)
+
+-- WHAT IS SAID of a script that standard input has, whose bytes are these where they are known
+abbrev pub TriesInput : (known : Option (List ℕ)) → Result ℕ Fault → (out : Stream) → Type 0
+TriesInput known answered out = (text : List ℕ) × Has known text × TellsTrial (script_at text) answered out.old out.new

@@ -1,0 +1,104 @@
+-- What `world` does with a script, and how it ends.
+use Rattle.std.specs.Prelude.{◌≡◌, ◌⊎◌, ⊤, ℕ, Bool, true, false, List, [], ◌∷◌, length, slice_get, codes, Option, Some, None, Result, Ok, Err}
+use Rattle.std.specs.Option.{option_map_or}
+use Rattle.std.specs.Io.KnownBytes.{Appends, Keeps}
+use Rattle.byte_files.specs.Writing.{WritesPart}
+use Rattle.exercise_model.specs.Entry.{Entry, Sent, Received, Told}
+use Rattle.exercise_model.specs.History.{past}
+use Rattle.exercise_model.specs.Recording.{PlainRecording}
+use Rattle.exercise_model.specs.Run.{IsRun}
+use Rattle.exercise_recording.specs.Text.{entry_text, recording_text}
+use Rattle.siman_scripts.specs.declared.script_fault.ScriptFault.{ScriptFault}
+use Rattle.siman_scripts.specs.declared.script_fault.ScriptFault.TheVariants as scripts
+use Rattle.siman_worlds.specs.declared.world_fault.WorldFault.{WorldFault}
+use Rattle.siman_worlds.specs.declared.world_fault.WorldFault.TheVariants as worlds
+use Rattle.siman_scripts.specs.Script.{ScriptData, script_at}
+use Rattle.siman_worlds.specs.World.{WorldData, sent_in, world_recording, world_refusal}
+use Rattle.siman_answers.specs.declared.fault.Fault.{Fault}
+use Rattle.siman_answers.specs.declared.fault.Fault.TheVariants.{Script, ScriptRead, World, Output, Memory}
+use Rattle.siman_answers.specs.Ending.{EndsWith}
+use Rattle.siman_answers.specs.Outside.{Has, Stream, Deed}
+use Rattle.siman_answers.specs.Making.{WritesShort, MakesFile}
+use Rattle.siman_texts.specs.Line.{Number, Keyed, named_line}
+use Rattle.siman_texts.specs.Spelled.{line_text}
+
+-- what reading a script gives
+abbrev pub Scripted : Type 0
+Scripted = Result ScriptData ScriptFault
+
+-- the world of a script, the recording that its moves make, and why they can't be made
+abbrev pub world_of : ScriptData → WorldData
+world_of s = record { exercise = s.exercise; stations = s.stations }
+
+abbrev pub recording_of : ScriptData → PlainRecording
+recording_of s = world_recording (world_of s) s.moves
+
+abbrev pub refusal_of : ScriptData → Option WorldFault
+refusal_of s = world_refusal (world_of s) s.moves
+
+-- A SCRIPT YIELDS A RECORDING: it is a script, its world runs, and the recording is that of the world; its entries, in their order, are a run
+pub record Yields (scripted : Scripted) (r : PlainRecording) : Type 0 where
+  pub script : ScriptData
+  pub read : scripted ≡ Ok script
+  pub runs : refusal_of script ≡ None
+  pub recording : r ≡ recording_of script
+  pub run : IsRun r.setting (past r.entries)
+
+-- the world of a script does not run, for this fault
+abbrev pub Stops : Scripted → WorldFault → Type 0
+Stops scripted fault = (s : ScriptData) × (scripted ≡ Ok s) × (refusal_of s ≡ Some fault)
+
+-- IT YIELDS NONE: its first line that is refused, or else why its world does not run; a failed read may come in place of the script, want of memory at any time
+abbrev pub YieldsNone : Scripted → Fault → Type 0
+YieldsNone scripted (Script (scripts.BadLine line)) = scripted ≡ Err (scripts.BadLine line)
+YieldsNone scripted (Script (scripts.UnknownStation line)) = scripted ≡ Err (scripts.UnknownStation line)
+YieldsNone scripted (ScriptRead failed) = ⊤
+YieldsNone scripted (World worlds.Stations) = Stops scripted worlds.Stations
+YieldsNone scripted (World (worlds.Move number fault)) = Stops scripted (worlds.Move number fault)
+YieldsNone scripted Memory = ⊤
+YieldsNone scripted other = ⊥
+
+abbrev pub Runs : Scripted → Result PlainRecording Fault → Type 0
+Runs scripted (Ok r) = Yields scripted r
+Runs scripted (Err fault) = YieldsNone scripted fault
+
+-- what is written of the entry of an index
+abbrev pub entry_written : PlainRecording → ℕ → List ℕ
+entry_written r i = option_map_or entry_text (slice_get r.entries i) []
+
+-- a datagram was sent
+abbrev pub is_sent : Entry → Bool
+is_sent (Sent s stamp b) = true
+is_sent (Received s stamp b) = false
+is_sent (Told s e y) = false
+
+-- world records=N sent=M
+abbrev pub world_text : PlainRecording → List ℕ
+world_text r =
+    line_text (named_line (codes "world") (Keyed (codes "records") (Number (length r.entries)) ∷ Keyed (codes "sent") (Number (length (sent_in r.entries))) ∷ []))
+
+-- WHAT IS WRITTEN OF A RECORDING: its text to the file, whole, and then its line; want of memory leaves a prefix of the file and no line
+abbrev pub PutsWorld : PlainRecording → Result ℕ Fault → (file out : Stream) → Type 0
+PutsWorld r (Ok status) file out =
+    (status ≡ 0) × Appends file.old file.new (recording_text r) × Appends out.old out.new (world_text r)
+PutsWorld r (Err Output) file out = WritesShort (recording_text r) (world_text r) file out
+PutsWorld r (Err Memory) file out = WritesPart file.old file.new (recording_text r) × Keeps out.old out.new
+PutsWorld r (Err other) file out = ⊥
+
+-- What `world` tells: the script yields no recording, and nothing is written; or it yields one, and that is written.
+abbrev pub TellsWorld : Scripted → (answered : Result ℕ Fault) → (file out : Stream) → Type 0
+TellsWorld scripted answered file out =
+    ((fault : Fault) × YieldsNone scripted fault × (answered ≡ Err fault) × Keeps file.old file.new × Keeps out.old out.new)
+    ⊎ ((r : PlainRecording) × Yields scripted r × PutsWorld r answered file out)
+
+-- HOW `world` ENDS: what it made of the script is in the file and out, and it ends as that asks for
+abbrev pub EndsWorld : Scripted → (status : ℕ) → (file out errors : Stream) → Type 0
+EndsWorld scripted status file out errors =
+    (answered : Result ℕ Fault) × TellsWorld scripted answered file out × EndsWith answered status errors.old errors.new
+
+-- WHAT COMES OF A FILE for `world` that has these bytes, where they are known; and a file of that recording is made
+abbrev pub RunsFile : (known : Option (List ℕ)) → Result PlainRecording Fault → Type 0
+RunsFile known made = (text : List ℕ) × Has known text × Runs (script_at text) made
+
+abbrev pub MakesWorld : PlainRecording → (name : List ℕ) → List Deed → Result ℕ Fault → (out : Stream) → Type 0
+MakesWorld r name = MakesFile (PutsWorld r) name

@@ -1,0 +1,144 @@
+//! What no words ask for: a script, whose world is run, searched for an order, and judged.
+
+ghost use Rattle.std.specs.Prelude.{◌≡◌, ℕ, List, Ok, IfOk, OnOk, string_bytes};
+ghost use Rattle.exercise_model.specs.History.{past};
+ghost use Rattle.exercise_model.specs.Run.{IsRun};
+ghost use Rattle.exercise_findings.specs.Account.{TellsAccount};
+ghost use Rattle.exercise_check.specs.declared.certificate.Step.{Step};
+ghost use Rattle.exercise_check.specs.Goodness.{IsGood};
+ghost use Rattle.siman_scripts.specs.Script.{script_at};
+ghost use Rattle.siman_answers.specs.Outside.{Has};
+ghost use Rattle.siman_plays.specs.ScriptTrial.{trial_text, Performs, Tries, tried_status};
+
+use crate::world::world_line;
+use byte_files::put;
+use exercise_audit::{Audit, audit};
+use exercise_check::{Certificate, CheckFault, Checked, check};
+use exercise_model::{ExerciseLog, Recording};
+use siman_answers::{Fault, OfFile, TrialFault, read_text};
+use siman_reports::{counted, report_text};
+use siman_scripts::{LARGEST_SCRIPT, Script, read_script};
+use siman_worlds::run_world;
+use std::alloc::{AllocError, Global};
+use std::io::{Read, Write};
+
+/// Runs the world of a script, searches its recording for an order that explains it, judges the
+/// recording by that order, and writes the line of the world, the line of the order and the report:
+/// a text that the script alone decides. The text is made whole before any of it is written.
+///
+/// Where it answers, it answers true: what the stations of a world do is always explained. World
+/// tells why the world does not run, and Memory want of memory, both with nothing out; after Write
+/// a prefix of the text is out.
+pub fn perform<W: Write>(alloc: Global, script: Script, out: &mut W) -> Result<bool, TrialFault>
+    ensures { Performs script result (W.contents out.old) (W.contents out.new) }
+{
+    let Script {
+        exercise,
+        stations,
+        moves,
+    } = script;
+    let log = run_world(alloc, exercise, stations, moves)?;
+    let text = trial_text(alloc, &log)?;
+    match put(out, text.as_bytes()) {
+        Ok(()) => Ok(true),
+        Err(_) => Err(TrialFault::Write),
+    }
+}
+
+/// As [`perform`], of the script that a reader has, which is read whole first. Read tells a failed
+/// read, and Script the first line that is refused, both with nothing out. No more than 1,048,577
+/// bytes are read; a script of more than 1,048,576 is a bad line 0.
+pub fn trial<R: Read + Drop, W: Write>(
+    alloc: Global,
+    input: R,
+    out: &mut W,
+) -> Result<bool, TrialFault>
+    ensures { (text : List ℕ) × Has (R.remaining input) text × Tries (script_at text) result (W.contents out.old) (W.contents out.new) }
+{
+    let mut input = input;
+    let text = read_text(alloc, &mut input, LARGEST_SCRIPT)?;
+    try_text(alloc, &text, out)
+}
+
+/// What no words ask for: the script of standard input is tried, with status 0.
+pub struct TrialCommand;
+
+impl OfFile for TrialCommand {
+    ghost use Rattle.siman_plays.specs.ScriptTrial.{TriesInput};
+
+    ghost says = { λ _. TriesInput };
+
+    fn say<R: Read + Drop, W: Write>(
+        &self,
+        alloc: Global,
+        file: R,
+        out: &mut W,
+    ) -> Result<u8, Fault<'static>> {
+        status_of(trial(alloc, file, out))
+    }
+}
+
+/// As [`perform`], of the script that a text spells.
+fn try_text<W: Write>(alloc: Global, text: &[u8], out: &mut W) -> Result<bool, TrialFault>
+    ensures { Tries (script_at text.now) result (W.contents out.old) (W.contents out.new) }
+{
+    let script = read_script(alloc, text)?;
+    try_read(alloc, script, out)
+}
+
+fn try_read<W: Write>(alloc: Global, script: Script, out: &mut W) -> Result<bool, TrialFault>
+    ensures { Tries (Ok script) result (W.contents out.old) (W.contents out.new) }
+{
+    perform(alloc, script, out)
+}
+
+/// The text of a trial.
+fn trial_text(alloc: Global, log: &Recording) -> Result<String, AllocError>
+    requires { IsRun log.now.setting (past log.now.entries) }
+    ensures text { IfOk result (λ text. string_bytes text ≡ trial_text log.now) }
+    ensures found { OnOk result ((steps : List Step) × IsGood log.now steps) }
+{
+    let certificate = explain(alloc, log)?;
+    let checked = accept(alloc, log, &certificate)?;
+    let mut text = world_line(alloc, log)?;
+    text.push_str(&counted(alloc, "explained", "steps", log.entry_count())?)?;
+    text.push_str(&report_text(alloc, log, &checked)?)?;
+    Ok(text)
+}
+
+/// The certificate of an order that explains a recording whose entries are a run.
+#[tactic(auto, using(crate::proofs::Trials::file_order_explains))]
+fn explain(alloc: Global, log: &Recording) -> Result<Certificate, AllocError>
+    requires { IsRun log.now.setting (past log.now.entries) }
+    ensures { IfOk result (λ certificate. IsGood log.now certificate.steps.items) }
+{
+    match audit(alloc, log)? {
+        Audit::Explained(certificate) => Ok(certificate),
+        // The order of the file explains it, so no search is blocked.
+        Audit::Blocked(_) => unreachable!(),
+    }
+}
+
+/// What `check` answers to a recording and a good certificate of it, which is never a no.
+#[tactic(auto, using(siman_answers::proofs::Offered::not_good))]
+fn accept(alloc: Global, log: &Recording, certificate: &Certificate) -> Result<Checked, AllocError>
+    requires { IsGood log.now certificate.now.steps.items }
+    ensures { IfOk result (TellsAccount log.now) }
+{
+    match check(alloc, log, certificate) {
+        Ok(checked) => Ok(checked),
+        Err(CheckFault::Memory) => Err(AllocError),
+        Err(CheckFault::Bad { .. }) => unreachable!(),
+    }
+}
+
+/// The status of what was tried.
+fn status_of(tried: Result<bool, TrialFault>) -> Result<u8, Fault<'static>>
+    ensures { result ≡ tried_status tried }
+{
+    match tried {
+        Ok(true) => Ok(0),
+        Ok(false) => Ok(1),
+        Err(fault) => Err(Fault::from(fault)),
+    }
+}

@@ -1,0 +1,299 @@
+//! The command `station`: one station of a script, played over the network by the lines of standard
+//! input.
+
+ghost use Rattle.std.specs.Prelude.{◌≡◌, ◌+◌, ◌∷◌, ℕ, List, length, Option, None, Ok, map, string_bytes};
+ghost use Rattle.std.specs.List.{All};
+ghost use Rattle.siman_answers.specs.Outside.{Stream, Outcome, Deed, Found, Adds, WasHeld, Has};
+ghost use Rattle.siman_scripts.specs.Script.{script_at};
+ghost use Rattle.siman_sessions.specs.declared.reading.TheConstants.{LONGEST_LINE};
+ghost use Rattle.siman_sessions.specs.Recorded.{IsReady};
+ghost use Rattle.siman_words.specs.Words.{named_by};
+ghost use Rattle.siman_plays.specs.Station.{of_set_up, Streams, FindsAddress, FindsEndpoint, FindsEndpoints, Places, SetsUpText, SetsUpFile, IsOfScript, CreatesPlayed, Stands, HasLine, PlaysSetUp, PlaysFile, EndsPlayed, EndsStation};
+
+use crate::live::uncreated;
+use dis_records::Address;
+use siman_answers::{
+    Ended, Endpoint, Fault, Outside, end, endpoint_of, of_error, read_text, unopened,
+};
+use siman_lines::Line;
+use siman_scripts::{LARGEST_SCRIPT, Script, address_of, read_script};
+use siman_sessions::{
+    LONGEST_LINE, Ready, Recorded, SetUp, SetUpFault, Told, record_session, set_up, stand,
+};
+use siman_words::StationWords;
+use siman_worlds::WorldFault;
+use std::alloc::Global;
+use std::io::{Read, Write};
+
+/// Where a station is in its exercise, where its socket is, and where its peers are; and room for a
+/// line of its text.
+#[derive(Drop)]
+struct Placed {
+    address: Address,
+    bind: Endpoint,
+    peers: Vec<Endpoint>,
+    /// Whether it hears anyone, and not its peers alone.
+    anyone: bool,
+    room: Vec<u8>,
+}
+
+/// The address of a station that a word spells.
+fn station_address(word: &str) -> Result<Address, Fault<'_>>
+    ensures { FindsAddress word.now result }
+{
+    match address_of(word.as_bytes()) {
+        Some(address) => Ok(address),
+        None => Err(Fault::StationWord(word)),
+    }
+}
+
+/// Where the socket is of which a word says it.
+fn endpoint(word: &str) -> Result<Endpoint, Fault<'_>>
+    ensures { FindsEndpoint word.now result }
+{
+    match endpoint_of(word.as_bytes()) {
+        Some(endpoint) => Ok(endpoint),
+        None => Err(Fault::StationWord(word)),
+    }
+}
+
+/// Where the sockets are of which words say it.
+fn endpoints(alloc: Global, words: &[String]) -> Result<Vec<Endpoint>, Fault<'_>>
+    ensures { FindsEndpoints (map string_bytes words.now) result }
+{
+    let mut endpoints = Vec::new(alloc);
+    let mut others = words;
+    while let [word, rest @ ..] = others {
+        match endpoint(word.as_str()) {
+            Ok(endpoint) => endpoints.push(endpoint)?,
+            Err(fault) => return Err(fault),
+        }
+        others = rest;
+    }
+    Ok(endpoints)
+}
+
+/// What the words say of the places of a station and its peers.
+fn place<'a>(alloc: Global, words: &StationWords<'a, String>) -> Result<Placed, Fault<'a>>
+    ensures { Places (named_by string_bytes words.now) result }
+{
+    let address = station_address(words.address)?;
+    let bind = endpoint(words.bind)?;
+    let peers = endpoints(alloc, words.peers)?;
+    let room = vec![in alloc; 0u8; LONGEST_LINE + 1]?;
+    Ok(Placed {
+        address,
+        bind,
+        peers,
+        anyone: words.anyone,
+        room,
+    })
+}
+
+/// How it is told that a station of a script was not set up.
+fn of_set_up(fault: SetUpFault) -> Fault<'static>
+    ensures { result ≡ of_set_up fault }
+{
+    match fault {
+        SetUpFault::NotInSetup => Fault::NotInSetup,
+        SetUpFault::Stations => Fault::World(WorldFault::Stations),
+        SetUpFault::Memory => Fault::Memory,
+    }
+}
+
+/// The station of a script at an address, as it is begun.
+fn set_up_script(alloc: Global, script: Script, address: Address) -> Result<SetUp, Fault<'static>>
+    ensures { SetsUpText (Ok script) address result }
+{
+    match set_up(alloc, script, address) {
+        Ok(set_up) => Ok(set_up),
+        Err(fault) => Err(of_set_up(fault)),
+    }
+}
+
+/// The station at an address of the script of a text.
+fn set_up_text(alloc: Global, text: &[u8], address: Address) -> Result<SetUp, Fault<'static>>
+    ensures { SetsUpText (script_at text.now) address result }
+{
+    let script = read_script(alloc, text)?;
+    set_up_script(alloc, script, address)
+}
+
+/// The station at an address of the script of a reader.
+fn set_up_file<R: Read + Drop>(
+    alloc: Global,
+    script: R,
+    address: Address,
+) -> Result<SetUp, Fault<'static>>
+    ensures { SetsUpFile (R.remaining script) address result }
+{
+    let mut script = script;
+    let text = read_text(alloc, &mut script, LARGEST_SCRIPT)?;
+    set_up_text(alloc, &text, address)
+}
+
+/// Creates the file of a recording, and plays a station at its line by the lines of a reader, which it
+/// records there.
+fn create_played<O: Outside, R: Read, W: Write, E: Write>(
+    alloc: Global,
+    ready: Ready<O::Line>,
+    room: &mut [u8],
+    name: &str,
+    outside: &mut O,
+    input: &mut R,
+    out: &mut W,
+    errors: &mut E,
+) -> Result<Told, Fault<'static>>
+    requires room { length room.old ≡ LONGEST_LINE + 1 }
+    requires ready { IsReady ready }
+    ensures { let s : Streams = record { out = record { old = W.contents out.old; new = W.contents out.new }; errors = record { old = E.contents errors.old; new = E.contents errors.new } } in
+        (deeds : List Deed) × Adds (O.deeds outside.old) (O.deeds outside.new) deeds × ((holds : List ℕ → Option Found) → All (WasHeld holds) deeds) × CreatesPlayed O.Line.strangers ready name.now (R.remaining input.old) deeds result s }
+{
+    match outside.create(name) {
+        Ok(file) => {
+            let recorded = record_session(alloc, ready, file, input, room, out, errors);
+            let Recorded { told, file } = recorded;
+            outside.close(file);
+            Ok(told)
+        }
+        Err(error) => Err(uncreated(&error)),
+    }
+}
+
+/// Puts a station that was set up at a line, and plays it.
+fn play_at_line<O: Outside, R: Read, W: Write, E: Write>(
+    alloc: Global,
+    set_up: SetUp,
+    address: Address,
+    line: O::Line,
+    room: &mut [u8],
+    name: &str,
+    outside: &mut O,
+    input: &mut R,
+    out: &mut W,
+    errors: &mut E,
+) -> Result<Told, Fault<'static>>
+    requires room { length room.old ≡ LONGEST_LINE + 1 }
+    requires set_up { IsOfScript set_up }
+    ensures { let s : Streams = record { out = record { old = W.contents out.old; new = W.contents out.new }; errors = record { old = E.contents errors.old; new = E.contents errors.new } } in
+        (deeds : List Deed) × Adds (O.deeds outside.old) (O.deeds outside.new) deeds × ((holds : List ℕ → Option Found) → All (WasHeld holds) deeds) × Stands O.Line.strangers set_up address name.now (R.remaining input.old) deeds result s }
+{
+    match stand(alloc, set_up, address, line) {
+        Ok(ready) => create_played(alloc, ready, room, name, outside, input, out, errors),
+        Err(_) => Err(Fault::Memory),
+    }
+}
+
+/// Has the line of a station that was set up, and plays it there.
+fn play_placed<O: Outside, R: Read, W: Write, E: Write>(
+    alloc: Global,
+    set_up: SetUp,
+    placed: Placed,
+    name: &str,
+    outside: &mut O,
+    input: &mut R,
+    out: &mut W,
+    errors: &mut E,
+) -> Result<Told, Fault<'static>>
+    requires room { length placed.room.items ≡ LONGEST_LINE + 1 }
+    requires set_up { IsOfScript set_up }
+    ensures { let s : Streams = record { out = record { old = W.contents out.old; new = W.contents out.new }; errors = record { old = E.contents errors.old; new = E.contents errors.new } } in
+        (deeds : List Deed) × Adds (O.deeds outside.old) (O.deeds outside.new) deeds × ((holds : List ℕ → Option Found) → All (WasHeld holds) deeds) × HasLine O.Line.strangers set_up placed name.now (R.remaining input.old) deeds result s }
+{
+    let Placed {
+        address,
+        bind,
+        peers,
+        anyone,
+        mut room,
+    } = placed;
+    let line = match outside.line_at(alloc, bind, &peers, anyone) {
+        Ok(line) => line,
+        Err(error) => return Err(of_error(&error, Fault::LineFailed)),
+    };
+    play_at_line(
+        alloc, set_up, address, line, &mut room, name, outside, input, out, errors,
+    )
+}
+
+/// Plays a station that was set up, where no file stands under the name of its recording.
+fn play_set_up<O: Outside, R: Read, W: Write, E: Write>(
+    alloc: Global,
+    set_up: SetUp,
+    placed: Placed,
+    name: &str,
+    outside: &mut O,
+    input: &mut R,
+    out: &mut W,
+    errors: &mut E,
+) -> Result<Told, Fault<'static>>
+    requires room { length placed.room.items ≡ LONGEST_LINE + 1 }
+    requires set_up { IsOfScript set_up }
+    ensures { let s : Streams = record { out = record { old = W.contents out.old; new = W.contents out.new }; errors = record { old = E.contents errors.old; new = E.contents errors.new } } in
+        (deeds : List Deed) × Adds (O.deeds outside.old) (O.deeds outside.new) deeds × ((holds : List ℕ → Option Found) → All (WasHeld holds) deeds) × PlaysSetUp O.Line.strangers set_up placed name.now (R.remaining input.old) deeds result s }
+{
+    if outside.is_taken(name) {
+        return Err(Fault::Exists);
+    }
+    play_placed(alloc, set_up, placed, name, outside, input, out, errors)
+}
+
+/// Opens the script that the words name, and plays its station.
+fn play_file<'a, O: Outside, R: Read, W: Write, E: Write>(
+    alloc: Global,
+    words: &StationWords<'a, String>,
+    placed: Placed,
+    outside: &mut O,
+    input: &mut R,
+    out: &mut W,
+    errors: &mut E,
+) -> Result<Told, Fault<'a>>
+    requires { length placed.room.items ≡ LONGEST_LINE + 1 }
+    ensures { let s : Streams = record { out = record { old = W.contents out.old; new = W.contents out.new }; errors = record { old = E.contents errors.old; new = E.contents errors.new } } in
+        (deeds : List Deed) × Adds (O.deeds outside.old) (O.deeds outside.new) deeds × All (WasHeld (O.holds outside.old)) deeds × PlaysFile O.Line.strangers (named_by string_bytes words.now) placed (R.remaining input.old) deeds result s }
+{
+    let opened = match outside.open(words.setup) {
+        Ok(opened) => opened,
+        Err(error) => return Err(unopened(words.setup, &error)),
+    };
+    let name = words.recording;
+    match set_up_file(alloc, outside.read(opened), placed.address) {
+        Ok(set_up) => play_set_up(alloc, set_up, placed, name, outside, input, out, errors),
+        Err(fault) => Err(fault),
+    }
+}
+
+/// Ends with what a session told, or tells the fault that came in its place.
+fn end_played<E: Write>(played: Result<Told, Fault<'_>>, errors: &mut E) -> Ended
+    ensures { EndsPlayed played.entry result (E.contents errors.old) (E.contents errors.new) }
+{
+    match played {
+        Ok(told) => Ended {
+            status: told.status,
+            written: told.written,
+        },
+        Err(fault) => end(Err(fault), errors),
+    }
+}
+
+/// Plays a station of a script as these words ask for it, by the lines of a reader, and ends as that
+/// asks for.
+pub fn end_station<O: Outside, R: Read + Drop, W: Write, E: Write>(
+    alloc: Global,
+    words: StationWords<'_, String>,
+    outside: &mut O,
+    input: R,
+    out: &mut W,
+    errors: &mut E,
+) -> Ended
+    ensures { let o : Outcome = record { ended = result; out = record { old = W.contents out.old; new = W.contents out.new }; errors = record { old = E.contents errors.old; new = E.contents errors.new } } in
+        (deeds : List Deed) × Adds (O.deeds outside.old) (O.deeds outside.new) deeds × All (WasHeld (O.holds outside.old)) deeds × EndsStation O.Line.strangers (named_by string_bytes words.entry) deeds (R.remaining input) o }
+{
+    let placed = match place(alloc, &words) {
+        Ok(placed) => placed,
+        Err(fault) => return end(Err(fault), errors),
+    };
+    let mut input = input;
+    let played = play_file(alloc, &words, placed, outside, &mut input, out, errors);
+    end_played(played, errors)
+}

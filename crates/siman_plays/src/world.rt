@@ -1,0 +1,186 @@
+//! The command `world`: the recording of the world that a script describes.
+
+ghost use Rattle.std.specs.Prelude.{◌≡◌, ◌⊎◌, ℕ, List, length, map, Ok, IfOk, string_bytes};
+ghost use Rattle.std.specs.Io.KnownBytes.{Keeps};
+ghost use Rattle.exercise_model.specs.Held.{kept};
+ghost use Rattle.siman_scripts.specs.Script.{script_at};
+ghost use Rattle.siman_worlds.specs.World.{sent_in};
+ghost use Rattle.siman_answers.specs.Outside.{Has, Stream};
+ghost use Rattle.siman_plays.specs.World.{Runs, is_sent, world_text, TellsWorld, EndsWorld};
+
+use crate::recording_file::put_recording;
+use exercise_model::{EntryView, LogEntry, Recording};
+use siman_answers::{Fault, Making, Outside, Product, end, make_file, read_text, settle_and_say};
+use siman_scripts::{LARGEST_SCRIPT, Script, read_script};
+use siman_texts::{Field, Line, Spelling, Value, put_line};
+use siman_worlds::run_world;
+use std::alloc::{AllocError, Global};
+use std::io::{Read, Write};
+use std::marker::Model;
+
+/// Runs the world that the script of a reader describes, writes its recording, and then a line with
+/// the numbers of its entries and of those that were sent, with status 0. The line is written only
+/// after the whole recording.
+///
+/// Status 2 with a line on `errors` tells the first line of the script that is refused (`script:
+/// bad-line at line N`, `script: unknown-station at line N`), a failed read of it (`script: read`),
+/// why its world does not run (`world: stations`, `world: NAME at move N`), with nothing written, or
+/// a failed write (`output: write`), after which a prefix of the recording is written and no line,
+/// or the recording and a prefix of the line. Status 3 is want of memory (`memory`); a prefix of the
+/// recording may be written, and no line. Of the script no more than 1,048,577 bytes are read.
+pub fn world_command<R: Read + Drop, F: Write, W: Write, E: Write>(
+    alloc: Global,
+    script: R,
+    recording: &mut F,
+    out: &mut W,
+    errors: &mut E,
+) -> u8
+    ensures ends { let file : Stream = record { old = F.contents recording.old; new = F.contents recording.new } in
+        let out : Stream = record { old = W.contents out.old; new = W.contents out.new } in
+        let errors : Stream = record { old = E.contents errors.old; new = E.contents errors.new } in
+        (text : List ℕ) × Has (R.remaining script) text × EndsWorld (script_at text) result file out errors }
+    ensures status { (result ≡ 0) ⊎ (result ≡ 2) ⊎ (result ≡ 3) }
+    ensures silent { result ≡ 0 → Keeps (E.contents errors.old) (E.contents errors.new) }
+{
+    end(world(alloc, script, recording, out), errors).status
+}
+
+/// Writes the recording of the world that the script of a reader describes, and then its line, and
+/// gives the status.
+fn world<R: Read + Drop, F: Write, W: Write>(
+    alloc: Global,
+    script: R,
+    recording: &mut F,
+    out: &mut W,
+) -> Result<u8, Fault<'static>>
+    ensures { let file : Stream = record { old = F.contents recording.old; new = F.contents recording.new } in
+        let out : Stream = record { old = W.contents out.old; new = W.contents out.new } in
+        (text : List ℕ) × Has (R.remaining script) text × TellsWorld (script_at text) result file out }
+{
+    match run_script(alloc, script) {
+        Ok(made) => WorldFile { recording: made }.put(alloc, recording, out),
+        Err(fault) => Err(fault),
+    }
+}
+
+/// The recording of the world that the script of a reader describes.
+fn run_script<R: Read + Drop>(alloc: Global, script: R) -> Result<Recording, Fault<'static>>
+    ensures { (text : List ℕ) × Has (R.remaining script) text × Runs (script_at text) result }
+{
+    let mut script = script;
+    let text = read_text(alloc, &mut script, LARGEST_SCRIPT)?;
+    run_text(alloc, &text)
+}
+
+/// The recording of the world that a script describes.
+fn run_text(alloc: Global, text: &[u8]) -> Result<Recording, Fault<'static>>
+    ensures { Runs (script_at text.now) result }
+{
+    let script = read_script(alloc, text)?;
+    run_read(alloc, script)
+}
+
+fn run_read(alloc: Global, script: Script) -> Result<Recording, Fault<'static>>
+    ensures { Runs (Ok script) result }
+{
+    let Script {
+        exercise,
+        stations,
+        moves,
+    } = script;
+    Ok(run_world(alloc, exercise, stations, moves)?)
+}
+
+/// The recording of the world of a script, of which a file is to be made.
+#[derive(Drop)]
+pub struct WorldFile {
+    recording: Recording,
+}
+
+impl Model for WorldFile {
+    ghost use Rattle.exercise_model.specs.Recording.{PlainRecording};
+
+    ghost Value = { PlainRecording };
+
+    ghost view = { λ file. file.recording };
+}
+
+/// The file of the recording of a world.
+impl Making for WorldFile {
+    ghost use Rattle.siman_plays.specs.World.{PutsWorld};
+
+    ghost puts = { PutsWorld };
+
+    fn put<F: Write, W: Write>(
+        &self,
+        alloc: Global,
+        file: &mut F,
+        out: &mut W,
+    ) -> Result<u8, Fault<'static>> {
+        let line = world_line(alloc, &self.recording)?;
+        put_recording(alloc, &self.recording, file)?;
+        match settle_and_say(file, &line, out) {
+            Ok(()) => Ok(0),
+            Err(fault) => Err(fault),
+        }
+    }
+}
+
+/// What comes of a script: the file of the recording of its world.
+impl Product for WorldFile {
+    ghost use Rattle.siman_plays.specs.World.{RunsFile, MakesWorld};
+
+    ghost reads = { RunsFile };
+
+    ghost makes = { MakesWorld };
+
+    fn read<R: Read + Drop>(alloc: Global, file: R) -> Result<WorldFile, Fault<'static>> {
+        match run_script(alloc, file) {
+            Ok(recording) => Ok(WorldFile { recording }),
+            Err(fault) => Err(fault),
+        }
+    }
+
+    fn make<O: Outside, W: Write>(
+        self,
+        alloc: Global,
+        name: &str,
+        outside: &mut O,
+        out: &mut W,
+    ) -> Result<u8, Fault<'static>> {
+        make_file(alloc, &self, name, outside, out)
+    }
+}
+
+/// The line of a world: how many entries its recording has, and how many of them were sent.
+pub(crate) fn world_line(alloc: Global, recording: &Recording) -> Result<String, AllocError>
+    ensures { IfOk result (λ line. string_bytes line ≡ world_text recording.now) }
+{
+    let entries = recording.entries();
+    let fields = [
+        Field::Keyed("records", Value::Number(entries.len() as u64)),
+        Field::Keyed("sent", Value::Number(sent_count(entries) as u64)),
+    ];
+    let mut line = String::new(alloc);
+    put_line(&mut line, Spelling::Text, &Line::named("world", &fields))?;
+    Ok(line)
+}
+
+fn is_sent(entry: &LogEntry) -> bool
+    ensures { result ≡ is_sent (kept entry.now) }
+{
+    matches!(entry.view(), EntryView::Sent { .. })
+}
+
+/// How many of the entries say that a datagram was sent.
+fn sent_count(entries: &[LogEntry]) -> usize
+    ensures { result ≡ length (sent_in (map kept entries.now)) }
+{
+    let mut count = 0;
+    for entry in entries {
+        if is_sent(entry) {
+            count += 1;
+        }
+    }
+    count
+}

@@ -1,0 +1,6 @@
+mod Searches
+mod Reviewed
+mod Logged
+mod Reasons
+mod Said
+mod Pictured

@@ -1,0 +1,106 @@
+-- What `audit` says of a recording, and how it ends.
+use Rattle.std.specs.Prelude.{◌≡◌, ◌⊎◌, ℕ, List, [], length, string_bytes, Option, Result, Ok, Err}
+use Rattle.std.specs.Io.KnownBytes.{Appends, Keeps}
+use Rattle.byte_files.specs.Writing.{WritesPart}
+use Rattle.exercise_model.specs.Recording.{PlainRecording}
+use Rattle.exercise_model.specs.Headline.{Holds}
+use Rattle.exercise_model.specs.Alike.{IsAlwaysAsSaid}
+use Rattle.exercise_check.specs.declared.certificate.Step.{Step}
+use Rattle.exercise_check.specs.Certificate.{certificate_text}
+use Rattle.exercise_check.specs.Order.{order_of}
+use Rattle.exercise_check.specs.Goodness.{IsGood}
+use Rattle.exercise_audit.specs.declared.blocks.Block.{Block}
+use Rattle.exercise_audit.specs.Audit.{IsBlocked}
+use Rattle.siman_answers.specs.declared.fault.Fault.{Fault}
+use Rattle.siman_answers.specs.declared.fault.Fault.TheVariants.{Output}
+use Rattle.siman_views.specs.declared.audit.Finding.{Finding}
+use Rattle.siman_views.specs.declared.audit.Finding.TheVariants.{Order, Stuck}
+use Rattle.siman_answers.specs.Recorded.{Recorded, IsUnsearched, explained_text}
+use Rattle.siman_answers.specs.Ending.{EndsWith}
+use Rattle.siman_answers.specs.Outside.{Has, Stream, Deed}
+use Rattle.siman_answers.specs.Making.{MakesFile, PutsBoth}
+use Rattle.siman_answers.specs.declared.limits.TheConstants.{LARGEST_RECORDING}
+use Rattle.exercise_recording.specs.Reading.{recording_at}
+use Rattle.siman_texts.specs.Spelled.{lines_text}
+use Rattle.siman_conflicts.specs.Blocked.{blocked_lines}
+
+-- ---- the lines
+
+-- THE BLOCKED LIST: blocked stations=N, and a line for each block, in their order
+abbrev pub blocked_text : PlainRecording → List Block → List ℕ
+blocked_text r blocks = lines_text (blocked_lines r blocks)
+
+-- The text is the blocked list of a recording that no run explains.
+abbrev pub IsListOf : PlainRecording → (text : List ℕ) → Type 0
+IsListOf r text = (blocks : List Block) × IsBlocked r blocks × (text ≡ blocked_text r blocks)
+
+-- ---- what is found
+
+-- SOME ORDER EXPLAINS what was read, and these are the steps of its certificate
+pub record FindsOrder (recorded : Recorded) (steps : List Step) : Type 0 where
+  -- the file is this recording
+  pub recording : PlainRecording
+  pub read : recorded ≡ Ok recording
+  -- there is a step for each entry, and each step is good
+  pub good : IsGood recording steps
+  -- the order that they name is a run that explains the recording: the headline's sentences hold of it
+  pub holds : Holds recording (order_of recording steps)
+  -- and what the recording says is so in every run that explains it: the same pairs, the same states at the end
+  pub said : IsAlwaysAsSaid recording
+
+-- NO ORDER EXPLAINS what was read, and this is its blocked list
+pub record FindsNone (recorded : Recorded) (text : List ℕ) : Type 0 where
+  pub recording : PlainRecording
+  pub read : recorded ≡ Ok recording
+  -- no run explains it, and the blocks are those of every run that can't go on
+  pub blocks : List Block
+  pub blocked : IsBlocked recording blocks
+  pub list : text ≡ blocked_text recording blocks
+
+-- the texts of an order: its certificate, and its line
+pub record AreTextsOf (steps : List Step) (certificate line : List ℕ) : Type 0 where
+  pub certificate_is : certificate ≡ certificate_text steps
+  pub line_is : line ≡ explained_text (length steps)
+
+-- what a search found, with its texts
+abbrev pub Finds : Recorded → Finding → Type 0
+Finds recorded (Order texts) =
+    (steps : List Step) × FindsOrder recorded steps × AreTextsOf steps texts.certificate.items (string_bytes texts.line)
+Finds recorded (Stuck text) = FindsNone recorded (string_bytes text)
+
+abbrev pub Searches : Recorded → Result Finding Fault → Type 0
+Searches recorded (Ok finding) = Finds recorded finding
+Searches recorded (Err fault) = IsUnsearched recorded fault
+
+-- ---- what is written
+
+-- WHAT IS WRITTEN WHERE THERE IS NONE: the blocked list, with status 1, or a prefix of it
+abbrev pub PutsBlocked : (list : List ℕ) → Result ℕ Fault → (out : Stream) → Type 0
+PutsBlocked list (Ok status) out = (status ≡ 1) × Appends out.old out.new list
+PutsBlocked list (Err fault) out = (fault ≡ Output) × WritesPart out.old out.new list
+
+-- WHAT IS WRITTEN OF A FINDING: of an order its texts, and of none the blocked list
+abbrev pub PutsFinding : Finding → Result ℕ Fault → (file out : Stream) → Type 0
+PutsFinding (Order texts) answered file out = PutsBoth texts.certificate.items (string_bytes texts.line) answered file out
+PutsFinding (Stuck text) answered file out = Keeps file.old file.new × PutsBlocked (string_bytes text) answered out
+
+-- What `audit` tells: nothing was searched, and nothing is written; or an order explains the recording, and its certificate and its line are written; or none does, the file is as it was, and the blocked list is written.
+abbrev pub TellsAudit : Recorded → (answered : Result ℕ Fault) → (file out : Stream) → Type 0
+TellsAudit recorded answered file out =
+    ((fault : Fault) × IsUnsearched recorded fault × (answered ≡ Err fault) × Keeps file.old file.new × Keeps out.old out.new)
+    ⊎ ((finding : Finding) × Finds recorded finding × PutsFinding finding answered file out)
+
+-- HOW `audit` ENDS: what it found is in the file and out, and it ends as that asks for
+abbrev pub EndsAudit : Recorded → (status : ℕ) → (file out errors : Stream) → Type 0
+EndsAudit recorded status file out errors =
+    (answered : Result ℕ Fault) × TellsAudit recorded answered file out × EndsWith answered status errors.old errors.new
+
+-- ---- by the names of files
+
+-- WHAT COMES OF A FILE for `audit` that has these bytes, where they are known, and what is made of it: a file of the certificate of an order, and none where there is no order
+abbrev pub SearchesFile : (known : Option (List ℕ)) → Result Finding Fault → Type 0
+SearchesFile known found = (bytes : List ℕ) × Has known bytes × Searches (recording_at LARGEST_RECORDING bytes) found
+
+abbrev pub MakesFinding : Finding → (name : List ℕ) → List Deed → Result ℕ Fault → (out : Stream) → Type 0
+MakesFinding (Order texts) name deeds answered out = MakesFile (PutsBoth texts.certificate.items (string_bytes texts.line)) name deeds answered out
+MakesFinding (Stuck text) name deeds answered out = (deeds ≡ []) × PutsBlocked (string_bytes text) answered out

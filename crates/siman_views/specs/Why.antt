@@ -1,0 +1,150 @@
+-- What `why` says of a recording, or of a certificate, and how it ends.
+use Rattle.std.specs.Prelude.{◌≡◌, ◌⊎◌, ℕ, List, ◌++◌, length, string_bytes, Option, Some, None, Result, Ok, Err}
+use Rattle.std.specs.Io.KnownBytes.{Appends, Keeps}
+use Rattle.byte_files.specs.Writing.{WritesPart}
+use Rattle.exercise_model.specs.Account.{others_of}
+use Rattle.exercise_model.specs.Recording.{PlainRecording}
+use Rattle.exercise_recording.specs.Reading.{recording_at}
+use Rattle.exercise_check.specs.declared.certificate.Step.{Step}
+use Rattle.exercise_check.specs.declared.certificate_fault.CertificateFormatFault.{CertificateFormatFault}
+use Rattle.exercise_check.specs.declared.certificate_fault.CertificateFault.TheVariants as certificates
+use Rattle.exercise_check.specs.Certificate.{certificate_at}
+use Rattle.exercise_check.specs.Goodness.{IsGood}
+use Rattle.exercise_conflict.specs.declared.conflict.Conflict.{Conflict}
+use Rattle.exercise_conflict.specs.declared.verdict.Refusal.{Refusal}
+use Rattle.exercise_conflict.specs.Whole.{IsConflictOf, IsRefusalOf}
+use Rattle.siman_texts.specs.declared.spelling.Spelling.{Spelling}
+use Rattle.siman_texts.specs.Line.{Line}
+use Rattle.siman_texts.specs.Spelled.{line_spelled, lines_spelled}
+use Rattle.siman_reports.specs.Report.{yes_line}
+use Rattle.siman_conflicts.specs.Blocked.{explained_line}
+use Rattle.siman_conflicts.specs.Told.{conflict_lines, conflict_entries, refusal_lines, refusal_entries}
+use Rattle.siman_logs.specs.Named.{named_lines}
+use Rattle.siman_answers.specs.declared.fault.Fault.{Fault}
+use Rattle.siman_answers.specs.declared.fault.Fault.TheVariants.{Certificate, Output, Memory}
+use Rattle.siman_answers.specs.declared.limits.TheConstants.{LARGEST_CERTIFICATE, LARGEST_RECORDING}
+use Rattle.siman_views.specs.declared.why.WhyText.{WhyText}
+use Rattle.siman_answers.specs.Ending.{EndsWith}
+use Rattle.siman_answers.specs.Making.{Answered}
+use Rattle.siman_answers.specs.Outside.{Has, Stream, Deed}
+use Rattle.siman_answers.specs.Recorded.{IsUnsearched, Recorded, Certified}
+use Rattle.siman_answers.specs.Saying.{SaysOfFile, SaysOfFiles}
+
+-- ---- a recording alone
+
+-- the lines of what contradicts what in a recording, and behind them those of the entries that they name
+abbrev pub conflict_told : PlainRecording → Conflict → List Line
+conflict_told r c = conflict_lines r c ++ named_lines r (conflict_entries c)
+
+-- SOME ORDER EXPLAINS the recording that was read
+pub record SaysExplained (spelling : Spelling) (recorded : Recorded) (text : List ℕ) : Type 0 where
+  -- the file is this recording
+  pub recording : PlainRecording
+  pub read : recorded ≡ Ok recording
+  -- there is a good certificate of it
+  pub steps : List Step
+  pub good : IsGood recording steps
+  -- its line says so, with the number of steps
+  pub text_is : text ≡ line_spelled spelling (explained_line (length recording.entries))
+
+-- NO ORDER DOES, and this is what contradicts what
+pub record SaysConflict (spelling : Spelling) (recorded : Recorded) (text : List ℕ) : Type 0 where
+  pub recording : PlainRecording
+  pub read : recorded ≡ Ok recording
+  -- the blocked list, and what comes of it, are those of the recording
+  pub conflict : Conflict
+  pub contradicts : IsConflictOf recording conflict
+  -- these are its lines
+  pub text_is : text ≡ lines_spelled spelling (conflict_told recording conflict)
+
+-- WHAT IS TO BE SAID of a recording, with status 0 where some order explains it, else with status 1
+abbrev pub SaysWhy : Spelling → Recorded → (text : List ℕ) → (status : ℕ) → Type 0
+SaysWhy spelling recorded text status = (SaysExplained spelling recorded text × (status ≡ 0)) ⊎ (SaysConflict spelling recorded text × (status ≡ 1))
+
+abbrev pub Whys : Spelling → Recorded → Result WhyText Fault → Type 0
+Whys spelling recorded (Ok told) = SaysWhy spelling recorded (string_bytes told.text) told.status
+Whys spelling recorded (Err fault) = IsUnsearched recorded fault
+
+-- ---- a recording and a certificate
+
+-- the lines of a certificate that is not good, and behind them those of the entries that they name
+abbrev pub refusal_told : PlainRecording → Refusal → List Line
+refusal_told r f = refusal_lines r f ++ named_lines r (refusal_entries f)
+
+-- THE CERTIFICATE IS GOOD
+pub record SaysGood (spelling : Spelling) (recorded : Recorded) (certified : Certified) (text : List ℕ) : Type 0 where
+  pub recording : PlainRecording
+  pub read : recorded ≡ Ok recording
+  -- the second file is the certificate of these steps
+  pub steps : List Step
+  pub certificate : certified ≡ Ok steps
+  pub good : IsGood recording steps
+  -- the first line of its report
+  pub text_is : text ≡ line_spelled spelling (yes_line (length recording.entries) (others_of recording))
+
+-- THE CERTIFICATE IS NOT GOOD, and this is what its first bad step contradicts
+pub record SaysRefusal (spelling : Spelling) (recorded : Recorded) (certified : Certified) (text : List ℕ) : Type 0 where
+  pub recording : PlainRecording
+  pub read : recorded ≡ Ok recording
+  pub steps : List Step
+  pub certificate : certified ≡ Ok steps
+  -- the first bad step with the first cause that holds there, its clash, and whether some run explains the recording
+  pub refusal : Refusal
+  pub refused : IsRefusalOf recording steps refusal
+  pub text_is : text ≡ lines_spelled spelling (refusal_told recording refusal)
+
+-- WHAT IS TO BE SAID of two files, with status 0 where the certificate is good, else with status 1
+abbrev pub SaysWhyNot : Spelling → Recorded → Certified → (text : List ℕ) → (status : ℕ) → Type 0
+SaysWhyNot spelling recorded certified text status =
+    (SaysGood spelling recorded certified text × (status ≡ 0)) ⊎ (SaysRefusal spelling recorded certified text × (status ≡ 1))
+
+-- a certificate could not be had: the file has a bad field, a read failed, or memory ran out
+abbrev pub IsUncertified : Certified → Fault → Type 0
+IsUncertified certified fault =
+    ((bad : CertificateFormatFault) × (certified ≡ Err bad) × (fault ≡ Certificate (certificates.Format bad)))
+    ⊎ (fault ≡ Certificate certificates.Read)
+    ⊎ (fault ≡ Memory)
+
+-- NOTHING WAS JUDGED: the recording could not be had, which is judged first; or it could, and the certificate could not
+abbrev pub IsUnjudged : Recorded → Certified → Fault → Type 0
+IsUnjudged recorded certified fault = IsUnsearched recorded fault ⊎ (((r : PlainRecording) × (recorded ≡ Ok r)) × IsUncertified certified fault)
+
+abbrev pub WhysNot : Spelling → Recorded → Certified → Result WhyText Fault → Type 0
+WhysNot spelling recorded certified (Ok told) = SaysWhyNot spelling recorded certified (string_bytes told.text) told.status
+WhysNot spelling recorded certified (Err fault) = IsUnjudged recorded certified fault
+
+-- ---- what is written
+
+-- A text was written whole, with its status, or a prefix of it.
+abbrev pub PutsWhy : (text : List ℕ) → (status : ℕ) → Answered → (out : Stream) → Type 0
+PutsWhy text status (Ok answered) out = (answered ≡ status) × Appends out.old out.new text
+PutsWhy text status (Err fault) out = (fault ≡ Output) × WritesPart out.old out.new text
+
+-- What `why` tells: a text that says it, or nothing, of a fault.
+abbrev pub TellsWhy : (Says : (text : List ℕ) → (status : ℕ) → Type 0) → (IsUnsaid : Fault → Type 0) → Answered → (out : Stream) → Type 0
+TellsWhy Says IsUnsaid answered out =
+    ((fault : Fault) × IsUnsaid fault × (answered ≡ Err fault) × Keeps out.old out.new)
+    ⊎ ((text : List ℕ) × (status : ℕ) × Says text status × PutsWhy text status answered out)
+
+-- WHAT `why` SAYS of a file that has these bytes, where they are known
+abbrev pub WhyOfFile : Spelling → (known : Option (List ℕ)) → Answered → (out : Stream) → Type 0
+WhyOfFile spelling known answered out =
+    (bytes : List ℕ) × Has known bytes × (let recorded = recording_at LARGEST_RECORDING bytes in TellsWhy (SaysWhy spelling recorded) (IsUnsearched recorded) answered out)
+
+-- and of two files
+abbrev pub WhyOfFiles : Spelling → (recording certificate : Option (List ℕ)) → Answered → (out : Stream) → Type 0
+WhyOfFiles spelling recording certificate answered out =
+    (bytes : List ℕ) × Has recording bytes
+    × ((text : List ℕ) × Has certificate text
+    × (let recorded = recording_at LARGEST_RECORDING bytes in
+    let certified = certificate_at LARGEST_CERTIFICATE text in
+    TellsWhy (SaysWhyNot spelling recorded certified) (IsUnjudged recorded certified) answered out))
+
+-- HOW `why` ENDS: what it said is out, and it ends as that asks for
+abbrev pub EndsWhy : (Tells : Answered → Stream → Type 0) → (status : ℕ) → (out errors : Stream) → Type 0
+EndsWhy Tells status out errors = (answered : Answered) × Tells answered out × EndsWith answered status errors.old errors.new
+
+-- by the name of a file, and perhaps of another: they are opened in that order before either is read
+abbrev pub WhyNamed : Spelling → (name : List ℕ) → (other : Option (List ℕ)) → List Deed → Answered → (out : Stream) → Type 0
+WhyNamed spelling name None deeds answered out = SaysOfFile (WhyOfFile spelling) name deeds answered out
+WhyNamed spelling name (Some other) deeds answered out = SaysOfFiles (WhyOfFiles spelling) name other deeds answered out

@@ -1,0 +1,242 @@
+//! The command `audit`: a recording, searched for an order that explains it.
+
+ghost use Rattle.std.specs.Prelude.{◌≡◌, ◌≤◌, ℕ, List, Option, length, All, Ok, IfOk};
+ghost use Rattle.std.specs.Io.KnownBytes.{Keeps};
+ghost use Rattle.exercise_recording.specs.Reading.{recording_at};
+ghost use Rattle.exercise_check.specs.Certificate.{certificate_text};
+ghost use Rattle.exercise_check.specs.Goodness.{IsGood};
+ghost use Rattle.exercise_audit.specs.Audit.{IsBlocked};
+ghost use Rattle.siman_answers.specs.declared.limits.TheConstants.{LARGEST_RECORDING};
+ghost use Rattle.siman_answers.specs.Outside.{Has, Stream, Deed, Found, Adds, WasHeld};
+ghost use Rattle.siman_views.specs.Audit.{Finds, Searches, PutsBlocked, PutsFinding, TellsAudit, EndsAudit, MakesFinding};
+
+use byte_files::put;
+use exercise_audit::{Audit, Block, audit};
+use exercise_check::{Certificate, good_steps_have_no_cause, write_certificate};
+use exercise_model::{ExerciseLog, entries_stand, what_explains_holds};
+use exercise_recording::{RecordingView, fetch_recording};
+use siman_answers::{
+    Fault, LARGEST_RECORDING, Making, Outside, Product, end, make_file, settle_and_say,
+};
+use siman_conflicts::put_blocked;
+use siman_reports::counted;
+use siman_texts::Spelling;
+use std::alloc::{AllocError, Global};
+use std::io::{Read, Write};
+
+/// The texts of an order that explains a recording: that of its certificate, and its line.
+#[derive(Drop)]
+pub struct OrderTexts {
+    pub certificate: Vec<u8>,
+    pub line: String,
+}
+
+/// What a search found, with the texts that tell of it.
+#[derive(Drop)]
+pub enum Finding {
+    /// Some order explains the recording.
+    Order(OrderTexts),
+    /// No order does: the blocked list.
+    Stuck(String),
+}
+
+/// Searches the recording that a reader has for an order that explains it. Where there is one, its
+/// certificate is written to the file, whole, and then `explained steps=N` to `out`, with status 0.
+/// Where there is none, `blocked stations=N` and a line `blocked ADDRESS record=N cause=N NAME` for
+/// each station that can't go on are written to `out` with status 1, and the file is not touched.
+///
+/// Status 2 with a line on `errors` tells the first field of the recording that is bad (`recording:
+/// NAME at OFFSET`) or a failed read (`recording: read`), both with nothing written, or a failed
+/// write (`output: write`), after which a prefix of the certificate is written and no line, or the
+/// certificate and a prefix of the line. Status 3 is want of memory (`memory`), and nothing is
+/// written.
+pub fn audit_command<R: Read + Drop, F: Write, W: Write, E: Write>(
+    alloc: Global,
+    recording: R,
+    certificate: &mut F,
+    out: &mut W,
+    errors: &mut E,
+) -> u8
+    ensures ends { let file : Stream = record { old = F.contents certificate.old; new = F.contents certificate.new } in
+        let out : Stream = record { old = W.contents out.old; new = W.contents out.new } in
+        let errors : Stream = record { old = E.contents errors.old; new = E.contents errors.new } in
+        (bytes : List ℕ) × Has (R.remaining recording) bytes × EndsAudit (recording_at LARGEST_RECORDING bytes) result file out errors }
+    ensures silent { result ≤ 1 → Keeps (E.contents errors.old) (E.contents errors.new) }
+{
+    end(audited(alloc, recording, certificate, out), errors).status
+}
+
+/// Searches the recording that a reader has, writes what was found, and gives the status.
+fn audited<R: Read + Drop, F: Write, W: Write>(
+    alloc: Global,
+    recording: R,
+    certificate: &mut F,
+    out: &mut W,
+) -> Result<u8, Fault<'static>>
+    ensures { let file : Stream = record { old = F.contents certificate.old; new = F.contents certificate.new } in
+        let out : Stream = record { old = W.contents out.old; new = W.contents out.new } in
+        (bytes : List ℕ) × Has (R.remaining recording) bytes × TellsAudit (recording_at LARGEST_RECORDING bytes) result file out }
+{
+    match search(alloc, recording) {
+        Ok(finding) => put_finding(alloc, &finding, certificate, out),
+        Err(fault) => Err(fault),
+    }
+}
+
+/// Searches the recording that a reader has for an order that explains it.
+fn search<R: Read + Drop>(alloc: Global, recording: R) -> Result<Finding, Fault<'static>>
+    ensures { (bytes : List ℕ) × Has (R.remaining recording) bytes × Searches (recording_at LARGEST_RECORDING bytes) result }
+{
+    let bytes = fetch_recording(alloc, recording, LARGEST_RECORDING)?;
+    search_bytes(alloc, &bytes)
+}
+
+/// Searches the recording whose file these bytes are for an order that explains it.
+fn search_bytes(alloc: Global, bytes: &[u8]) -> Result<Finding, Fault<'static>>
+    ensures { Searches (recording_at LARGEST_RECORDING bytes.now) result }
+{
+    let log = RecordingView::over_limited(alloc, bytes, LARGEST_RECORDING)?;
+    Ok(search_log(alloc, &log)?)
+}
+
+fn search_log<L: ExerciseLog>(alloc: Global, log: &L) -> Result<Finding, AllocError>
+    ensures { IfOk result (Finds (Ok (L.recording log.now))) }
+{
+    match audit(alloc, log)? {
+        Audit::Explained(certificate) => order(alloc, log, &certificate),
+        Audit::Blocked(blocks) => stuck(alloc, log, &blocks),
+    }
+}
+
+/// The texts of an order that explains a recording.
+fn order<L: ExerciseLog>(
+    alloc: Global,
+    log: &L,
+    certificate: &Certificate,
+) -> Result<Finding, AllocError>
+    requires { IsGood (L.recording log.now) certificate.now.steps.items }
+    ensures { IfOk result (Finds (Ok (L.recording log.now))) }
+{
+    good_steps_have_no_cause();
+    what_explains_holds();
+    entries_stand();
+    // There is a step for each entry.
+    let steps = log.entry_count();
+    Ok(Finding::Order(OrderTexts {
+        certificate: certificate_bytes(alloc, certificate)?,
+        line: counted(alloc, "explained", "steps", steps)?,
+    }))
+}
+
+fn certificate_bytes(alloc: Global, certificate: &Certificate) -> Result<Vec<u8>, AllocError>
+    requires { length certificate.now.steps.items ≤ 4294967295 }
+    ensures { IfOk result (λ bytes. bytes.items ≡ certificate_text certificate.now.steps.items) }
+{
+    let mut bytes = Vec::new(alloc);
+    match write_certificate(certificate, &mut bytes) {
+        Ok(()) => Ok(bytes),
+        Err(_) => Err(AllocError),
+    }
+}
+
+/// The blocked list of a recording that no order explains.
+#[tactic(auto, using(siman_conflicts::proofs::Offered::blocks_within))]
+fn stuck<L: ExerciseLog>(alloc: Global, log: &L, blocks: &[Block]) -> Result<Finding, AllocError>
+    requires { IsBlocked (L.recording log.now) blocks.now }
+    ensures { IfOk result (Finds (Ok (L.recording log.now))) }
+{
+    let mut text = String::new(alloc);
+    put_blocked(alloc, &mut text, Spelling::Text, log, blocks)?;
+    Ok(Finding::Stuck(text))
+}
+
+/// Writes what was found, and gives the status.
+fn put_finding<F: Write, W: Write>(
+    alloc: Global,
+    finding: &Finding,
+    file: &mut F,
+    out: &mut W,
+) -> Result<u8, Fault<'static>>
+    ensures { let file : Stream = record { old = F.contents file.old; new = F.contents file.new } in
+        let out : Stream = record { old = W.contents out.old; new = W.contents out.new } in
+        PutsFinding finding.now result file out }
+{
+    match finding {
+        Finding::Order(order) => order.put(alloc, file, out),
+        Finding::Stuck(text) => put_stuck(text, out),
+    }
+}
+
+/// The file of a certificate.
+impl Making for OrderTexts {
+    ghost use Rattle.std.specs.Prelude.{string_bytes};
+    ghost use Rattle.siman_answers.specs.Making.{PutsBoth};
+
+    ghost puts = { λ order. PutsBoth order.certificate.items (string_bytes order.line) };
+
+    fn put<F: Write, W: Write>(
+        &self,
+        _alloc: Global,
+        file: &mut F,
+        out: &mut W,
+    ) -> Result<u8, Fault<'static>> {
+        if put(file, &self.certificate).is_err() {
+            return Err(Fault::Output);
+        }
+        match settle_and_say(file, &self.line, out) {
+            Ok(()) => Ok(0),
+            Err(fault) => Err(fault),
+        }
+    }
+}
+
+/// What comes of a recording: the file of its certificate, and where it has none the blocked list.
+impl Product for Finding {
+    ghost use Rattle.siman_views.specs.Audit.{SearchesFile};
+
+    ghost reads = { SearchesFile };
+
+    ghost makes = { MakesFinding };
+
+    fn read<R: Read + Drop>(alloc: Global, file: R) -> Result<Finding, Fault<'static>> {
+        search(alloc, file)
+    }
+
+    fn make<O: Outside, W: Write>(
+        self,
+        alloc: Global,
+        name: &str,
+        outside: &mut O,
+        out: &mut W,
+    ) -> Result<u8, Fault<'static>> {
+        make_found(alloc, &self, name, outside, out)
+    }
+}
+
+/// Makes the file of the certificate that was found; where none was, no file is made.
+fn make_found<O: Outside, W: Write>(
+    alloc: Global,
+    finding: &Finding,
+    name: &str,
+    outside: &mut O,
+    out: &mut W,
+) -> Result<u8, Fault<'static>>
+    ensures { let out : Stream = record { old = W.contents out.old; new = W.contents out.new } in
+        (deeds : List Deed) × Adds (O.deeds outside.old) (O.deeds outside.new) deeds × ((holds : List ℕ → Option Found) → All (WasHeld holds) deeds) × MakesFinding finding.now name.now deeds result out }
+{
+    match finding {
+        Finding::Order(order) => make_file(alloc, order, name, outside, out),
+        Finding::Stuck(list) => put_stuck(list, out),
+    }
+}
+
+/// Writes what tells of a no, as a blocked list, and gives the status.
+pub(crate) fn put_stuck<W: Write>(list: &str, out: &mut W) -> Result<u8, Fault<'static>>
+    ensures { let out : Stream = record { old = W.contents out.old; new = W.contents out.new } in
+        PutsBlocked list.now result out }
+{
+    match put(out, list.as_bytes()) {
+        Ok(()) => Ok(1),
+        Err(_) => Err(Fault::Output),
+    }
+}

@@ -31,7 +31,7 @@ from pathlib import Path
 
 sys.dont_write_bytecode = True
 
-from cases import calls, cuts, failing, limits, memory, rows
+from cases import calls, cuts, failing, limits, memory, rows, stations
 from cases.examples import TOP, made_examples
 from cases.trials import Trials, Verdict, described
 
@@ -48,6 +48,7 @@ orders: 100000
 requests: 100000
 served: 100000, issued: 100000, nudged: 100000
 on the line: 300000
+taken after one line: 65536, after two: 65540
 """
 FULL = b"""push of one entry more: count
 told of one entry more: count
@@ -118,6 +119,7 @@ def verdicts(given, folder):
     counts = {}
     if "memory" in parts:
         memory.try_answers(trials, rows.rows(trials))
+        stations.try_memory(trials)
     if "calls" in parts:
         counts = calls.try_calls(trials, hostile)
     if "cuts" in parts:

@@ -1,8 +1,11 @@
-"""Worked examples of each command, to which memory is refused: literal files and the answers that they have."""
+"""Worked examples of each command but `station`, to which memory is refused: literal files and the answers that they
+have, or those that the pages give of them. What `station` does without memory is tried in stations.py."""
+import pages
 from cases import joins, texts
 from cases.examples import TOP, WORKED_ANSWER, WORKED_LINE, WORKED_SCRIPT
-from cases.failing import ABLE, CERTIFICATE, CREATE, RECORDING, REPORT
+from cases.failing import ABLE, CERTIFICATE, CREATE, RECORDING, REPORT, SWAPPED
 from pages import Outcome, Recording, Station
+from pages.drawings import answer_to_chart
 
 COMMENT = "0701160500000000003000000001000100000002000300000000000000000001000000050000002848454C4C4F000000"
 COMMENT_TOLD = (
@@ -47,7 +50,7 @@ REVIEW_IN_JSON = (
 def rows(trials):
     """Words and what is given on standard input, with the usual outcome."""
     script = (TOP / WORKED_SCRIPT).read_bytes()
-    recording, certificate = trials.file(RECORDING), trials.file(CERTIFICATE)
+    recording, certificate, swapped = (trials.file(each) for each in (RECORDING, CERTIFICATE, SWAPPED))
     three = [trials.file(joins.piece(number)) for number in range(3)]
     joined = Outcome(0, b"joined pieces=3 stations=3 records=17 form=closed\n", b"")
     moved, crossed = (trials.file(texts.recording_text(each)) for each in (MOVED, CROSSED))
@@ -65,4 +68,12 @@ def rows(trials):
         (["world", WORKED_SCRIPT, "row.dsrc"], b"", Outcome(0, WORKED_LINE, b"")),
         (["join", *three, "joined.row.dsrc"], b"", joined),
         (["live", WORKED_SCRIPT, "lived.row.dsrc"], b"", Outcome(0, b"live records=13\n", b"")),
+        (["show", recording], b"", pages.answer_to_show(RECORDING)),
+        (["log", recording, "--json"], b"", pages.answer_to_log(RECORDING, (), pages.log_json)),
+        (["log", recording, "request=1:1/1"], b"", pages.answer_to_log(RECORDING, ["request=1:1/1"])),
+        (["why", crossed], b"", pages.answer_to_why(texts.recording_text(CROSSED))),
+        (["why", recording, swapped], b"", pages.answer_to_why_not(RECORDING, SWAPPED)),
+        (["chart", recording, certificate, "row.svg"], b"", answer_to_chart(RECORDING, CERTIFICATE)[0]),
+        (["convert", recording, "converted.row.dsrc"], b"", Outcome(0, b"converted records=4\n", b"")),
+        (["mend", recording, "mended.row.dsrc"], b"", Outcome(0, b"whole records=4\n", b"")),
     ]  # fmt: skip

@@ -2,6 +2,8 @@
 calls of the system that fail."""
 import os
 import socket
+import struct
+import subprocess
 import sys
 
 import pages
@@ -10,20 +12,39 @@ from cases.memory import LATER, refusing_library
 from cases.played import Player, bound, free_address, word_of
 from cases.sockets import FAILING, NO_FILTER
 from cases.trials import Case, Some, Verdict
-from pages import CREATE, SENT, START, Outcome, Post, read_recording
+from pages import (
+    ACTION_REQUEST, CREATE, DATA_QUERY, MOST_ENTRIES, REMOVE, SENT, SET_DATA, START, STOP, TOLD, Outcome, Post, read_recording,
+)  # fmt: skip
 
 SETUP = b"""exercise 4
 station 1:1 first=1 tries=3 wait=10
 station 2:3
 opening 2:3 7 stopped
+fixed 2:3 30 5
+action 2:3 40
 tick 1:1
 """
 OWN, MANAGER = (2, 3), (1, 1, 0)
 COUNTS = b"station records=0 dropped=0 strangers=0\n"
+# Each move, and a line that is none.
+BAD, BAD_AT = b"moves", b"line 5: bad-line"
+LINES = (
+    b"", b"create 2:3 1:1:4", b"at 20", b"tick 2:3", BAD, b"start 2:3 1:1:4", b"stop 2:3 1:1:4", b"do 2:3 1:1:0 40",
+    b"query 2:3 1:1:0 5 6", b"set 2:3 1:1:0 5 7", b"remove 2:3 1:1:4", b"tell 2:3 9", b"",
+)  # fmt: skip
 
 
-def order(number, kind=CREATE, entity=9):
-    return texts.pdu(kind, MANAGER, (*OWN, entity), exercise=4, request=number)
+def order(number, kind=CREATE, entity=9, **values):
+    return texts.pdu(kind, MANAGER, (*OWN, entity), exercise=4, request=number, **values)
+
+
+def orders():
+    """Each kind of request, and one of them twice."""
+    return [
+        order(1), order(2, START), order(1), order(3, STOP), order(4, ACTION_REQUEST, action=40),
+        order(5, DATA_QUERY, 0, fixed=2, records=struct.pack(">II", 30, 31)),
+        order(6, SET_DATA, 0, fixed=1, records=texts.fixed_datum(30, 6)), order(7, REMOVE),
+    ]  # fmt: skip
 
 
 class Station:
@@ -205,7 +226,7 @@ def try_memory(trials):
 
 
 def refused(trials, library, alone):
-    verdicts = []
+    verdicts, usual = [], usual_end()
     for first in range(1, 2000):
         last, name = first if alone else LATER, f"refused.{alone}.{first}"
         reader, writer = os.pipe()
@@ -213,12 +234,13 @@ def refused(trials, library, alone):
         environment = {**os.environ, "LD_PRELOAD": str(library), **refuse}
         station = Station(trials, name, env=environment, pass_fds=[writer])
         os.close(writer)
-        station.hears(order(1), order(2, START), order(1))
-        station.player.say(b"", b"create 2:3 1:1:4", b"at 20", b"tick 2:3", b"tell 2:3 9", b"")
+        station.hears(*orders())
+        station.player.say(*LINES)
         outcome, left = station.ends()
         is_refused = os.read(reader, 1) != b""
         os.close(reader)
-        is_right = is_usual(outcome, left) or is_refused and is_as_refused(outcome, left, station.sent())
+        # Some refusals it gets over.
+        is_right = (outcome, left) == usual or is_refused and is_as_refused(outcome, left, station.sent())
         which = f"allocation {first}{'' if alone else ' and all later'} refused"
         verdicts.append(Verdict(f"station, {which}", (True,), is_right))
         if not is_refused:
@@ -226,14 +248,19 @@ def refused(trials, library, alone):
     return [*verdicts, Verdict("the allocations of station", ("fewer than 2000",), "more")]
 
 
-def is_usual(outcome, left):
-    """Whether a station did all that it was to do: some refusals it gets over."""
-    return outcome.status == 0 and not outcome.errors and len(read_recording(left).entries) == 9
+def usual_end():
+    """The outcome and the recording of a station that hears all orders and then takes all lines."""
+    post = Post(SETUP, OWN)
+    for datagram in orders():
+        post.hear(datagram)
+    for line in LINES:
+        post.take(line)
+    return post.outcome(), post.text()
 
 
 def is_as_refused(outcome, left, sent):
     """Whether a station that was refused memory tells that, and left what it must."""
-    told = outcome.status == 3 and set(outcome.errors.splitlines()) == {b"memory"}
+    told = outcome.status == 3 and set(outcome.errors.splitlines()) - {BAD_AT} == {b"memory"}
     if left is None:
         return told and not sent
     recording = read_recording(left)
@@ -241,8 +268,31 @@ def is_as_refused(outcome, left, sent):
     return told and recorded == sent and pages.answer_to_audit(left).status == 0
 
 
+def try_full(trials):
+    """Where the recording is full it ends at once, and prints no counts; what stands in the file can be mended."""
+
+    def tried():
+        head, entry = Post(SETUP, OWN).text()[:-5], struct.pack(">BHHB", TOLD, 0, 7, 1)
+        words = ["station", trials.file(SETUP), "2:3", "station.full.dsrc", word_of(free_address()), word_of(free_address())]
+        given = b"tell 2:3 7\n" * (MOST_ENTRIES + 1) + b"bad\n"
+        done = subprocess.run(
+            [trials.program, *words], input=given, capture_output=True, cwd=trials.folder, timeout=300, check=False
+        )
+        left, size = (trials.folder / "station.full.dsrc").read_bytes(), len(head) + MOST_ENTRIES * len(entry)
+        mended = f"mended records={MOST_ENTRIES} kept={size} truncated at {size}\n".encode()
+        return [
+            Verdict("a station whose recording is full", ((2, b"output: write\n"),), (done.returncode, done.stderr)),
+            Verdict("what it printed", (True,), done.stdout == b"".join(b"%d told 0 7 stopped\n" % n for n in range(MOST_ENTRIES))),
+            Verdict("what it recorded", (True,), left == head + MOST_ENTRIES * entry),
+            trials.verdict(Case(["mend", "station.full.dsrc", "station.full.mended.dsrc"], (Outcome(0, mended, b""),))),
+        ]
+
+    trials.tasks.append(tried)
+
+
 def try_all(trials, _):
     try_words(trials)
+    try_full(trials)
     try_streams(trials)
     try_heard(trials)
     try_broadcast(trials)

@@ -47,7 +47,8 @@
 //! | `each-byte-fails` | all is done again, once for each byte of `left`, at which the writer fails; the bytes before it must be left then, and on the line just what their whole entries say |
 //!
 //! A word may be a COUNT in the place of a file: so many recordings are made up, and tried by the
-//! checker and the search and by the plain ones.
+//! checker and the search and by the plain ones; and so many of each form by the review and by the plain
+//! one.
 #![tactic(auto)]
 
 mod done;
@@ -57,7 +58,7 @@ mod trial;
 
 use crate::trial::{Tally, try_cases};
 use exercise_model::Form;
-use siman_agreement::try_generated;
+use siman_agreement::{try_generated, try_reviews};
 use std::alloc::Global;
 use std::io::Write;
 use std::process::ExitCode;
@@ -83,6 +84,23 @@ fn try_file(rt: &HostRuntime, alloc: Global, name: &str) -> io::Result<bool> {
     Ok(otherwise == 0 && unread.is_none())
 }
 
+/// Reviews recordings of each form that are made up, and prints how often each fate came.
+fn try_fates(rt: &HostRuntime, alloc: Global, count: u32) -> io::Result<bool> {
+    let mut out = rt.stdout();
+    let mut good = true;
+    for (form, name) in [
+        (Form::First, "of the first format"),
+        (Form::Closed, "closed"),
+        (Form::Open, "open"),
+    ] {
+        let reviews = try_reviews(alloc, form, count)?;
+        write!(out, "{count} reviews, {name}: ")?;
+        reviews.print(&mut out)?;
+        good = reviews.are_good(form) && good;
+    }
+    Ok(good)
+}
+
 /// Tries recordings that are made up, and then as many open ones, of the same scenes without what
 /// their last station recorded; and prints how often each answer came.
 fn try_made_up(rt: &HostRuntime, alloc: Global, count: u32) -> io::Result<bool> {
@@ -101,7 +119,10 @@ fn try_words(rt: &HostRuntime, alloc: Global) -> io::Result<bool> {
     let mut good = true;
     for word in env::args(rt)?.skip(1) {
         let tried = match word.parse::<u32>() {
-            Ok(count) => try_made_up(rt, alloc, count)?,
+            Ok(count) => {
+                let answered = try_made_up(rt, alloc, count)?;
+                try_fates(rt, alloc, count)? && answered
+            }
             Err(_) => try_file(rt, alloc, &word)?,
         };
         good = tried && good;

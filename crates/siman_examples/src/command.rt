@@ -5,14 +5,15 @@ ghost use Rattle.exercise_check.specs.declared.certificate.Step.{Step};
 ghost use Rattle.exercise_model.specs.Conversion.{converted};
 ghost use Rattle.exercise_model.specs.declared.form.Form.TheVariants.{First};
 ghost use Rattle.hex.specs.Hex.{IsBytes, encode_lower};
-ghost use Rattle.siman_console.specs.Answer.{said_of_hex, said_of_pdu};
-ghost use Rattle.siman_console.specs.Program.Check.{IsDue};
+ghost use Rattle.siman_files.specs.Answer.{said_of_hex, said_of_pdu};
+ghost use Rattle.siman_files.specs.Check.{IsDue};
 ghost use Rattle.siman_pdus.specs.Spelling.{Spells};
 ghost use Rattle.siman_pdus.specs.declared.pdu.Pdu.{Pdu};
 ghost use Rattle.siman_reports.specs.Report.{report_text};
 
 use exercise_model::Recording;
-use siman_console::{answers_follow_the_grammar, conversion_keeps_answers};
+use siman_console::conversion_keeps_answers;
+use siman_files::answers_follow_the_grammar;
 
 /// What the commands say of a recording they say of its conversion: its report is the same text
 /// (`report`), and what `check` is to say of it with some certificate is the same too (`checked`).

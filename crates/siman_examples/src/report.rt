@@ -14,15 +14,16 @@ ghost use Rattle.siman_conflicts.specs.Lines.{clash_line};
 ghost use Rattle.siman_pdus.specs.declared.pdu.Pdu.{Pdu};
 ghost use Rattle.siman_reports.specs.EntryLines.{entry_line};
 ghost use Rattle.siman_reports.specs.Head.{head_line};
-ghost use Rattle.siman_reports.specs.Review.{kept_lines, order_line, review_line, review_lines};
+ghost use Rattle.siman_reviews.specs.Review.{kept_lines, order_line, review_line, review_lines};
 ghost use Rattle.siman_texts.specs.Keys.{has_no_key_twice};
 ghost use Rattle.siman_texts.specs.Spelled.{line_json};
 
 use exercise_model::{ExerciseLog, Recording};
 use exercise_review::{Filter, Review};
 use siman_conflicts::conflict_keys_come_once;
-use siman_reports::{
-    conversion_keeps_lines, json_says_the_same, keys_come_once, review_keys_come_once, review_text,
+use siman_reports::keys_come_once;
+use siman_reviews::{
+    conversion_keeps_lines, json_says_the_same, review_keys_come_once, review_text,
 };
 use siman_texts::Spelling;
 use std::alloc::{AllocError, Global};

@@ -5,7 +5,8 @@ use exercise_audit::{Audit, Block, audit};
 use exercise_check::Certificate;
 use exercise_conflict::{
     Conflict, Enough, Explanation, Fault, Lack, Refusal, Repair, RepairedLog, StepClash, Verdict,
-    Wait, conflict_of, cycle_at, fault_of, lacks_of, repair_of, verdict_of, waits_of,
+    Wait, conflict_found, conflict_of, cycle_at, fault_of, lacks_of, refusal_found, repair_of,
+    verdict_of, waits_of,
 };
 use exercise_findings::Findings;
 use exercise_model::{Cause, ExerciseLog, Recording};
@@ -163,6 +164,54 @@ fn is_told(alloc: Global, log: &Recording) -> Result<bool, AllocError> {
 impl Call<Recording> for Contradicting {
     fn make(alloc: Global, log: &mut Recording) -> Said {
         match is_told(alloc, log) {
+            Ok(told) => usual(told),
+            Err(_) => refused(log.entry_count() == 5),
+        }
+    }
+}
+
+/// Whether the logs alone say what they say of the last entry of the recording.
+fn are_found<L: ExerciseLog>(findings: &Findings<'_, L>) -> bool {
+    findings.cause(4) == Some(Cause::NeverSent) && findings.log().entry_count() == 5
+}
+
+/// All that a recording contradicts is told, and what was found in its log is given back.
+pub(crate) struct FindingConflict;
+
+/// Whether this is told of a log.
+fn is_conflict_found(alloc: Global, log: &Recording) -> Result<bool, AllocError> {
+    let told = conflict_found(alloc, Findings::of(alloc, log)?)?;
+    let is_whole = match &told.explanation {
+        Explanation::Contradicted(conflict) => is_conflict(conflict),
+        Explanation::Explained(_) => false,
+    };
+    Ok(is_whole && are_found(&told.findings))
+}
+
+impl Call<Recording> for FindingConflict {
+    fn make(alloc: Global, log: &mut Recording) -> Said {
+        match is_conflict_found(alloc, log) {
+            Ok(told) => usual(told),
+            Err(_) => refused(log.entry_count() == 5),
+        }
+    }
+}
+
+/// Why a certificate is refused is told, and what was found in the log is given back.
+pub(crate) struct FindingRefusal;
+
+/// Whether this is told of a log, and a certificate without steps.
+fn is_refusal_found(alloc: Global, log: &Recording) -> Result<bool, AllocError> {
+    let certificate = Certificate {
+        steps: Vec::new(alloc),
+    };
+    let judged = refusal_found(alloc, Findings::of(alloc, log)?, &certificate)?;
+    Ok(judged.refusal == Some(WITHOUT_STEPS) && are_found(&judged.findings))
+}
+
+impl Call<Recording> for FindingRefusal {
+    fn make(alloc: Global, log: &mut Recording) -> Said {
+        match is_refusal_found(alloc, log) {
             Ok(told) => usual(told),
             Err(_) => refused(log.entry_count() == 5),
         }

@@ -1,6 +1,7 @@
 //! Calls of the crates below the commands that take memory, each on what a worked example lends it;
-//! and a manager, an application and a station that are called 100,000 times. `siman_hostile` makes
-//! them, and those of the commands beside them.
+//! a manager, an application and a station that are called 100,000 times; and a station to which more
+//! comes than it takes after one line. `siman_hostile` makes them, and those of the commands beside
+//! them.
 #![tactic(auto)]
 
 mod call;
@@ -12,9 +13,10 @@ mod pictures;
 mod pieces;
 mod recordings;
 mod reviews;
+mod sessions;
 mod stations;
 
-use crate::conflicts::{Contradicting, RING};
+use crate::conflicts::{Contradicting, FindingConflict, FindingRefusal, RING};
 use crate::datagrams::{COMMENT, Copying, Decoding, Encoding, Showing, pdu_of, to_encode};
 use crate::machines::{Beginning, CREATION, FIXED, Ordering, Taking, VARIABLE, manager, to_take};
 use crate::pictures::Drawing;
@@ -24,10 +26,12 @@ use crate::recordings::{
     recording_of, to_check,
 };
 use crate::reviews::Reviewing;
+use crate::sessions::{Playing, SettingUp, to_play};
 use crate::stations::{Issuing, Nudging, Serving, to_issue, to_nudge, to_serve};
 pub use call::{Call, Said, put_call, refused, usual};
 pub use load::{put_halves, put_station};
 pub use recordings::{RECORDING, room, station, unmade};
+pub use sessions::put_turns;
 use std::alloc::Global;
 use std::io;
 use std::io::Write;
@@ -46,6 +50,8 @@ pub fn put_library_calls<W: Write>(alloc: Global, out: &mut W) -> io::Result<()>
     put_call::<Reviewing, _, _>(alloc, "review_of", recording_of(alloc, &APART), out)?;
     put_call::<Drawing, _, _>(alloc, "draw", recording_of(alloc, &APART), out)?;
     put_call::<Contradicting, _, _>(alloc, "lacks_of", recording_of(alloc, &RING), out)?;
+    put_call::<FindingConflict, _, _>(alloc, "conflict_found", recording_of(alloc, &RING), out)?;
+    put_call::<FindingRefusal, _, _>(alloc, "refusal_found", recording_of(alloc, &RING), out)?;
     put_call::<ReadingSteps, _, _>(alloc, "read_certificate", Ok(()), out)?;
     put_call::<FetchingSteps, _, _>(alloc, "fetch_certificate", Ok(()), out)?;
     put_call::<Carrying, _, _>(alloc, "convert", room(alloc), out)?;
@@ -64,5 +70,7 @@ pub fn put_library_calls<W: Write>(alloc: Global, out: &mut W) -> io::Result<()>
     put_call::<Ordering, _, _>(alloc, "request", manager(alloc), out)?;
     put_call::<Serving, _, _>(alloc, "serve", to_serve(alloc), out)?;
     put_call::<Issuing, _, _>(alloc, "issue", to_issue(alloc), out)?;
-    put_call::<Nudging, _, _>(alloc, "nudge", to_nudge(alloc), out)
+    put_call::<Nudging, _, _>(alloc, "nudge", to_nudge(alloc), out)?;
+    put_call::<SettingUp, _, _>(alloc, "set_up", Ok(()), out)?;
+    put_call::<Playing, _, _>(alloc, "record_session", to_play(alloc), out)
 }

@@ -41,6 +41,12 @@ def imports_of(text):
     return found
 
 
+def passed_by(crate, page, text):
+    """Which definitions a page of specs/ passes on from other pages, by the names that it gives them."""
+    lines = "\n".join(re.findall(r"^(?:unfoldable )?pub use .*$", text, re.M))
+    return {(crate, page, name): key for name, key in imports_of(lines).items()}
+
+
 def cited(text, imports):
     """The definitions that a text names, by the name that it says; those of a page with an alias as `alias.name`."""
     words = words_in(text)
@@ -219,11 +225,11 @@ def definitions_of(crate, page, path, text):
     for line in lines:
         inside = line.startswith("mutual") or inside and (line[:1].isspace() or not line)
         line = re.sub(r"^ {4}|^ {2}", "", line) if inside else line
+        if re.match(r"(unfoldable )?(pub )?use ", line):
+            continue
         at = re.match(r"((?:abbrev|pub|unfoldable|unfold|record|data|mutual|infix\w* \d+|open) )*(\S+)", line)
         if at and (at[1] or re.match(r"\S+( [({].*)? : ", line)):
             name = at[2]
-        if line.startswith("use "):
-            continue
         if name and line.strip():
             found[name] = f"{found.get(name, '')} {line}"
     imports = {**imports_of(text), **{it: (crate, page, it) for it in found}}
@@ -240,7 +246,7 @@ class Promises:
     def __init__(self, tree):
         self.functions, self.types, self.definitions = [], [], {}
         self.tests, self.cases = collections.Counter(), collections.Counter()
-        self.traits, self.passed = collections.defaultdict(set), {}
+        self.traits, self.passed, self.pages_passed = collections.defaultdict(set), {}, {}
         sources = collections.defaultdict(list)
         for path, text in sorted(tree.items()):
             parts = path.split("/")
@@ -249,6 +255,7 @@ class Promises:
             if parts[2] == "specs" and path.endswith(".antt"):
                 page = ".".join(parts[3:])[:-len(".antt")]
                 self.definitions.update(definitions_of(parts[1], page, path, text))
+                self.pages_passed.update(passed_by(parts[1], page, text))
             elif parts[2] == "src" and path.endswith(".rt"):
                 sources[parts[1]].append(Source(parts[1], path, text))
             elif parts[2] == "data" and path.endswith(".cases"):
@@ -277,8 +284,16 @@ class Promises:
                 self.traits[crate, name].add(trait)
             self.tests.update(file.tests)
 
+    def home(self, key):
+        """Where the definition stands that a page has or passes on."""
+        while key in self.pages_passed:
+            key = self.pages_passed[key]
+        return key
+
     def close(self):
         """Keeps the definitions that are cited."""
+        for it in [*self.functions, *self.types, *self.definitions.values()]:
+            it.cites.update({name: self.home(key) for name, key in it.cites.items()})
         left, kept = [key for it in [*self.functions, *self.types] for key in it.cites.values()], {}
         while left:
             key = left.pop()

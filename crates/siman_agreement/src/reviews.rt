@@ -118,13 +118,16 @@ fn is_order_same<L: ExerciseLog>(register: &Register<'_, L>, told: &OrderAt) -> 
 }
 
 /// Whether the lives of the first few entities of a station, and of the numbers 0 and 0xFFFF, which
-/// no entity has, are as they are found plainly.
+/// no entity has, are as they are found plainly. Past the last station there are none.
 fn are_lives_same<L: ExerciseLog>(
     alloc: Global,
     log: &L,
     register: &Register<'_, L>,
     station: u16,
 ) -> Result<bool, AllocError> {
+    if usize::from(station) >= register.log().station_count() {
+        return Ok(true);
+    }
     for entity in [0, 1, 2, 3, 4, 5, LARGEST_ENTITY, 0xFFFF] {
         let plain = plain_lives(alloc, log, station, entity)?;
         let fast = lives_of(alloc, register, station, entity)?;

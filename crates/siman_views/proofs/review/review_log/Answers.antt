@@ -14,7 +14,7 @@ pub returns : goal.returns
 returns g c =
     let r : PlainRecording = g.L.ExerciseLog.recording c.args.log.now in
     let limits = c.in_ok-of.ensures.limits in
-    let same : c.in_ok-audit.findings ≡ r = c.in_ok-audit.ensures.findings ∙ c.in_ok-of.ensures.findings in
+    let same : c.in_ok-audit.field-0.findings ≡ r = c.in_ok-audit.ensures.findings ∙ c.in_ok-of.ensures.findings in
     let law = c.fates_hold.ensures in
     record {
       recording = r;
@@ -34,7 +34,7 @@ returns g c =
 
 pub is_explained-explained-requires : goal.is_explained-explained-requires
 is_explained-explained-requires g c =
-    subst (λ (x : PlainRecording). IsAuditOf x c.in_ok-audit.audit) c.in_ok-of.ensures.findings c.in_ok-audit.ensures.audit
+    subst (λ (x : PlainRecording). IsAuditOf x c.in_ok-audit.field-0.audit) c.in_ok-of.ensures.findings c.in_ok-audit.ensures.audit
 
 pub review_text-requires : goal.review_text-requires
 review_text-requires g c =

@@ -150,25 +150,71 @@ fn add(counts: &mut FateCounts, more: &FateCounts) {
     counts.nobody = counts.nobody.saturating_add(more.nobody);
 }
 
+/// Whether each order of a review is by itself as it is told plainly.
+fn are_orders_same<L: ExerciseLog>(register: &Register<'_, L>, told: &[OrderAt]) -> bool {
+    for order in told {
+        if !is_order_same(register, order) {
+            return false;
+        }
+    }
+    true
+}
+
+/// Whether the lives of each station are as they are found plainly.
+fn are_all_lives_same<L: ExerciseLog>(
+    alloc: Global,
+    log: &L,
+    register: &Register<'_, L>,
+) -> Result<bool, AllocError> {
+    for station in 0..log.station_count() {
+        if !are_lives_same(alloc, log, register, station as u16)? {
+            return Ok(false);
+        }
+    }
+    Ok(true)
+}
+
+/// Whether what is said of single orders, entries and lives is as it is found plainly; and how many
+/// sends are missing.
+fn compare_single<L: ExerciseLog>(
+    alloc: Global,
+    log: &L,
+    register: &Register<'_, L>,
+    told: &[OrderAt],
+) -> Result<(bool, usize), AllocError> {
+    let (same, missing) = compare_entries(alloc, log, register)?;
+    let same_lives = are_all_lives_same(alloc, log, register)?;
+    Ok((
+        same && same_lives && are_orders_same(register, told),
+        missing,
+    ))
+}
+
+/// As [`compare_single`], over what is found of the log.
+fn compare_found<L: ExerciseLog>(
+    alloc: Global,
+    log: &L,
+    told: &[OrderAt],
+) -> Result<(bool, usize), AllocError> {
+    let register = Register::of(alloc, Findings::of(alloc, log)?)?;
+    compare_single(alloc, log, &register, told)
+}
+
 impl Reviews {
-    /// Compares what is told of a recording.
-    fn try_log<L: ExerciseLog>(&mut self, alloc: Global, log: &L) -> Result<(), AllocError> {
-        let (mut same, plain) = compare_reviews(alloc, log, most_in(log))?;
-        let register = Register::of(alloc, Findings::of(alloc, log)?)?;
-        let (same_entries, missing) = compare_entries(alloc, log, &register)?;
-        same = same && same_entries;
-        for told in &plain.told {
-            same = same && is_order_same(&register, told);
-        }
-        for station in 0..log.station_count() {
-            let station = station as u16;
-            same = are_lives_same(alloc, log, &register, station)? && same;
-        }
+    /// Notes a comparison.
+    fn note(&mut self, same: bool, fates: &FateCounts, missing: usize) {
         if !same {
             self.otherwise = self.otherwise.saturating_add(1);
         }
         self.missing = self.missing.saturating_add(missing);
-        add(&mut self.fates, &plain.fates);
+        add(&mut self.fates, fates);
+    }
+
+    /// Compares what is told of a recording.
+    fn try_log<L: ExerciseLog>(&mut self, alloc: Global, log: &L) -> Result<(), AllocError> {
+        let (same, plain) = compare_reviews(alloc, log, most_in(log))?;
+        let (same_single, missing) = compare_found(alloc, log, &plain.told)?;
+        self.note(same && same_single, &plain.fates, missing);
         Ok(())
     }
 

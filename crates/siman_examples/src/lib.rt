@@ -61,9 +61,7 @@ pub use log::{grows_by_no_filter, is_read_by_programs, names_each_datum_once};
 pub use manager::sends_nothing_too_often;
 pub use order::{change_carried_out, fate_told, is_known_to_its_maker};
 pub use part::may_be_blamed_alone;
-pub use picture::{
-    fits_on_one_sheet, has_a_row_for_each_step, points_no_arrow_upwards, shows_each_state,
-};
+pub use picture::{has_a_row_for_each_step, points_no_arrow_upwards, shows_each_state};
 pub use pieces::{are_blamed_one_by_one, come_in_any_order, lose_no_entry, may_be_one};
 pub use post::{is_judged_alone, leaves_what_can_be_mended};
 pub use report::{

@@ -1,25 +1,17 @@
 //! What a picture of an exercise shows.
 
-ghost use Rattle.std.specs.Prelude.{◌≡◌, ◌<◌, ◌≤◌, ◌-◌, ℕ, List, All, length, map, min, true, Err, IfOk, string_bytes};
-ghost use Rattle.exercise_chart.specs.Bar.{IsOverfull};
+ghost use Rattle.std.specs.Prelude.{◌≡◌, ◌<◌, ◌≤◌, ◌-◌, ℕ, List, All, length, map, true};
 ghost use Rattle.exercise_chart.specs.Marks.{marks_of};
 ghost use Rattle.exercise_chart.specs.Picture.{row_fact, step_fact, bar_covers, state_at_step};
 ghost use Rattle.exercise_chart.specs.declared.arrow.Arrow.{Arrow};
 ghost use Rattle.exercise_chart.specs.declared.bar.Bar.{Bar};
-ghost use Rattle.exercise_chart.specs.declared.fault.ChartFault.TheVariants.{OverLimit};
 ghost use Rattle.exercise_chart.specs.declared.point.Rows.{Rows};
 ghost use Rattle.exercise_check.specs.Goodness.{IsGood};
 ghost use Rattle.exercise_check.specs.declared.certificate.Step.{Step};
 ghost use Rattle.exercise_model.specs.Account.{values_below};
 ghost use Rattle.exercise_model.specs.Recording.{IsRecording, PlainRecording};
-ghost use Rattle.siman_pictures.specs.Picture.{picture_text};
 
-use exercise_chart::{ChartFault, Rows, pictures_are_runs};
-use exercise_check::Step;
-use exercise_model::ExerciseLog;
-use exercise_review::Register;
-use siman_pictures::draw;
-use std::alloc::Global;
+use exercise_chart::pictures_are_runs;
 
 /// Who goes down the picture of a good certificate goes through its steps: there is a row for each, in
 /// their order, and none besides.
@@ -44,20 +36,4 @@ pub fn shows_each_state()
         → All (λ (b : Bar). (k : ℕ) → k < length steps → bar_covers b k ≡ true → state_at_step r steps b.station b.entity.entity k ≡ b.state) (marks_of r steps w).bars }
 {
     pictures_are_runs();
-}
-
-/// The picture of the first hundred steps of a certificate, or of all where there are fewer: it is that
-/// of their marks, to the byte (`text`), and however long the exercise is, it is not refused for its
-/// rows (`refused`).
-pub fn fits_on_one_sheet<L: ExerciseLog>(
-    alloc: Global,
-    register: &Register<'_, L>,
-    steps: &[Step],
-) -> Result<String, ChartFault>
-    ensures text { let w : Rows = record { first = 0; end = min (length steps.now) 100 } in
-        IfOk result (λ text. string_bytes text ≡ picture_text register.now (marks_of register.now steps.now w) w) }
-    ensures refused { result ≡ Err OverLimit → IsOverfull register.now }
-{
-    let end = steps.len().min(100);
-    draw(alloc, register, steps, Rows { first: 0, end })
 }

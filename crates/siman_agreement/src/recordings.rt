@@ -108,14 +108,23 @@ fn vary(bytes: &mut [u8], kind: u8, request: u8, response: u8) {
     }
 }
 
-/// Varies the entry of a deed, and its stamp, so that clocks are set back too.
+/// Varies a stamp, so that clocks are set back too.
+fn vary_stamp(stamp: &mut u64) {
+    *stamp = stamp.wrapping_mul(11) % 32;
+}
+
+/// Varies the entry of a deed.
 fn vary_entry(entry: &mut LogEntry, deed: Deed) {
     let (Deed::Sends(_, letter) | Deed::Gets(_, letter)) = deed else {
         return;
     };
     match entry {
-        LogEntry::Sent { stamp, bytes, .. } | LogEntry::Received { stamp, bytes, .. } => {
-            *stamp = stamp.wrapping_mul(11) % 32;
+        LogEntry::Sent { stamp, bytes, .. } => {
+            vary_stamp(stamp);
+            vary(bytes, letter.kind, letter.request, letter.response);
+        }
+        LogEntry::Received { stamp, bytes, .. } => {
+            vary_stamp(stamp);
             vary(bytes, letter.kind, letter.request, letter.response);
         }
         LogEntry::Told { .. } => {}

@@ -4,16 +4,14 @@
 mod exercise;
 
 use crate::load::exercise::put_exercise;
-use siman_refusals::{put_halves, put_station, put_turns};
+use siman_refusals::{put_halves, put_station};
 use std::alloc::Global;
 use std::io;
 use std::io::Write;
 
-/// Makes the long exercise, calls a manager, an application and a station, has more come to one than it
-/// takes after a line, and prints how it went.
+/// Makes the long exercise, calls a manager, an application and a station, and prints how it went.
 pub(crate) fn put_load<W: Write>(alloc: Global, out: &mut W) -> io::Result<()> {
     put_exercise(alloc, out)?;
     put_halves(alloc, out)?;
-    put_station(alloc, out)?;
-    put_turns(alloc, out)
+    put_station(alloc, out)
 }

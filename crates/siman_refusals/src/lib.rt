@@ -1,7 +1,6 @@
 //! Calls of the crates below the commands that take memory, each on what a worked example lends it;
-//! a manager, an application and a station that are called 100,000 times; and a station to which more
-//! comes than it takes after one line. `siman_hostile` makes them, and those of the commands beside
-//! them.
+//! and a manager, an application and a station that are called 100,000 times. `siman_hostile` makes
+//! them, and those of the commands beside them.
 #![tactic(auto)]
 
 mod call;
@@ -13,7 +12,6 @@ mod pictures;
 mod pieces;
 mod recordings;
 mod reviews;
-mod sessions;
 mod stations;
 
 use crate::conflicts::{Contradicting, FindingConflict, FindingRefusal, RING};
@@ -26,12 +24,10 @@ use crate::recordings::{
     recording_of, to_check,
 };
 use crate::reviews::Reviewing;
-use crate::sessions::{Playing, SettingUp, to_play};
 use crate::stations::{Issuing, Nudging, Serving, to_issue, to_nudge, to_serve};
 pub use call::{Call, Said, put_call, refused, usual};
 pub use load::{put_halves, put_station};
 pub use recordings::{RECORDING, room, station, unmade};
-pub use sessions::put_turns;
 use std::alloc::Global;
 use std::io;
 use std::io::Write;
@@ -70,7 +66,5 @@ pub fn put_library_calls<W: Write>(alloc: Global, out: &mut W) -> io::Result<()>
     put_call::<Ordering, _, _>(alloc, "request", manager(alloc), out)?;
     put_call::<Serving, _, _>(alloc, "serve", to_serve(alloc), out)?;
     put_call::<Issuing, _, _>(alloc, "issue", to_issue(alloc), out)?;
-    put_call::<Nudging, _, _>(alloc, "nudge", to_nudge(alloc), out)?;
-    put_call::<SettingUp, _, _>(alloc, "set_up", Ok(()), out)?;
-    put_call::<Playing, _, _>(alloc, "record_session", to_play(alloc), out)
+    put_call::<Nudging, _, _>(alloc, "nudge", to_nudge(alloc), out)
 }

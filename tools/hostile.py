@@ -48,7 +48,6 @@ orders: 100000
 requests: 100000
 served: 100000, issued: 100000, nudged: 100000
 on the line: 300000
-taken after one line: 65536, after two: 65540
 """
 FULL = b"""push of one entry more: count
 told of one entry more: count

@@ -12,9 +12,9 @@ from cases.trials import Verdict
 
 # What a line may say where one allocation is refused; the calls at a line may say too that it had no room.
 ALLOWED = ("usual", "memory, then usual", "not begun")
-AT_A_LINE = ("serve", "issue", "nudge", "record_session")
+AT_A_LINE = ("serve", "issue", "nudge")
 NO_ROOM = "send, then usual"
-CALLS = 38
+CALLS = 36
 
 
 def run_once(program, library, refused):

@@ -1,22 +1,14 @@
 //! Runs of the program on words, files in memory and standard input, where every call goes well.
 
 use siman_console::{Endpoint, Outside, run};
-use siman_fixtures::{Given, WELL, Written, entries_of, read_from, write_to};
-use siman_trials::{WireLine, line_with, lines_of};
-use std::alloc::{AllocError, Global};
+use siman_fixtures::{Given, WELL, Written, read_from, write_to};
+use siman_trials::{WireLine, lines_of};
+use std::alloc::Global;
 use std::io;
 use std::io::ErrorKind;
 
 /// Names of files, and what each holds.
 pub(crate) type Files<'a> = &'a [(&'a str, &'a [u8])];
-
-/// What comes on the line of a station: a Create Entity of 1:1 for 2:3:7, and what is no PDU.
-const COMING: [&[u8]; 2] = [
-    &[
-        7, 1, 11, 5, 0, 0, 0, 0, 0, 28, 0, 0, 0, 1, 0, 1, 0, 0, 0, 2, 0, 3, 0, 7, 0, 0, 0, 1,
-    ],
-    &[7, 1],
-];
 
 /// Files, and what the file that was made was left with.
 #[derive(Drop)]
@@ -24,32 +16,6 @@ struct Table<'a> {
     alloc: Global,
     files: Files<'a>,
     left: Option<Vec<u8>>,
-    /// The line of a station's peer.
-    peer: Option<WireLine>,
-}
-
-impl Table<'_> {
-    /// Whether there is a file of a name.
-    fn has(&self, name: &str) -> bool {
-        for (known, _) in self.files {
-            if *known == name {
-                return true;
-            }
-        }
-        false
-    }
-
-    /// Whether all that a station sent stands in its file, in that order, and nothing else as sent.
-    fn keeps_sent(&self) -> Result<bool, AllocError> {
-        let Some(peer) = &self.peer else {
-            return Ok(true);
-        };
-        let sent = peer.heard(self.alloc)?;
-        match &self.left {
-            Some(left) => Ok(entries_of(left).are_all(0, &sent)),
-            None => Ok(sent.is_empty()),
-        }
-    }
 }
 
 impl<'a> Outside for Table<'a> {
@@ -89,8 +55,8 @@ impl<'a> Outside for Table<'a> {
 
     fn discard(&mut self, _file: Written) {}
 
-    fn is_taken(&mut self, name: &str) -> bool {
-        self.has(name)
+    fn is_taken(&mut self, _name: &str) -> bool {
+        false
     }
 
     fn create(&mut self, _name: &str) -> io::Result<Written> {
@@ -112,15 +78,9 @@ impl<'a> Outside for Table<'a> {
         _peers: &[Endpoint],
         _anyone: bool,
     ) -> io::Result<WireLine> {
-        let mut coming = Vec::new(alloc);
-        for datagram in COMING {
-            coming.push(Vec::from_slice(alloc, datagram)?)?;
-        }
-        match line_with(alloc, &coming, &[], None)? {
-            Some((own, peer)) => {
-                self.peer = Some(peer);
-                Ok(own)
-            }
+        let mut lines = lines_of(alloc, 1, None)?;
+        match lines.pop() {
+            Some(line) => Ok(line),
             None => Err(io::Error::from(ErrorKind::Other)),
         }
     }
@@ -134,8 +94,6 @@ pub(crate) struct Ran {
     pub(crate) errors: Vec<u8>,
     /// What the file that was made holds, if one was made.
     pub(crate) left: Option<Vec<u8>>,
-    /// Whether all that a station sent stands in its file, in that order, and nothing else as sent.
-    pub(crate) keeps_sent: bool,
 }
 
 /// The words of a command line, the program's name first.
@@ -154,14 +112,12 @@ pub(crate) fn run_words(alloc: Global, words: &[&str], files: Files<'_>, input: 
         alloc,
         files,
         left: None,
-        peer: None,
     };
     let mut out = write_to(alloc, WELL);
     let mut errors = write_to(alloc, WELL);
     let line = command_line(alloc, words);
     let input = read_from(input, WELL);
     let ended = run(alloc, line, &mut table, input, &mut out, &mut errors);
-    let keeps_sent = matches!(table.keeps_sent(), Ok(true));
     let Table { left, .. } = table;
     let Written { bytes: out, .. } = out;
     let Written { bytes: errors, .. } = errors;
@@ -170,7 +126,6 @@ pub(crate) fn run_words(alloc: Global, words: &[&str], files: Files<'_>, input: 
         out,
         errors,
         left,
-        keeps_sent,
     }
 }
 
@@ -183,16 +138,6 @@ impl Ran {
     /// Whether it ended with a fault that is told, with nothing out and no file made.
     pub(crate) fn is_fault(&self) -> bool {
         self.status == 2 && self.out.is_empty() && !self.errors.is_empty() && self.left.is_none()
-    }
-
-    /// Whether it played a station to the end of its recording, and told the lines that were not done.
-    pub(crate) fn is_played(&self) -> bool {
-        let told = match self.status {
-            0 => self.errors.is_empty(),
-            2 => self.errors.starts_with(b"line "),
-            _ => false,
-        };
-        told && self.left.is_some() && self.keeps_sent && self.out.ends_with(b" strangers=0\n")
     }
 
     /// Whether it ended with this status, as an answer or with a fault.

@@ -13,7 +13,6 @@ mod reviews;
 mod scripts;
 
 use crate::refusals::files::Judging;
-pub(crate) use crate::refusals::files::STEPS;
 use crate::refusals::reasons::{Asking, AskingOfSteps};
 use crate::refusals::reviews::{Reviewing, make_streams};
 use crate::refusals::scripts::{Performing, ReadingScript, RunningWorld, Trying};

@@ -7,7 +7,7 @@ use Rattle.dis_records.proofs.Offered.{cleared_is, length-cleared}
 use Rattle.siman_pdus.specs.declared.pdu.Pdu.{Pdu}
 use Rattle.siman_pdus.specs.Same.{is_same_order}
 use Rattle.siman_pdus.proofs.Offered.{order_decides}
-use Rattle.exercise_review.specs.Digest.{digest_of}
+use Rattle.exercise_review.specs.Digest.{digest, digest_of}
 
 pub front_stands : (bits : ℕ) (bytes : List ℕ) → length bytes ≡ bytes_for bits
     → take (length (cleared bits bytes) - 1) (cleared bits bytes) ≡ take (length bytes - 1) bytes
@@ -17,7 +17,7 @@ front_stands bits bytes len =
 
 -- the same order has the same digest
 pub same_digest : (s : ℕ) (p q : Pdu) → is_same_order p q ≡ true → digest_of s p ≡ digest_of s q
-unfolding digest_of
+unfolding digest_of digest
 same_digest s p q same = ap (digest_of s) ((order_decides p q).0 same)
 
 -- the last byte of a value, if there is one, stands where it did

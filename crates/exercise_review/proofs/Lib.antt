@@ -12,9 +12,11 @@ mod PartyPlaces
 mod Lists
 mod Spans
 mod Orders
+mod Heads
 mod Walks
 mod Digests
 mod Registered
+mod KnownKeys
 mod Under
 mod FirstOnes
 mod Receiving
@@ -23,6 +25,7 @@ mod Stationed
 mod Tallies
 mod Places
 mod Courses
+mod Unused
 mod Made
 mod OneOrder
 mod TakenBy

@@ -18,7 +18,7 @@ use Rattle.exercise_review.specs.Told.{orders_told}
 use Rattle.exercise_review.specs.Counted.{count_below, count_at}
 use Rattle.exercise_review.specs.declared.order.Order.{Order}
 use Rattle.exercise_review.specs.Order.{OrderData, order_of}
-use Rattle.exercise_review.specs.Tally.{fate_number, same_fate, is_station, is_fate_at, passes_at, many, counts_by, fates_at, AreCounted, is_entry_of, is_made_by, place_at, fate_place, fate_places, entry_places, maker_places}
+use Rattle.exercise_review.specs.Tally.{fate_number, same_fate, is_station, is_fate, is_fate_at, passes_at, many, counts_by, fates_of, fates_at, fate_numbers, AreCounted, is_entry_of, is_made_by, place_at, fate_place, fate_places, entry_places, maker_places}
 use Rattle.exercise_review.proofs.Tallies.{count_same}
 
 pub entries_counted : (r : PlainRecording) (s n : ℕ) → n ≡ length r.entries → count_at (entry_places r) s n ≡ many (is_entry_of s) r.entries
@@ -111,3 +111,24 @@ pub fates_are : (r : PlainRecording) (c : Counts) (s : ℕ) → AreCounted r c �
     → counts_by (λ f. slice_index_or c.fates.items (s * 9 + fate_number f) 0) ≡ fates_at s (orders_told r)
 unfolding fates_at
 fates_are r c s are l = counts_same (λ f. slice_index_or c.fates.items (s * 9 + fate_number f) 0) (λ f. many (is_fate_at s f) (orders_told r)) (are.fates s l)
+
+-- the places of all fates are their counts
+fates_numbered : (xs : List OrderAt) (f : Fate) (n : ℕ) → n ≡ length xs → count_at (fate_numbers xs) (fate_number f) n ≡ many (is_fate f) xs
+unfolding count_at many fate_numbers passes_at
+fates_numbered xs f n end =
+    count_same (λ i. same_id (fate_numbers xs i) (Some (fate_number f))) (passes_at (is_fate f) xs) same n ∙ ap (count_below (passes_at (is_fate f) xs)) end
+  where
+    same : (i : ℕ) → same_id (fate_numbers xs i) (Some (fate_number f)) ≡ passes_at (is_fate f) xs i
+    same i = elim (slice_get xs i) as (λ (o : Option OrderAt). same_id (option_map (λ (x : OrderAt). fate_number x.outcome.fate) o) (Some (fate_number f)) ≡ option_map_or (is_fate f) o false) [
+      | None ↦ refl
+      | Some x ↦ refl
+    ]
+
+pub all_fates : (xs : List OrderAt) (counts : List ℕ) (n : ℕ) → n ≡ length xs
+    → ((k : ℕ) → k < 9 → slice_index_or counts k 0 ≡ count_at (fate_numbers xs) k n)
+    → counts_by (λ f. slice_index_or counts (0 + fate_number f) 0) ≡ fates_of xs
+unfolding fates_of
+all_fates xs counts n end each =
+    counts_same (λ f. slice_index_or counts (0 + fate_number f) 0) (λ f. many (is_fate f) xs) (λ f.
+    let first : 0 + fate_number f ≡ fate_number f = omega arith in
+    ap (λ k. slice_index_or counts k 0) first ∙ each (fate_number f) (few_fates f) ∙ fates_numbered xs f n end)

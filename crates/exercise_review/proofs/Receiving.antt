@@ -1,6 +1,6 @@
 -- Where each datagram was received, one entry more at a time.
 use Rattle.std.proofs.Common.{◌≡◌, ℕ, ◌+◌, List, Bool, true, false, Option, Some, None, refl, sym, ap, ◌∙◌}
-use Rattle.std.specs.Prelude.{◌&&◌, ◌==◌, bytes_eq, slice_get, option_map, option_and_then, if◌then◌else◌}
+use Rattle.std.specs.Prelude.{◌&&◌, ◌==◌, bytes_eq, slice_get, is_some, option_map, option_and_then, if◌then◌else◌}
 use Rattle.std.specs.Option.{option_map_or, option_or}
 use Rattle.std.specs.Cmp.Lexicographic.{bytes_decides}
 use Rattle.std.proofs.Math.Numerals.{add-one}
@@ -8,14 +8,19 @@ use Rattle.std.proofs.lemmas.Bool.{and_parts, eqb-true}
 use Rattle.std.proofs.lemmas.Bool.Decides.{Decides-like, same_from_decides}
 use Rattle.indexmap.specs.IndexMap.{get}
 use Rattle.dis_records.specs.declared.entity_state.EntityState.{EntityState}
+use Rattle.siman_pdus.specs.declared.pdu.Pdu.{Pdu}
+use Rattle.siman_pdus.specs.Role.{is_request_body}
 use Rattle.exercise_model.specs.Entry.{Sent, Received, Told}
+use Rattle.exercise_model.specs.Meaning.{meaning}
+use Rattle.exercise_model.specs.Setting.{is_open}
 use Rattle.exercise_model.specs.Recording.{PlainRecording}
 use Rattle.exercise_model.specs.Place.{first_below}
 use Rattle.exercise_review.specs.declared.receipt.Receipt.{Receipt}
 use Rattle.exercise_review.specs.declared.receipt.Receipts.{Receipts}
 use Rattle.exercise_review.specs.Counted.{last_below}
 use Rattle.exercise_review.specs.Entries.{bytes_got_by, bytes_got}
-use Rattle.exercise_review.specs.Heard.{gets_in, same_receipt, first_kept, Heard, AreHeard}
+use Rattle.exercise_review.specs.Heard.{gets_in, same_receipt, first_kept, asks_in, Heard, AreHeard}
+use Rattle.exercise_review.specs.Register.{order_key, id_key, got_key, entry_key, key_at}
 
 bytes_sym : (a b : List ℕ) → bytes_eq a b ≡ bytes_eq b a
 bytes_sym a b = same_from_decides (bytes_eq a b) (bytes_eq b a) (bytes_decides a b) (Decides-like (bytes_eq b a) (λ e. sym e) (λ e. sym e) (bytes_decides b a))
@@ -23,8 +28,8 @@ bytes_sym a b = same_from_decides (bytes_eq a b) (bytes_eq b a) (bytes_decides a
 pub heard_none : (r : PlainRecording) (heard : Heard) → ((k : Receipt) → get same_receipt heard k ≡ None) → AreHeard r 0 heard
 unfolding first_below last_below
 heard_none r heard none = record {
-  first = λ k. ap (option_map (λ (x : Receipts). x.first)) (none k);
-  last = λ k. ap (option_map (λ (x : Receipts). x.last)) (none k);
+  first = λ k _. ap (option_map (λ (x : Receipts). x.first)) (none k);
+  last = λ k _. ap (option_map (λ (x : Receipts). x.last)) (none k);
 }
 
 -- one entry more, which passes or does not
@@ -50,10 +55,10 @@ still_last f n o fails is = is ∙ sym (last_more f n false fails)
 pub heard_still : (r : PlainRecording) (n : ℕ) (heard : Heard) → ((s : ℕ) → bytes_got r s n ≡ None) → AreHeard r n heard → AreHeard r (n + 1) heard
 unfolding gets_in
 heard_still r n heard none so_far = record {
-  first = λ k. still_first (gets_in r k.station k.bytes.now) n (option_map (λ (x : Receipts). x.first) (get same_receipt heard k))
-      (ap (λ o. option_map_or (bytes_eq k.bytes.now) o false) (none k.station)) (so_far.first k);
-  last = λ k. still_last (gets_in r k.station k.bytes.now) n (option_map (λ (x : Receipts). x.last) (get same_receipt heard k))
-      (ap (λ o. option_map_or (bytes_eq k.bytes.now) o false) (none k.station)) (so_far.last k);
+  first = λ k other. still_first (gets_in r k.station k.bytes.now) n (option_map (λ (x : Receipts). x.first) (get same_receipt heard k))
+      (ap (λ o. option_map_or (bytes_eq k.bytes.now) o false) (none k.station)) (so_far.first k other);
+  last = λ k other. still_last (gets_in r k.station k.bytes.now) n (option_map (λ (x : Receipts). x.last) (get same_receipt heard k))
+      (ap (λ o. option_map_or (bytes_eq k.bytes.now) o false) (none k.station)) (so_far.last k other);
 }
 
 pub sent_no_bytes : (r : PlainRecording) (n t stamp : ℕ) (b : List ℕ) → slice_get r.entries n ≡ Some (Sent t stamp b) → (s : ℕ) → bytes_got r s n ≡ None
@@ -83,29 +88,69 @@ pub heard_more : (r : PlainRecording) (n stamp : ℕ) (x : Receipt) (old new : H
     → ((k : Receipt) → get same_receipt new k ≡ (if same_receipt x k then Some (record { first = first_kept n (get same_receipt old x); last = n }) else get same_receipt old k))
     → AreHeard r n old → AreHeard r (n + 1) new
 heard_more r n stamp x old new at written so_far = record {
-  first = λ k. elim (same_receipt x k) as (λ b. same_receipt x k ≡ b → option_map (λ (y : Receipts). y.first) (get same_receipt new k) ≡ first_below (gets_in r k.station k.bytes.now) (n + 1)) [
+  first = λ k asks. elim (same_receipt x k) as (λ b. same_receipt x k ≡ b → option_map (λ (y : Receipts). y.first) (get same_receipt new k) ≡ first_below (gets_in r k.station k.bytes.now) (n + 1)) [
     | true ↦ λ same.
         let parts = and_parts (x.station == k.station) _ same in
         let station : x.station ≡ k.station = eqb-true x.station k.station parts.0 in
         let bytes : x.bytes.now ≡ k.bytes.now = (bytes_decides x.bytes.now k.bytes.now).0 parts.1 in
         ap (option_map (λ (y : Receipts). y.first)) (written k ∙ ap (λ (b : Bool). if b then Some (now_kept) else get same_receipt old k) same)
         ∙ kept_first n (get same_receipt old x)
-        ∙ ap (λ o. option_or o (Some n)) (so_far.first x
+        ∙ ap (λ o. option_or o (Some n)) (so_far.first x (ap (asks_in r) bytes ∙ asks)
         ∙ ap (λ s. first_below (gets_in r s x.bytes.now) n) station ∙ ap (λ (b : List ℕ). first_below (gets_in r k.station b) n) bytes)
         ∙ sym (first_more (gets_in r k.station k.bytes.now) n true (here r n stamp x k at ∙ same))
     | false ↦ λ other.
         still_first (gets_in r k.station k.bytes.now) n (option_map (λ (y : Receipts). y.first) (get same_receipt new k)) (here r n stamp x k at ∙ other)
-        (ap (option_map (λ (y : Receipts). y.first)) (written k ∙ ap (λ (b : Bool). if b then Some (now_kept) else get same_receipt old k) other) ∙ so_far.first k)
+        (ap (option_map (λ (y : Receipts). y.first)) (written k ∙ ap (λ (b : Bool). if b then Some (now_kept) else get same_receipt old k) other) ∙ so_far.first k asks)
   ] refl;
-  last = λ k. elim (same_receipt x k) as (λ b. same_receipt x k ≡ b → option_map (λ (y : Receipts). y.last) (get same_receipt new k) ≡ last_below (gets_in r k.station k.bytes.now) (n + 1)) [
+  last = λ k asks. elim (same_receipt x k) as (λ b. same_receipt x k ≡ b → option_map (λ (y : Receipts). y.last) (get same_receipt new k) ≡ last_below (gets_in r k.station k.bytes.now) (n + 1)) [
     | true ↦ λ same.
         ap (option_map (λ (y : Receipts). y.last)) (written k ∙ ap (λ (b : Bool). if b then Some (now_kept) else get same_receipt old k) same)
         ∙ sym (last_more (gets_in r k.station k.bytes.now) n true (here r n stamp x k at ∙ same))
     | false ↦ λ other.
         still_last (gets_in r k.station k.bytes.now) n (option_map (λ (y : Receipts). y.last) (get same_receipt new k)) (here r n stamp x k at ∙ other)
-        (ap (option_map (λ (y : Receipts). y.last)) (written k ∙ ap (λ (b : Bool). if b then Some (now_kept) else get same_receipt old k) other) ∙ so_far.last k)
+        (ap (option_map (λ (y : Receipts). y.last)) (written k ∙ ap (λ (b : Bool). if b then Some (now_kept) else get same_receipt old k) other) ∙ so_far.last k asks)
   ] refl;
 }
   where
     now_kept : Receipts
     now_kept = record { first = first_kept n (get same_receipt old x); last = n }
+
+-- what has a key and is received in a recording that is not open is a request
+keyed_asks : (r : PlainRecording) (n t stamp : ℕ) (b : List ℕ) → slice_get r.entries n ≡ Some (Received t stamp b) → is_open r.setting.form ≡ false
+    → is_some (key_at r n) ≡ true → asks_in r b ≡ true
+unfolding key_at got_key
+keyed_asks r n t stamp b at closed keyed =
+    elim (meaning r.setting.exercise b) as
+    (λ m. is_some (option_and_then (got_key r.setting.form t) m) ≡ true → option_map_or (λ (p : Pdu). is_request_body p.body) m false ≡ true) [
+      | None ↦ λ h. absurd (let no : false ≡ true = h in cc)
+      | Some p ↦ λ h. of_pdu p h
+    ] (ap (λ o. is_some (option_and_then (entry_key r n) o)) (sym at) ∙ keyed)
+  where
+    of_pdu : (p : Pdu) → is_some (got_key r.setting.form t p) ≡ true → is_request_body p.body ≡ true
+    of_pdu p h = elim (is_request_body p.body) as
+        (λ c. is_some (if c then order_key t p else (if is_open r.setting.form then id_key t p else None)) ≡ true → c ≡ true) [
+          | true ↦ λ _. refl
+          | false ↦ λ has. absurd (let no : false ≡ true = sym (ap (λ c. is_some (if c then id_key t p else None)) closed) ∙ has in cc)
+        ] h
+
+-- such an entry need not be kept
+pub heard_asked : (r : PlainRecording) (n t stamp : ℕ) (b : List ℕ) (heard : Heard) → slice_get r.entries n ≡ Some (Received t stamp b) → is_open r.setting.form ≡ false
+    → is_some (key_at r n) ≡ true → AreHeard r n heard → AreHeard r (n + 1) heard
+unfolding gets_in bytes_got
+heard_asked r n t stamp b heard at closed keyed so_far = record {
+  first = λ k other. still_first (gets_in r k.station k.bytes.now) n (option_map (λ (x : Receipts). x.first) (get same_receipt heard k))
+      (fails k.station k.bytes.now other) (so_far.first k other);
+  last = λ k other. still_last (gets_in r k.station k.bytes.now) n (option_map (λ (x : Receipts). x.last) (get same_receipt heard k))
+      (fails k.station k.bytes.now other) (so_far.last k other);
+}
+  where
+    differs : (c : List ℕ) → asks_in r c ≡ false → bytes_eq c b ≡ false
+    differs c other = elim (bytes_eq c b) as (λ e. bytes_eq c b ≡ e → e ≡ false) [
+      | true ↦ λ same. absurd (let no : false ≡ true = sym other ∙ ap (asks_in r) ((bytes_decides c b).0 same) ∙ keyed_asks r n t stamp b at closed keyed in cc)
+      | false ↦ λ _. refl
+    ] refl
+
+    fails : (s : ℕ) (c : List ℕ) → asks_in r c ≡ false → gets_in r s c n ≡ false
+    fails s c other =
+        ap (λ o. option_map_or (bytes_eq c) (option_and_then (bytes_got_by s) o) false) at
+        ∙ elim (t == s) as (λ e. option_map_or (bytes_eq c) (if e then Some b else None) false ≡ false) [ true ↦ differs c other | false ↦ refl ]

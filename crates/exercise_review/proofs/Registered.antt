@@ -10,7 +10,7 @@ use Rattle.exercise_findings.specs.Column.{IsColumn}
 use Rattle.exercise_review.specs.Counted.{last_below}
 use Rattle.exercise_review.specs.Register.{holds, LastEntries, IsBefore, AreRegistered}
 
-column_more : {X : Type 0} (d : X) (P : ℕ → X → Type 0) (n : ℕ) (xs : List X) (x : X)
+pub column_more : {X : Type 0} (d : X) (P : ℕ → X → Type 0) (n : ℕ) (xs : List X) (x : X)
     → IsColumn d P n xs → P n x → IsColumn d P (n + 1) (xs ++ x ∷ [])
 column_more d P n xs x column here = record {
   count = length_push xs x ∙ ap (λ k. k + 1) column.count;

@@ -1,6 +1,6 @@
 -- The news of the replies of a station, found by these replies.
 use Rattle.std.proofs.Common.{◌≡◌, ◌⊎◌, inl, inr, ⊎_elim, ℕ, zero, suc, ◌<◌, ◌≤◌, List, length, Bool, true, false, Option, Some, None, refl, sym, ap, ◌∙◌, subst, arith}
-use Rattle.std.specs.Prelude.{is_some, ◌&&◌, bytes_eq, nat_le, option_and_then, if◌then◌else◌}
+use Rattle.std.specs.Prelude.{is_some, ◌&&◌, bytes_eq, nat_le, option_and_then, IfSome, if◌then◌else◌}
 use Rattle.std.specs.Option.{option_map_or}
 use Rattle.std.specs.Cmp.Lexicographic.{bytes_decides}
 use Rattle.std.proofs.lemmas.Bool.{cases_lt, and_parts, and_from, leb-true, leb-false}
@@ -12,11 +12,13 @@ use Rattle.exercise_model.specs.Place.{first_below}
 use Rattle.exercise_model.proofs.Offered.{first_found, first_is}
 use Rattle.exercise_review.specs.Counted.{last_below}
 use Rattle.exercise_review.specs.Entries.{bytes_sent, bytes_got, sent_by}
+use Rattle.exercise_review.specs.declared.reply.Reply.{Reply}
+use Rattle.exercise_review.specs.Gathered.{first_news, last_news, word_in}
 use Rattle.exercise_review.specs.Heard.{gets_in}
 use Rattle.exercise_review.specs.News.{hears_at, first_heard, last_heard, earlier, later}
 use Rattle.exercise_review.specs.Order.{OrderData}
 use Rattle.exercise_review.specs.Reply.{answers_order, is_reply, replies_in, has_reply_in, is_news}
-use Rattle.exercise_review.specs.Word.{settles, settles_at, is_settling, first_settling}
+use Rattle.exercise_review.specs.Word.{word_of, word_at, settles, settles_at, is_settling, first_settling}
 use Rattle.exercise_review.proofs.Heard.{meant_got, meant_sent}
 use Rattle.exercise_review.proofs.Runs.{none_passes, some_passes, there, meant_in}
 use Rattle.exercise_review.proofs.Walks.{past, last_found}
@@ -225,6 +227,27 @@ greatest_fails p h g n j next best under is fails so_far = record {
       (λ same. absurd (let no : true ≡ false = sym passes ∙ ap p same ∙ fails in cc));
 }
 
+-- where the next number is gathered too, whether it counts or not
+pub least_on : (p h : ℕ → Bool) (g : ℕ → ℕ → Bool) (n j : ℕ) (next best first : Option ℕ) → ((m : ℕ) → p m ≡ true → h m ≡ true) → next ≡ last_below h j
+    → j < n → (p j ≡ true → first ≡ first_below (g j) n) → IsLeast p g n (suc j) best → IsLeast p g n (past next) (if p j then earlier best first else best)
+least_on p h g n j next best first under is within first_is so_far =
+    elim (p j) as (λ b. p j ≡ b → IsLeast p g n (past next) (if b then earlier best first else best)) [
+      | true ↦ λ counts. least_passes p h g n j next best first under is within counts (first_is counts) so_far
+      | false ↦ λ fails. least_fails p h g n j next best under is fails so_far
+    ] refl
+
+pub greatest_on : (p h : ℕ → Bool) (g : ℕ → ℕ → Bool) (n j : ℕ) (next best last : Option ℕ) → ((m : ℕ) → p m ≡ true → h m ≡ true) → next ≡ last_below h j
+    → j < n → (p j ≡ true → last ≡ last_below (g j) n) → (p j ≡ false → last ≡ None) → IsGreatest p g n (suc j) best → IsGreatest p g n (past next) (later best last)
+greatest_on p h g n j next best last under is within last_is none so_far =
+    elim (p j) as (λ b. p j ≡ b → IsGreatest p g n (past next) (later best last)) [
+      | true ↦ λ counts. greatest_passes p h g n j next best last under is within counts (last_is counts) so_far
+      | false ↦ λ fails. subst (IsGreatest p g n (past next)) (sym (ap (later best) (none fails) ∙ nothing best)) (greatest_fails p h g n j next best under is fails so_far)
+    ] refl
+  where
+    nothing : (o : Option ℕ) → later o None ≡ o
+    nothing None = refl
+    nothing (Some x) = refl
+
 -- what passes a test is what some number that counts hears
 abbrev pub Hears : (ℕ → Bool) → (ℕ → ℕ → Bool) → ℕ → (ℕ → Bool) → Type 0
 Hears p g n test = ((i : ℕ) → i < n → test i ≡ true → IsHeard p g n i) × ((i : ℕ) → IsHeard p g n i → test i ≡ true)
@@ -314,12 +337,8 @@ news_is_reply r o s t i maker news =
       ),
     )
 
--- the replies that settle
-abbrev pub settling_replies : PlainRecording → OrderData → ℕ → ℕ → Bool
-settling_replies r o t j = is_reply r o t j && settles_at r j
-
 pub settled_heard : (r : PlainRecording) (o : OrderData) (s t : ℕ) → o.maker ≡ Some s
-    → Hears (settling_replies r o t) (hears_at r s t) (length r.entries) (is_settling r (is_news r o t))
+    → Hears (is_settling r (is_reply r o t)) (hears_at r s t) (length r.entries) (is_settling r (is_news r o t))
 settled_heard r o s t maker = (
   λ i within passes.
       let parts = and_parts (is_news r o t i) _ passes in
@@ -381,3 +400,83 @@ none_settled r o t none =
 
 pub none_last : (r : PlainRecording) (o : OrderData) (t : ℕ) → o.maker ≡ None → None ≡ last_below (is_news r o t) (length r.entries)
 none_last r o t none = sym (none_last_below (is_news r o t) (length r.entries) (λ i _. no_news r o t i none))
+
+-- ---- the news of an order, whoever made it
+
+-- its maker, if there is one, receives at entry i what station t sends at entry j
+abbrev pub hears : PlainRecording → (maker : Option ℕ) → (t j i : ℕ) → Bool
+hears r maker t j i = option_map_or (λ s. hears_at r s t j i) maker false
+
+settled_by : (r : PlainRecording) (o : OrderData) (t : ℕ) (maker : Option ℕ) → o.maker ≡ maker
+    → Hears (is_settling r (is_reply r o t)) (hears r maker t) (length r.entries) (is_settling r (is_news r o t))
+settled_by r o t None none = (
+  λ i within passes. absurd (let no : true ≡ false = sym (and_parts (is_news r o t i) _ passes).0 ∙ no_news r o t i none in cc),
+  λ i heard. absurd (let no : false ≡ true = heard.1.1.1.1 in cc),
+)
+settled_by r o t (Some s) is = settled_heard r o s t is
+
+pub settled_news : (r : PlainRecording) (o : OrderData) (t : ℕ)
+    → Hears (is_settling r (is_reply r o t)) (hears r o.maker t) (length r.entries) (is_settling r (is_news r o t))
+settled_news r o t = settled_by r o t o.maker refl
+
+all_by : (r : PlainRecording) (o : OrderData) (t : ℕ) (maker : Option ℕ) → o.maker ≡ maker
+    → Hears (is_reply r o t) (hears r maker t) (length r.entries) (is_news r o t)
+all_by r o t None none = (
+  λ i within passes. absurd (let no : true ≡ false = sym passes ∙ no_news r o t i none in cc),
+  λ i heard. absurd (let no : false ≡ true = heard.1.1.1.1 in cc),
+)
+all_by r o t (Some s) is = all_heard r o s t is
+
+pub all_news : (r : PlainRecording) (o : OrderData) (t : ℕ) → Hears (is_reply r o t) (hears r o.maker t) (length r.entries) (is_news r o t)
+all_news r o t = all_by r o t o.maker refl
+
+-- what was found at entry j is the reply there
+abbrev pub IsFoundAt : PlainRecording → OrderData → (t j : ℕ) → Option Reply → Type 0
+IsFoundAt r o t j found = (is_some found ≡ is_reply r o t j) × IfSome found (λ (x : Reply). bytes_sent r t j ≡ Some x.bytes.now)
+
+-- where its maker hears it first, and last
+pub first_is_news : (r : PlainRecording) (o : OrderData) (t j : ℕ) (maker : Option ℕ) (found : Option Reply) → is_reply r o t j ≡ true → IsFoundAt r o t j found
+    → first_news r maker found ≡ first_below (hears r maker t j) (length r.entries)
+first_is_news r o t j None found replies is = sym (none_first_below (hears r None t j) (length r.entries) (λ i _. refl))
+first_is_news r o t j (Some s) None replies is = absurd (let no : false ≡ true = is.0 ∙ replies in cc)
+first_is_news r o t j (Some s) (Some x) replies is =
+    sym (ap (option_and_then (λ b. first_below (gets_in r s b) (length r.entries))) is.1) ∙ first_is_heard r o s t j replies
+
+pub last_is_news : (r : PlainRecording) (o : OrderData) (t j : ℕ) (maker : Option ℕ) (found : Option Reply) → is_reply r o t j ≡ true → IsFoundAt r o t j found
+    → last_news r maker found ≡ last_below (hears r maker t j) (length r.entries)
+last_is_news r o t j None found replies is = sym (none_last_below (hears r None t j) (length r.entries) (λ i _. refl))
+last_is_news r o t j (Some s) None replies is = absurd (let no : false ≡ true = is.0 ∙ replies in cc)
+last_is_news r o t j (Some s) (Some x) replies is =
+    sym (ap (option_and_then (λ b. last_below (gets_in r s b) (length r.entries))) is.1) ∙ last_is_heard r o s t j replies
+
+-- and nowhere what is no reply
+pub no_reply_no_news : (r : PlainRecording) (o : OrderData) (t j : ℕ) (maker : Option ℕ) (found : Option Reply) → is_reply r o t j ≡ false → IsFoundAt r o t j found
+    → last_news r maker found ≡ None
+no_reply_no_news r o t j None found none is = refl
+no_reply_no_news r o t j (Some s) None none is = refl
+no_reply_no_news r o t j (Some s) (Some x) none is = absurd (let no : true ≡ false = is.0 ∙ none in cc)
+
+-- ---- the words of replies
+
+-- the word of what is sent at an entry, and of what is received there
+sent_word : (r : PlainRecording) (t j : ℕ) (b : List ℕ) → bytes_sent r t j ≡ Some b → word_at r j ≡ word_in r b
+unfolding word_at
+sent_word r t j b sent = ap (option_and_then (λ p. word_of p.body)) (meant_sent r t j b sent)
+
+got_word : (r : PlainRecording) (s i : ℕ) (b : List ℕ) → gets_in r s b i ≡ true → word_at r i ≡ word_in r b
+unfolding word_at gets_in
+got_word r s i b h =
+    let got = there (bytes_eq b) (bytes_got r s i) h in
+    ap (option_and_then (λ p. word_of p.body)) (meant_got r s i b (got.1 ∙ ap Some (sym ((bytes_decides b got.0).0 got.2))))
+
+pub spoken_there : (r : PlainRecording) (t j : ℕ) (found : Option Reply) → IfSome found (λ (x : Reply). bytes_sent r t j ≡ Some x.bytes.now)
+    → IfSome found (λ (x : Reply). x.word ≡ word_in r x.bytes.now) → IfSome found (λ (x : Reply). x.word ≡ word_at r j)
+spoken_there r t j None sent word = tt
+spoken_there r t j (Some x) sent word = word ∙ sym (sent_word r t j x.bytes.now sent)
+
+-- the word of where they are heard
+pub first_word : (r : PlainRecording) (s : ℕ) (b : List ℕ) (i : ℕ) → first_below (gets_in r s b) (length r.entries) ≡ Some i → word_in r b ≡ word_at r i
+first_word r s b i found = sym (got_word r s i b (first_found (gets_in r s b) (length r.entries) i found).passes)
+
+pub last_word : (r : PlainRecording) (s : ℕ) (b : List ℕ) (i : ℕ) → last_below (gets_in r s b) (length r.entries) ≡ Some i → word_in r b ≡ word_at r i
+last_word r s b i found = sym (got_word r s i b (last_found (gets_in r s b) (length r.entries) i found).1)

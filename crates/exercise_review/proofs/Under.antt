@@ -20,7 +20,7 @@ use Rattle.exercise_model.specs.Recording.{PlainRecording}
 use Rattle.exercise_model.specs.Account.{pair_of}
 use Rattle.exercise_model.specs.Meaning.{meaning}
 use Rattle.exercise_model.specs.Setting.{is_open}
-use Rattle.exercise_review.specs.Digest.{digest_of}
+use Rattle.exercise_review.specs.Digest.{digest, digest_of}
 use Rattle.exercise_review.specs.Entries.{bytes_sent_by, bytes_got_by, bytes_sent, bytes_got, sent_by, got_by}
 use Rattle.exercise_review.specs.Order.{OrderData, sends_order, gets_order, entry_gets, gets_anywhere, is_outside, sends_under_id, is_first_under_id}
 use Rattle.exercise_review.specs.Party.{is_copy, is_told_from, tells_from}
@@ -129,7 +129,7 @@ got_answer f s q is answers =
 
 -- the same order has the same key, and is a request alike
 same_key : (s : ℕ) (p q : Pdu) → is_same_order p q ≡ true → order_key s p ≡ order_key s q
-unfolding order_key digest_of
+unfolding order_key digest_of digest
 same_key s p q same = ap (order_key s) ((order_decides p q).0 same)
 
 same_asking : (p q : Pdu) → is_same_order p q ≡ true → is_request_body p.body ≡ is_request_body q.body
@@ -151,7 +151,7 @@ no_request (bodies.DataPdu request datums) k h = refl
 no_request (bodies.EventReport event datums) k h = refl
 no_request (bodies.Comment datums) k h = refl
 
-is_answering : (p q : Pdu) → is_answer_to p q ≡ true → is_request_body p.body ≡ false
+pub is_answering : (p q : Pdu) → is_answer_to p q ≡ true → is_request_body p.body ≡ false
 is_answering p q h = no_request p.body (body_kind q.body) (and_parts _ _ h).0
 
 ids_are : (a b : Option ℕ) → same_id a b ≡ true → a ≡ b
@@ -178,11 +178,17 @@ pub sends_under : (r : PlainRecording) (s : ℕ) (p : Pdu) → IfSome (order_key
 sends_under r s p = if_key (order_key s p) (IsUnder r (sends_order r s p)) (λ k e i h.
     has_it r i k (sends_keyed r s p (is_asking s k p e) i h ∙ e))
 
-pub gets_under : (r : PlainRecording) (s : ℕ) (p : Pdu) → IfSome (order_key s p) (IsUnder r (gets_order r s p))
+gets_have : (r : PlainRecording) (s : ℕ) (p : Pdu) (k : ℕ) → order_key s p ≡ Some k → IsUnder r (gets_order r s p) k
 unfolding gets_order
-gets_under r s p = if_key (order_key s p) (IsUnder r (gets_order r s p)) (λ k e i h.
+gets_have r s p k e i h =
     let q = there (is_same_order p) (got_by r s i) h in
-    has_it r i k (got_keyed r s i q.0 q.1 ∙ got_asked r.setting.form s q.0 (sym (same_asking p q.0 q.2) ∙ is_asking s k p e) ∙ sym (same_key s p q.0 q.2) ∙ e))
+    has_it r i k (got_keyed r s i q.0 q.1 ∙ got_asked r.setting.form s q.0 (sym (same_asking p q.0 q.2) ∙ is_asking s k p e) ∙ sym (same_key s p q.0 q.2) ∙ e)
+
+pub gets_under : (r : PlainRecording) (s : ℕ) (p : Pdu) → IfSome (order_key s p) (IsUnder r (gets_order r s p))
+gets_under r s p = if_key (order_key s p) (IsUnder r (gets_order r s p)) (gets_have r s p)
+
+pub copy_has : (r : PlainRecording) (o : OrderData) (t k : ℕ) → order_key t o.request ≡ Some k → IsUnder r (is_copy r o t) k
+copy_has r o t = gets_have r t o.request
 
 pub reply_has : (r : PlainRecording) (o : OrderData) (t k : ℕ) → order_key t o.request ≡ Some k → IsUnder r (is_reply r o t) k
 unfolding is_reply gets_order
@@ -254,6 +260,11 @@ under_one keys f c all i passes =
 asked_digest : (s : ℕ) (p : Pdu) → is_request_body p.body ≡ true → order_key s p ≡ Some (digest_of s p)
 unfolding order_key
 asked_digest s p asks = ap (λ b. if b then Some (digest_of s p) else None) asks
+
+-- what a station sends, it sends
+pub sends_itself : (r : PlainRecording) (s i : ℕ) (p : Pdu) → sent_by r s i ≡ Some p → sends_order r s p i ≡ true
+unfolding sends_order
+sends_itself r s i p sent = ap (λ q. option_map_or (is_same_order p) q false) sent ∙ (order_decides p p).1 refl
 
 pub sends_first : (r : PlainRecording) (s i : ℕ) (p : Pdu) → is_request_body p.body ≡ true → sends_order r s p i ≡ true
     → (j : ℕ) → sends_order r s p j ≡ true → has_key r (unwrap_or (key_at r i) 0) j ≡ true

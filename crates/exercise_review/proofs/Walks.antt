@@ -170,7 +170,7 @@ count_starts f h n next under e =
     let jumped = jump (count_below f) f h under (count_still f) n ∙ ap (λ o. count_below f (past o)) (sym e) in
     omega (arith, jumped)
 
-count_on : (f h : ℕ → Bool) (n j count : ℕ) (next : Option ℕ) → ((i : ℕ) → f i ≡ true → h i ≡ true) → next ≡ last_below h j
+pub count_on : (f h : ℕ → Bool) (n j count : ℕ) (next : Option ℕ) → ((i : ℕ) → f i ≡ true → h i ≡ true) → next ≡ last_below h j
     → IsCountOn f n (Some j) count → count_below f n ≡ count_below f (past next) + (if f j then 1 else 0) + count
 unfolding count_below
 count_on f h n j count next under e so_far =

@@ -1,5 +1,5 @@
 -- Digests of requests: what is the same order at one station has one digest (profile).
-use Rattle.std.specs.Prelude.{ℕ, ◌+◌, ◌-◌, ◌*◌, List, [], ◌∷◌, Option, Some, None, length, take, fold, slice_get, unwrap_or}
+use Rattle.std.specs.Prelude.{ℕ, ◌+◌, ◌-◌, ◌*◌, ◌%◌, ◌^◌, List, [], ◌∷◌, Option, Some, None, length, take, fold, slice_get, unwrap_or}
 use Rattle.std.specs.Hash.{u64}
 use Rattle.std.specs.Hash.DefaultHasher.{initial, write, finish}
 use Rattle.std.specs.declared.hash.DefaultHasher.{DefaultHasher}
@@ -61,11 +61,19 @@ body_fed h (bodies.DataQuery request interval ids) = ids_fed (fed h 0 interval) 
 body_fed h (bodies.SetData request datums) = datums_fed h datums
 body_fed h body = h
 
--- who asks whom, at station s, under which identifier
-abbrev pub head_fed : (s : ℕ) → (origin target : EntityId) → (request : ℕ) → DefaultHasher
-head_fed s origin target request =
-    fed (fed (fed initial request (both s target.entity)) (both origin.site origin.application) (both target.site target.application)) 0 origin.entity
+-- who asks whom, under which identifier
+abbrev pub head_fed : (origin target : EntityId) → (request : ℕ) → DefaultHasher
+head_fed origin target request =
+    fed (fed initial request (both origin.entity target.entity)) (both origin.site origin.application) (both target.site target.application)
 
--- THE DIGEST OF p AT STATION s: of all in which it is compared with others, but the version and the exercise
+-- THE DIGEST OF p: of all in which it is compared with others, but the version and the exercise
+unfoldable pub digest : Pdu → ℕ
+digest p = finish (body_fed (head_fed p.origin p.target (unwrap_or (request_id_of p.body) 0)) p.body)
+
+-- a digest at station s: so far on for each station, an odd number
+abbrev pub at_station : (s d : ℕ) → ℕ
+at_station s d = (d + (s * 0x9E3779B97F4A7C15) % 2 ^ 64) % 2 ^ 64
+
+-- THE DIGEST OF p AT STATION s
 unfoldable pub digest_of : (s : ℕ) → Pdu → ℕ
-digest_of s p = finish (body_fed (head_fed s p.origin p.target (unwrap_or (request_id_of p.body) 0)) p.body)
+digest_of s p = at_station s (digest p)

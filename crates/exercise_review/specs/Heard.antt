@@ -8,6 +8,9 @@ use Rattle.std.proofs.lemmas.Bool.{and_parts, eqb-true}
 use Rattle.std.specs.declared.hash.BuildHasherDefault.{BuildHasherDefault}
 use Rattle.std.specs.declared.hash.DefaultHasher.{DefaultHasher}
 use Rattle.indexmap.specs.IndexMap.{IndexMap, get}
+use Rattle.siman_pdus.specs.declared.pdu.Pdu.{Pdu}
+use Rattle.siman_pdus.specs.Role.{is_request_body}
+use Rattle.exercise_model.specs.Meaning.{meaning}
 use Rattle.exercise_model.specs.Recording.{PlainRecording}
 use Rattle.exercise_model.specs.Place.{first_below}
 use Rattle.exercise_review.specs.declared.receipt.Receipt.{Receipt}
@@ -42,7 +45,11 @@ first_kept entry kept = option_map_or (λ (x : Receipts). x.first) kept entry
 abbrev pub Heard : Type 0
 Heard = IndexMap Receipt Receipts (BuildHasherDefault DefaultHasher)
 
--- THE TIE: of the entries below n at which a station receives the same bytes, the first and the last
+-- these bytes mean a request
+abbrev pub asks_in : PlainRecording → List ℕ → Bool
+asks_in r b = option_map_or (λ (p : Pdu). is_request_body p.body) (meaning r.setting.exercise b) false
+
+-- THE TIE: of the entries below n at which a station receives the same bytes, the first and the last; what means a request need not be kept
 pub record AreHeard (r : PlainRecording) (n : ℕ) (heard : Heard) : Type 0 where
-  pub first : (k : Receipt) → option_map (λ (x : Receipts). x.first) (get same_receipt heard k) ≡ first_below (gets_in r k.station k.bytes.now) n
-  pub last : (k : Receipt) → option_map (λ (x : Receipts). x.last) (get same_receipt heard k) ≡ last_below (gets_in r k.station k.bytes.now) n
+  pub first : (k : Receipt) → asks_in r k.bytes.now ≡ false → option_map (λ (x : Receipts). x.first) (get same_receipt heard k) ≡ first_below (gets_in r k.station k.bytes.now) n
+  pub last : (k : Receipt) → asks_in r k.bytes.now ≡ false → option_map (λ (x : Receipts). x.last) (get same_receipt heard k) ≡ last_below (gets_in r k.station k.bytes.now) n

@@ -8,6 +8,7 @@ pub mod Digest
 pub mod Register
 pub mod Heard
 pub mod News
+pub mod Gathered
 pub mod Reply
 pub mod Word
 pub mod Fate

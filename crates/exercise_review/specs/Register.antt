@@ -15,7 +15,7 @@ use Rattle.exercise_model.specs.Setting.{is_open}
 use Rattle.exercise_findings.specs.Column.{IsColumn}
 use Rattle.exercise_review.specs.declared.ways.Ways.{Ways}
 use Rattle.exercise_review.specs.Counted.{last_below}
-use Rattle.exercise_review.specs.Digest.{digest_of}
+use Rattle.exercise_review.specs.Digest.{digest, digest_of}
 use Rattle.exercise_review.specs.Entries.{got_by}
 use Rattle.exercise_review.specs.Heard.{Heard, AreHeard}
 use Rattle.exercise_review.specs.Order.{OrderData}
@@ -25,6 +25,10 @@ use Rattle.exercise_review.specs.Order.{OrderData}
 -- a station and a request identifier as one number
 abbrev pub number_under : (s id : ℕ) → ℕ
 number_under s id = s * 0x100000000 + id
+
+-- the digest of p, if p is a request
+abbrev pub request_digest : Pdu → Option ℕ
+request_digest p = if is_request_body p.body then Some (digest p) else None
 
 -- the key of p at station s, if p is a request
 unfoldable pub order_key : ℕ → Pdu → Option ℕ
@@ -50,6 +54,10 @@ entry_key r i (Told s e y) = None
 -- THE KEY OF ENTRY i, if it has to do with an order
 unfoldable pub key_at : PlainRecording → ℕ → Option ℕ
 key_at r i = option_and_then (entry_key r i) (slice_get r.entries i)
+
+-- WHAT KEEPS THE KEYS of the entries below n
+abbrev pub AreKeys : PlainRecording → ℕ → List (Option ℕ) → Type 0
+AreKeys r = IsColumn None (λ i key. key ≡ key_at r i)
 
 -- a number that no station has
 abbrev pub nowhere : ℕ

@@ -115,6 +115,10 @@ fate_place x = place_at x.outcome.fate x.outcome.party
 unfoldable pub fate_places : List OrderAt → ℕ → Option ℕ
 fate_places xs i = option_and_then fate_place (slice_get xs i)
 
+-- the number of the fate of each
+unfoldable pub fate_numbers : List OrderAt → ℕ → Option ℕ
+fate_numbers xs i = option_map (λ (x : OrderAt). fate_number x.outcome.fate) (slice_get xs i)
+
 -- WHAT IS COUNTED OF STATION s, beside its address: the entries of its log, the orders that it made, the fates of those that it was party to, and its entities
 -- that are there at the end, and how many of them run
 unfoldable pub station_counts : PlainRecording → ℕ → StationCounts

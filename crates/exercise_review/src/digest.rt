@@ -1,18 +1,22 @@
-//! Digests of requests: numbers that are the same for what is the same order at one station. Strangers
-//! choose what requests say, so the hasher is one for which nobody writes down many that fall
-//! together.
+//! Digests of requests: numbers that are the same for what is the same order, and at each station
+//! another one. Strangers choose what requests say, so the hasher is one for which nobody writes down
+//! many that fall together.
 
 ghost use Rattle.std.specs.Prelude.{◌≡◌, ◌-◌, fold, length, take, map};
 ghost use Rattle.std.specs.Hash.DefaultHasher.{write, initial};
 ghost use Rattle.dis_records.specs.Datum.{canonical};
 ghost use Rattle.dis_records.specs.Records.{shown};
 ghost use Rattle.siman_pdus.specs.Reading.{pdu_of, body_of, datums_of, ids_of};
-ghost use Rattle.exercise_review.specs.Digest.{fed, both, time_fed, fixed_fed, variable_fed, datums_fed, last_fed, id_fed, ids_fed, body_fed, head_fed, digest_of};
+ghost use Rattle.exercise_review.specs.Digest.{fed, both, time_fed, fixed_fed, variable_fed, datums_fed, last_fed, id_fed, ids_fed, body_fed, head_fed, digest, at_station};
 
 use dis_records::records::{DatumIdRecords, FixedRecords, VariableRecords};
 use dis_records::{ClockTime, DatumsView, EntityId, IdsView, VariableView};
 use siman_pdus::{BodyView, PduView, request_id};
 use std::hash::{DefaultHasher, Hasher};
+
+/// How far the digests of an order at two stations that follow each other lie apart: an odd number,
+/// so that those at different stations differ.
+const STEP: u64 = 0x9E37_79B9_7F4A_7C15;
 
 /// Two numbers of 16 bits as one.
 fn both(high: u16, low: u16) -> u32
@@ -132,32 +136,37 @@ fn feed_body(hasher: &mut DefaultHasher, body: &BodyView<'_>)
     }
 }
 
-/// What is fed of who asks whom, at a station, under which identifier.
-fn head_fed(station: u16, origin: EntityId, target: EntityId, request: u32) -> DefaultHasher
-    ensures { result ≡ head_fed station origin target request }
+/// What is fed of who asks whom, under which identifier.
+fn head_fed(origin: EntityId, target: EntityId, request: u32) -> DefaultHasher
+    ensures { result ≡ head_fed origin target request }
 {
     let mut hasher = DefaultHasher::new();
-    feed(&mut hasher, request, both(station, target.entity));
+    feed(&mut hasher, request, both(origin.entity, target.entity));
     feed(
         &mut hasher,
         both(origin.site, origin.application),
         both(target.site, target.application),
     );
-    feed(&mut hasher, 0, u32::from(origin.entity));
     hasher
 }
 
-/// The digest of a PDU at a station: of all in which it is compared with others, but the version and
-/// the exercise.
-#[tactic(auto, unfolding(crate::specs::Digest::digest_of))]
-pub(crate) fn digest_of(station: u16, pdu: &PduView<'_>) -> u64
-    ensures { result ≡ digest_of station (pdu_of pdu.now) }
+/// The digest of a PDU: of all in which it is compared with others, but the version and the exercise.
+#[tactic(auto, unfolding(crate::specs::Digest::digest))]
+pub(crate) fn digest(pdu: &PduView<'_>) -> u64
+    ensures { result ≡ digest (pdu_of pdu.now) }
 {
     let request = match request_id(pdu) {
         Some(request) => request,
         None => 0,
     };
-    let mut hasher = head_fed(station, pdu.origin, pdu.target, request);
+    let mut hasher = head_fed(pdu.origin, pdu.target, request);
     feed_body(&mut hasher, &pdu.body);
     hasher.finish()
+}
+
+/// A digest at a station: so far on for each station.
+pub(crate) fn at_station(station: u16, digest: u64) -> u64
+    ensures { result ≡ at_station station digest }
+{
+    digest.wrapping_add(u64::from(station).wrapping_mul(STEP))
 }

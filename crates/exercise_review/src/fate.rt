@@ -6,15 +6,15 @@ ghost use Rattle.exercise_review.specs.Order.{order_of};
 ghost use Rattle.exercise_review.specs.Party.{first_copy};
 ghost use Rattle.exercise_review.specs.Reply.{is_reply, is_news};
 ghost use Rattle.exercise_review.specs.Word.{first_settling};
+ghost use Rattle.exercise_review.specs.Gathered.{AreSpoken};
 ghost use Rattle.exercise_review.specs.Fate.{fate_heard, fate_by, traces_of, fate_of, fate_text};
 
-use crate::answered::{Replied, replied_to};
-use crate::news::{HeardNews, news_of};
+use crate::gathered::{Gathered, gathered_of};
 use crate::order::Order;
-use crate::party::{Party, first_copy};
+use crate::party::Party;
 use crate::register::Register;
 use crate::reply::Replies;
-use crate::word::{Word, word_of};
+use crate::word::Word;
 use exercise_model::ExerciseLog;
 use std::fmt;
 
@@ -120,27 +120,22 @@ impl fmt::Display for Fate {
     }
 }
 
-/// The traces of an order at a recorded station, where this was gathered there: how often it was
-/// received and where first, what was replied, and what the maker heard.
+/// The traces of an order at a recorded station, where this was gathered there.
 #[tactic(auto, unfolding(crate::specs::Fate::traces_of), using(crate::proofs::Walks::found_alike))]
-pub(crate) fn traces_by<L: ExerciseLog>(
-    replies: &Replies<'_, L>,
-    got: Option<usize>,
-    replied: Replied,
-    news: HeardNews,
-) -> Traces
-    requires got { let q = replies.now in got ≡ first_copy q.findings.now (order_of q.order.now) q.station }
-    requires settled { let q = replies.now in replied.settled ≡ first_settling q.findings.now (is_reply q.findings.now (order_of q.order.now) q.station) }
-    requires last { let q = replies.now in replied.last ≡ last_below (is_reply q.findings.now (order_of q.order.now) q.station) (length q.findings.now.entries) }
-    requires news { let q = replies.now in news.settled ≡ first_settling q.findings.now (is_news q.findings.now (order_of q.order.now) q.station) }
+pub(crate) fn traces_by<L: ExerciseLog>(replies: &Replies<'_, L>, gathered: Gathered) -> Traces
+    requires got { let q = replies.now in gathered.copies.first ≡ first_copy q.findings.now (order_of q.order.now) q.station }
+    requires settled { let q = replies.now in gathered.replied.settled.entry ≡ first_settling q.findings.now (is_reply q.findings.now (order_of q.order.now) q.station) }
+    requires last { let q = replies.now in gathered.replied.last.entry ≡ last_below (is_reply q.findings.now (order_of q.order.now) q.station) (length q.findings.now.entries) }
+    requires news { let q = replies.now in gathered.news.settled.entry ≡ first_settling q.findings.now (is_news q.findings.now (order_of q.order.now) q.station) }
+    requires words { AreSpoken replies.now.findings.now gathered.replied gathered.news }
     ensures { let q = replies.now in result ≡ traces_of q.findings.now (order_of q.order.now) q.station }
 {
     Traces {
         made: replies.order.maker.is_some(),
-        heard: word_of(replies.findings, news.settled),
-        settled: replied.settled.is_some(),
-        replied: replied.last.is_some(),
-        got: got.is_some(),
+        heard: gathered.news.settled.word,
+        settled: gathered.replied.settled.entry.is_some(),
+        replied: gathered.replied.last.entry.is_some(),
+        got: gathered.copies.first.is_some(),
     }
 }
 
@@ -157,15 +152,8 @@ pub fn traces_of<L: ExerciseLog>(
         order,
         station,
     };
-    let key = replies.key();
-    let replied = replied_to(&replies, key);
-    let news = news_of(&replies, key);
-    traces_by(
-        &replies,
-        first_copy(findings, order, station),
-        replied,
-        news,
-    )
+    let gathered = gathered_of(&replies, replies.key());
+    traces_by(&replies, gathered)
 }
 
 /// The fate of an order at a party of it. It takes no memory.

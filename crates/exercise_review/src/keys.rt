@@ -1,30 +1,49 @@
 //! The keys by which entries are looked up.
 
-ghost use Rattle.std.specs.Prelude.{◌≡◌, ◌<◌, length, option_map};
+ghost use Rattle.std.specs.Prelude.{◌≡◌, ◌<◌, ◌≤◌, length, option_map, option_and_then, IfOk, IfSome};
 ghost use Rattle.siman_pdus.specs.Reading.{pdu_of};
 ghost use Rattle.exercise_model.specs.Entry.{Entry};
 ghost use Rattle.exercise_review.specs.Entries.{got_by};
-ghost use Rattle.exercise_review.specs.Register.{order_key, id_key, sent_key, got_key, key_at, second_at};
+ghost use Rattle.siman_pdus.specs.declared.pdu.Pdu.{Pdu};
+ghost use Rattle.exercise_review.specs.Register.{request_digest, order_key, id_key, sent_key, got_key, key_at, second_at, AreKeys};
 
-use crate::digest::digest_of;
+use crate::digest::{at_station, digest};
 use crate::ways::Keying;
 use exercise_findings::Findings;
 use exercise_model::{EntryView, ExerciseLog, Form, meaning_view};
 use siman_pdus::{PduView, is_request, request_id};
+use std::alloc::{AllocError, Global};
 
 /// A number that no station has.
 const NOWHERE: u16 = 65_535;
 
-/// The key of a PDU at a station, if it is a request: its digest.
-#[tactic(auto, unfolding(crate::specs::Register::order_key))]
-pub(crate) fn order_key(station: u16, pdu: &PduView<'_>) -> Option<u64>
-    ensures { result ≡ order_key station (pdu_of pdu.now) }
+/// The digest of a PDU, if it is a request.
+pub(crate) fn request_digest(pdu: &PduView<'_>) -> Option<u64>
+    ensures { result ≡ request_digest (pdu_of pdu.now) }
 {
     if is_request(pdu) {
-        Some(digest_of(station, pdu))
+        Some(digest(pdu))
     } else {
         None
     }
+}
+
+/// The key at a station of what has this digest.
+#[tactic(auto, unfolding(crate::specs::Register::order_key, crate::specs::Digest::digest_of))]
+pub(crate) fn key_under(station: u16, digest: Option<u64>) -> Option<u64>
+    ensures { (p : Pdu) → digest ≡ request_digest p → result ≡ order_key station p }
+{
+    match digest {
+        Some(digest) => Some(at_station(station, digest)),
+        None => None,
+    }
+}
+
+/// The key of a PDU at a station, if it is a request: its digest there.
+pub(crate) fn order_key(station: u16, pdu: &PduView<'_>) -> Option<u64>
+    ensures { result ≡ order_key station (pdu_of pdu.now) }
+{
+    key_under(station, request_digest(pdu))
 }
 
 /// The key of the request identifier of a PDU at a station, if it has one.
@@ -60,25 +79,69 @@ fn got_at<'a, L: ExerciseLog>(
     }
 }
 
-/// The key of what a station sends at an entry: of the order that it makes or, for an answer, of the
-/// one that it takes up.
+/// The key of the request that a station receives at an entry, where that can be told from the keys of
+/// the entries before.
+#[tactic(auto, using(crate::proofs::KnownKeys::key_kept, crate::proofs::KnownKeys::known_key))]
+fn known_key<L: ExerciseLog>(
+    findings: &Findings<'_, L>,
+    keys: &[Option<u64>],
+    station: u16,
+    entry: usize,
+) -> Option<Option<u64>>
+    requires known { AreKeys findings.now (length keys.now) keys.now }
+    requires within { length keys.now ≤ length findings.now.entries }
+    ensures { IfSome result (λ key. key ≡ option_and_then (order_key station) (got_by findings.now station entry)) }
+{
+    let log = findings.log();
+    if log.form() == Form::Open || entry >= keys.len() {
+        return None;
+    }
+    match log.entry(entry) {
+        EntryView::Received { station: at, .. } if at == station => Some(keys[entry]),
+        _ => None,
+    }
+}
+
+/// The key of the request that a station receives at an entry, where these are the keys of the entries
+/// before.
+fn taken_key<L: ExerciseLog>(
+    findings: &Findings<'_, L>,
+    keys: &[Option<u64>],
+    station: u16,
+    entry: usize,
+) -> Option<u64>
+    requires known { AreKeys findings.now (length keys.now) keys.now }
+    requires within { length keys.now ≤ length findings.now.entries }
+    ensures { result ≡ option_and_then (order_key station) (got_by findings.now station entry) }
+{
+    match known_key(findings, keys, station, entry) {
+        Some(key) => key,
+        None => match got_at(findings, station, entry) {
+            Some(request) => order_key(station, &request),
+            None => None,
+        },
+    }
+}
+
+/// The key of what a station sends at an entry, where these are the keys of those before: of the order
+/// that it makes or, for an answer, of the one that it takes up.
 #[tactic(auto, unfolding(crate::specs::Register::sent_key))]
 fn sent_key<L: ExerciseLog>(
     findings: &Findings<'_, L>,
+    keys: &[Option<u64>],
     station: u16,
     entry: usize,
     pdu: &PduView<'_>,
 ) -> Option<u64>
+    requires known { AreKeys findings.now (length keys.now) keys.now }
+    requires within { length keys.now ≤ length findings.now.entries }
     ensures { result ≡ sent_key findings.now station entry (pdu_of pdu.now) }
 {
     if is_request(pdu) {
         return order_key(station, pdu);
     }
     match findings.pair(entry) {
-        Some(taken) => match got_at(findings, station, taken as usize) {
-            Some(request) => order_key(station, &request),
-            None => None,
-        },
+        Some(taken) => taken_key(findings, keys, station, taken as usize),
         None => None,
     }
 }
@@ -98,18 +161,22 @@ fn got_key(form: Form, station: u16, pdu: &PduView<'_>) -> Option<u64>
     }
 }
 
-/// The key of an entry.
+/// The key of an entry, where these are the keys of those before.
 #[tactic(auto, unfolding(crate::specs::Register::key_at))]
-fn key_at<L: ExerciseLog>(findings: &Findings<'_, L>, entry: usize) -> Option<u64>
+fn key_at<L: ExerciseLog>(
+    findings: &Findings<'_, L>,
+    keys: &[Option<u64>],
+    entry: usize,
+) -> Option<u64>
+    requires known { AreKeys findings.now (length keys.now) keys.now }
+    requires within { length keys.now ≤ length findings.now.entries }
+    requires entry { entry < length findings.now.entries }
     ensures { result ≡ key_at findings.now entry }
 {
     let log = findings.log();
-    if entry >= log.entry_count() {
-        return None;
-    }
     match log.entry(entry) {
         EntryView::Sent { station, bytes, .. } => match meaning_view(log.exercise(), bytes) {
-            Some(pdu) => sent_key(findings, station, entry, &pdu),
+            Some(pdu) => sent_key(findings, keys, station, entry, &pdu),
             None => None,
         },
         EntryView::Received { station, bytes, .. } => match meaning_view(log.exercise(), bytes) {
@@ -118,6 +185,22 @@ fn key_at<L: ExerciseLog>(findings: &Findings<'_, L>, entry: usize) -> Option<u6
         },
         EntryView::Told { .. } => None,
     }
+}
+
+/// The keys of all entries. They take memory.
+pub(crate) fn keys_of<L: ExerciseLog>(
+    alloc: Global,
+    findings: &Findings<'_, L>,
+) -> Result<Vec<Option<u64>>, AllocError>
+    ensures { IfOk result (λ keys. AreKeys findings.now (length findings.now.entries) keys.items) }
+{
+    let end = findings.log().entry_count();
+    let mut keys = Vec::with_capacity(alloc, end)?;
+    for entry in 0..end {
+        let key = key_at(findings, &keys, entry);
+        keys.push(key)?;
+    }
+    Ok(keys)
 }
 
 /// The second key of an entry, in an open recording.
@@ -141,7 +224,7 @@ fn second_at<L: ExerciseLog>(log: &L, entry: usize) -> Option<u64>
     }
 }
 
-/// The keys of entries by the orders that they have to do with.
+/// The keys of entries by the orders that they have to do with, each worked out where it is asked for.
 #[derive(Drop)]
 pub(crate) struct OrderKeys<'b, 'a, L: ExerciseLog> {
     pub findings: &'b Findings<'a, L>,
@@ -150,8 +233,34 @@ pub(crate) struct OrderKeys<'b, 'a, L: ExerciseLog> {
 impl<L: ExerciseLog> Keying for OrderKeys<'_, '_, L> {
     ghost keys = { λ q. key_at q.findings.now };
 
+    #[tactic(auto, using(crate::proofs::KnownKeys::key_beyond, crate::proofs::KnownKeys::no_keys))]
     fn key(&self, entry: usize) -> Option<u64> {
-        key_at(self.findings, entry)
+        if entry < self.findings.log().entry_count() {
+            key_at(self.findings, &[], entry)
+        } else {
+            None
+        }
+    }
+}
+
+/// The same, where they are known.
+#[derive(Drop)]
+pub(crate) struct KnownKeys<'b, 'a, L: ExerciseLog> {
+    pub findings: &'b Findings<'a, L>,
+    pub keys: &'b [Option<u64>],
+    ghost tied: { AreKeys findings.now (length findings.now.entries) keys.now },
+}
+
+impl<L: ExerciseLog> Keying for KnownKeys<'_, '_, L> {
+    ghost keys = { λ q. key_at q.findings.now };
+
+    #[tactic(auto, using(crate::proofs::KnownKeys::key_kept, crate::proofs::KnownKeys::key_beyond))]
+    fn key(&self, entry: usize) -> Option<u64> {
+        if entry < self.keys.len() {
+            self.keys[entry]
+        } else {
+            None
+        }
     }
 }
 

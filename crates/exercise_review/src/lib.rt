@@ -31,6 +31,7 @@ mod entries;
 mod fate;
 mod fault;
 mod filter;
+mod gathered;
 mod keys;
 mod laws;
 mod life;

@@ -1,13 +1,17 @@
 //! How an entity lived, by the course of its station: from one change to the next that may move it.
 
-ghost use Rattle.std.specs.Prelude.{◌≡◌, ◌+◌, ◌<◌, ◌≤◌, [], false, length, IfOk, OnOk};
+ghost use Rattle.std.specs.Prelude.{◌≡◌, ℕ, ◌+◌, ◌<◌, ◌≤◌, [], false, length, slice_index_or, IfOk, OnOk};
+ghost use Rattle.dis_records.specs.declared.entity_state.EntityState.TheVariants.{Absent};
+ghost use Rattle.exercise_model.specs.Station.{listed_state};
 ghost use Rattle.exercise_review.specs.Life.{life_in};
 ghost use Rattle.exercise_review.specs.Span.{lived_by};
-ghost use Rattle.exercise_review.specs.Course.{is_of, IsNextIn, IsStayTo, AreInOrder, lives_in};
+ghost use Rattle.exercise_review.specs.Course.{is_of, change_in, IsNextIn, IsStayTo, AreInOrder, lives_in};
 
 use crate::course::Course;
 use crate::life::{Life, Stretch, end_stretch, live_on};
-use dis_records::EntityState;
+use crate::span::Made;
+use dis_records::{EntityState, Scope};
+use exercise_model::{Change, LARGEST_ENTITY};
 use std::alloc::{AllocError, Global};
 
 /// Where the next change of an entity alone stands past a place, where this is the next from that
@@ -67,6 +71,65 @@ pub(crate) fn may_live(course: &Course<'_>, entity: u16) -> bool
             stay_to(course, entity, EntityState::Absent, own, 0) < course.changes.len()
         }
         EntityState::Stopped | EntityState::Running => true,
+    }
+}
+
+/// The greater of two numbers.
+fn greater(number: u16, other: u16) -> u16
+    ensures left { number ≤ result }
+    ensures right { other ≤ result }
+{
+    if number < other { other } else { number }
+}
+
+/// The greatest number of the entities that a station opens with; 0 where there are none.
+fn last_opening(opening: &[(u16, EntityState)]) -> u16
+    ensures { (e : ℕ) → result < e → listed_state opening.now e ≡ Absent }
+{
+    let mut last = 0;
+    for place in 0..opening.len() {
+        last = greater(last, opening[place].0);
+    }
+    last
+}
+
+/// The number of the entity alone that a change is one of; 0 where it is one of all.
+fn own_number(change: Change) -> u16
+    ensures { (e : ℕ) → result < e → is_of e change ≡ false }
+{
+    match change.scope {
+        Scope::One(number) => number,
+        Scope::All => 0,
+    }
+}
+
+/// The greatest number of the entities that these changes are changes of alone; 0 where there are none.
+fn last_changed(changes: &[Made]) -> u16
+    ensures { (e i : ℕ) → result < e → i < length changes.now → is_of e (change_in changes.now i) ≡ false }
+{
+    let mut last = 0;
+    for place in 0..changes.len() {
+        last = greater(last, own_number(changes[place].change));
+    }
+    last
+}
+
+/// The greatest number of the entities of which there may be something to tell, by the course of a
+/// station that opens with these.
+pub(crate) fn last_living(course: &Course<'_>, opening: &[(u16, EntityState)]) -> u16
+    requires order { AreInOrder course.now }
+    requires starts { (e : ℕ) → slice_index_or course.now.starts.items e Absent ≡ listed_state opening.now e }
+    ensures within { result ≤ 65533 }
+    ensures none { (e : ℕ) → result < e → e ≤ 65533 → lives_in course.now e ≡ [] }
+{
+    if course.next_of_all(EntityState::Absent, 0) < course.changes.len() {
+        return LARGEST_ENTITY;
+    }
+    let last = greater(last_opening(opening), last_changed(course.changes));
+    if last < LARGEST_ENTITY {
+        last
+    } else {
+        LARGEST_ENTITY
     }
 }
 

@@ -1,19 +1,21 @@
 //! Orders, each told by the entry at which it first stands.
 
-ghost use Rattle.std.specs.Prelude.{◌≡◌, ◌<◌, ◌&&◌, option_map, Some, length};
+ghost use Rattle.std.specs.Prelude.{◌≡◌, ◌<◌, ◌&&◌, option_map, option_and_then, Some, None, length, if◌then◌else◌};
 ghost use Rattle.siman_pdus.specs.Answers.{same_id};
 ghost use Rattle.siman_pdus.specs.Reading.{pdu_of};
 ghost use Rattle.siman_pdus.specs.Role.{is_request_body};
-ghost use Rattle.exercise_review.specs.Register.{told_key};
-ghost use Rattle.exercise_review.specs.Order.{order_of, sends_order, gets_order, gets_anywhere, is_outside, is_for_station, head_sent, head_got, head_of, order_at, sends_of, sends_under_id, is_first_under_id};
+ghost use Rattle.exercise_model.specs.Meaning.{meaning};
+ghost use Rattle.exercise_review.specs.Entries.{bytes_sent, sent_by};
+ghost use Rattle.exercise_review.specs.Register.{told_key, request_digest};
+ghost use Rattle.exercise_review.specs.Order.{order_of, sends_order, gets_order, gets_anywhere, is_outside, is_for_station, head_sent, head_got, head_of, made_by, order_at, sends_of, sends_under_id, is_first_under_id};
 
 use crate::entries::{entry_at, entry_count, got_by, meant, sent_by};
-use crate::keys::{id_key, order_key};
+use crate::keys::{id_key, key_under, order_key, request_digest};
 use crate::question::{Question, first_below};
 use crate::register::Register;
 use crate::stations::{is_for_station, is_outside};
 use crate::walk::{counted_entries, first_entry};
-use exercise_model::{EntryView, ExerciseLog};
+use exercise_model::{EntryView, ExerciseLog, Form};
 use siman_pdus::{PduView, is_request, is_under_identifier, same_order};
 
 /// An order: a request, told by the entry at which it first stands.
@@ -171,14 +173,17 @@ pub fn head_of<L: ExerciseLog>(findings: &Register<'_, L>, entry: usize) -> Opti
     }
 }
 
-/// Whether an entry at which a station sends something is the head of that.
+/// Whether an entry at which a station sends a PDU is the head of that: only the entries of its order
+/// before it are asked.
+#[tactic(auto, using(crate::proofs::Under::sends_itself))]
 fn is_head_sent<L: ExerciseLog>(
     findings: &Register<'_, L>,
     station: u16,
     pdu: &PduView<'_>,
     entry: usize,
 ) -> bool
-    requires { entry < length findings.now.entries }
+    requires within { entry < length findings.now.entries }
+    requires sent { sent_by findings.now station entry ≡ Some (pdu_of pdu.now) }
     ensures { result ≡ same_id (head_sent findings.now station (pdu_of pdu.now)) (Some entry) }
 {
     if !is_request(pdu) {
@@ -208,43 +213,65 @@ fn is_head_got<L: ExerciseLog>(findings: &Register<'_, L>, pdu: &PduView<'_>, en
     findings.is_first_by_second(&gets, entry)
 }
 
-/// Whether an entry is its own head: only the entries of its order before it are asked.
-#[tactic(auto, unfolding(crate::specs::Order::head_of))]
-fn is_head<L: ExerciseLog>(findings: &Register<'_, L>, entry: usize) -> bool
-    ensures { result ≡ same_id (head_of findings.now entry) (Some entry) }
+/// The order that a station makes by what it sends at an entry, if that is the head of it.
+#[tactic(auto, unfolding(crate::specs::Entries::sent_by))]
+fn order_sent<'a, L: ExerciseLog>(
+    findings: &Register<'a, L>,
+    station: u16,
+    bytes: &'a [u8],
+    entry: usize,
+) -> Option<Order<'a>>
+    requires within { entry < length findings.now.entries }
+    requires sent { bytes_sent findings.now station entry ≡ Some bytes.now }
+    ensures { let p = meaning findings.now.setting.exercise bytes.now in
+        option_map order_of result ≡ (if same_id (option_and_then (head_sent findings.now station) p) (Some entry) then option_map (made_by entry (Some station)) p else None) }
 {
-    match entry_at(findings, entry) {
-        Some(EntryView::Sent { station, bytes, .. }) => match meant(findings, bytes) {
-            Some(pdu) => is_head_sent(findings, station, &pdu, entry),
-            None => false,
-        },
-        Some(EntryView::Received { bytes, .. }) => match meant(findings, bytes) {
-            Some(pdu) => is_head_got(findings, &pdu, entry),
-            None => false,
-        },
-        Some(EntryView::Told { .. }) | None => false,
+    let request = meant(findings, bytes)?;
+    if !is_head_sent(findings, station, &request, entry) {
+        return None;
     }
+    Some(Order {
+        head: entry,
+        maker: Some(station),
+        request,
+    })
+}
+
+/// The order from outside that somebody receives at an entry, if that is the head of it.
+#[tactic(auto, using(crate::proofs::Heads::nobody_outside))]
+fn order_got<'a, L: ExerciseLog>(
+    findings: &Register<'a, L>,
+    bytes: &'a [u8],
+    entry: usize,
+) -> Option<Order<'a>>
+    requires { entry < length findings.now.entries }
+    ensures { let p = meaning findings.now.setting.exercise bytes.now in
+        option_map order_of result ≡ (if same_id (option_and_then (head_got findings.now) p) (Some entry) then option_map (made_by entry None) p else None) }
+{
+    if findings.log().form() != Form::Open {
+        return None;
+    }
+    let request = meant(findings, bytes)?;
+    if !is_head_got(findings, &request, entry) {
+        return None;
+    }
+    Some(Order {
+        head: entry,
+        maker: None,
+        request,
+    })
 }
 
 /// The order of which an entry is the head; `None` where it is no head. It takes no memory.
-#[tactic(auto, unfolding(crate::specs::Order::order_at))]
+#[tactic(auto, unfolding(crate::specs::Order::order_at, crate::specs::Order::head_of, crate::specs::Entries::bytes_sent))]
 pub fn order_at<'a, L: ExerciseLog>(findings: &Register<'a, L>, entry: usize) -> Option<Order<'a>>
     ensures { option_map order_of result ≡ order_at findings.now entry }
 {
-    if !is_head(findings, entry) {
-        return None;
+    match entry_at(findings, entry)? {
+        EntryView::Sent { station, bytes, .. } => order_sent(findings, station, bytes, entry),
+        EntryView::Received { bytes, .. } => order_got(findings, bytes, entry),
+        EntryView::Told { .. } => None,
     }
-    let (maker, bytes) = match entry_at(findings, entry)? {
-        EntryView::Sent { station, bytes, .. } => (Some(station), bytes),
-        EntryView::Received { bytes, .. } => (None, bytes),
-        EntryView::Told { .. } => return None,
-    };
-    let request = meant(findings, bytes)?;
-    Some(Order {
-        head: entry,
-        maker,
-        request,
-    })
 }
 
 impl Order<'_> {
@@ -262,8 +289,20 @@ impl Order<'_> {
     }
 
     /// How often its maker sent it; 0 where it came from outside.
-    #[tactic(auto, unfolding(crate::specs::Order::sends_of), using(crate::proofs::Under::under_steps))]
     pub fn sends<L: ExerciseLog>(&self, findings: &Register<'_, L>) -> usize
+        ensures { result ≡ sends_of findings.now (order_of self.now) }
+    {
+        self.sends_by(findings, request_digest(&self.request))
+    }
+
+    /// The same, where this is the digest of its request.
+    #[tactic(auto, unfolding(crate::specs::Order::sends_of), using(crate::proofs::Under::under_steps))]
+    pub(crate) fn sends_by<L: ExerciseLog>(
+        &self,
+        findings: &Register<'_, L>,
+        digest: Option<u64>,
+    ) -> usize
+        requires { digest ≡ request_digest (order_of self.now).request }
         ensures { result ≡ sends_of findings.now (order_of self.now) }
     {
         match self.maker {
@@ -273,7 +312,7 @@ impl Order<'_> {
                     station,
                     request: &self.request,
                 };
-                let key = order_key(station, &self.request);
+                let key = key_under(station, digest);
                 counted_entries(findings, key, &sends).count
             }
             None => 0,

@@ -2,20 +2,18 @@
 
 ghost use Rattle.std.specs.Prelude.{◌≡◌, map, IfOk};
 ghost use Rattle.exercise_review.specs.Order.{order_of};
-ghost use Rattle.exercise_review.specs.Party.{first_copy};
-ghost use Rattle.exercise_review.specs.Register.{order_key};
-ghost use Rattle.exercise_review.specs.Outcome.{stamp_at, took_between, took, sends_told, receipts_of, outcome_here, outcome_outside, outcome_nowhere, outcome_at, outcomes_of};
+ghost use Rattle.exercise_review.specs.Register.{request_digest};
+ghost use Rattle.exercise_review.specs.Outcome.{stamp_at, took_between, took, sends_told, outcome_here, outcome_outside, outcome_nowhere, outcome_at, outcomes_of};
 
-use crate::answered::replied_to;
 use crate::entries::entry_at;
 use crate::fate::{Fate, fate_of, traces_by};
-use crate::news::news_of;
-use crate::order::{Gets, Order};
+use crate::gathered::gathered_of;
+use crate::keys::{key_under, request_digest};
+use crate::order::Order;
 use crate::parties::parties_of;
 use crate::party::{Outsider, Party, ToldFrom};
 use crate::register::Register;
 use crate::reply::Replies;
-use crate::walk::{Counted, counted_entries};
 use crate::word::{Word, telling, word_of};
 use exercise_model::{EntryView, ExerciseLog};
 use std::alloc::{AllocError, Global};
@@ -88,34 +86,40 @@ fn took<L: ExerciseLog>(
     }
 }
 
-/// How often an order was sent, if its maker is recorded.
-fn sends_told<L: ExerciseLog>(findings: &Register<'_, L>, order: &Order<'_>) -> Option<usize>
+/// How often an order was sent, if its maker is recorded, where this is the digest of its request.
+fn sends_told<L: ExerciseLog>(
+    findings: &Register<'_, L>,
+    order: &Order<'_>,
+    digest: Option<u64>,
+) -> Option<usize>
+    requires { digest ≡ request_digest (order_of order.now).request }
     ensures { result ≡ sends_told findings.now (order_of order.now) }
 {
     match order.maker {
-        Some(_) => Some(order.sends(findings)),
+        Some(_) => Some(order.sends_by(findings, digest)),
         None => None,
     }
 }
 
-/// How often a station received an order, and where first, where this is the key of that.
-#[tactic(auto, unfolding(crate::specs::Party::first_copy), using(crate::proofs::Under::under_steps))]
-fn copies_of<L: ExerciseLog>(
-    findings: &Register<'_, L>,
-    order: &Order<'_>,
-    station: u16,
-    key: Option<u64>,
-) -> Counted
-    requires key { key ≡ order_key station (order_of order.now).request }
-    ensures count { result.count ≡ receipts_of findings.now (order_of order.now) station }
-    ensures first { result.first ≡ first_copy findings.now (order_of order.now) station }
+/// What is asked of an order at each of its parties alike.
+#[derive(Clone, Copy)]
+struct Asked {
+    /// The digest of its request.
+    digest: Option<u64>,
+    /// How often it was sent, if its maker is recorded.
+    sends: Option<usize>,
+}
+
+/// What is asked of an order at each of its parties alike.
+fn asked_of<L: ExerciseLog>(findings: &Register<'_, L>, order: &Order<'_>) -> Asked
+    ensures digest { result.digest ≡ request_digest (order_of order.now).request }
+    ensures sends { result.sends ≡ sends_told findings.now (order_of order.now) }
 {
-    let gets = Gets {
-        findings,
-        station,
-        request: &order.request,
-    };
-    counted_entries(findings, key, &gets)
+    let digest = request_digest(&order.request);
+    Asked {
+        digest,
+        sends: sends_told(findings, order, digest),
+    }
 }
 
 /// What is told of an order at a recorded station: its log is gone through by the key of the order
@@ -124,8 +128,11 @@ fn copies_of<L: ExerciseLog>(
 fn outcome_here<L: ExerciseLog>(
     findings: &Register<'_, L>,
     order: &Order<'_>,
+    asked: Asked,
     station: u16,
 ) -> Outcome
+    requires digest { asked.digest ≡ request_digest (order_of order.now).request }
+    requires sends { asked.sends ≡ sends_told findings.now (order_of order.now) }
     ensures { result ≡ outcome_here findings.now (order_of order.now) station }
 {
     let replies = Replies {
@@ -133,32 +140,33 @@ fn outcome_here<L: ExerciseLog>(
         order,
         station,
     };
-    let key = replies.key();
-    let copies = copies_of(findings, order, station, key);
-    let replied = replied_to(&replies, key);
-    let news = news_of(&replies, key);
+    let gathered = gathered_of(&replies, key_under(station, asked.digest));
+    let said = gathered.replied.settled.or(gathered.replied.last);
+    let heard = gathered.news.settled.or(gathered.news.last);
     Outcome {
         party: Some(Party::Station(station)),
-        sends: sends_told(findings, order),
-        receipts: Some(copies.count),
-        got: copies.first,
-        said: word_of(findings, replied.telling()),
-        answer: replied.telling(),
-        heard: word_of(findings, news.telling()),
-        news: news.telling(),
-        took: took(findings, order, news.telling()),
-        change: replied.change,
-        fate: Fate::of(&traces_by(&replies, copies.first, replied, news)),
+        sends: asked.sends,
+        receipts: Some(gathered.copies.count),
+        got: gathered.copies.first,
+        said: said.word,
+        answer: said.entry,
+        heard: heard.word,
+        news: heard.entry,
+        took: took(findings, order, heard.entry),
+        change: gathered.replied.change,
+        fate: Fate::of(&traces_by(&replies, gathered)),
     }
 }
 
-/// What is told of an order at an address that nobody recorded.
+/// What is told of an order, which was sent so often, at an address that nobody recorded.
 #[tactic(auto, using(crate::proofs::Under::under_steps))]
 fn outcome_outside<L: ExerciseLog>(
     findings: &Register<'_, L>,
     order: &Order<'_>,
+    sends: Option<usize>,
     address: Outsider,
 ) -> Outcome
+    requires { sends ≡ sends_told findings.now (order_of order.now) }
     ensures { result ≡ outcome_outside findings.now (order_of order.now) address }
 {
     let told = ToldFrom {
@@ -169,7 +177,7 @@ fn outcome_outside<L: ExerciseLog>(
     let news = telling(findings, order.told_key(), &told);
     Outcome {
         party: Some(Party::Outside(address)),
-        sends: sends_told(findings, order),
+        sends,
         receipts: None,
         got: None,
         said: None,
@@ -188,7 +196,7 @@ fn outcome_nowhere<L: ExerciseLog>(findings: &Register<'_, L>, order: &Order<'_>
 {
     Outcome {
         party: None,
-        sends: sends_told(findings, order),
+        sends: asked_of(findings, order).sends,
         receipts: None,
         got: None,
         said: None,
@@ -206,13 +214,16 @@ fn outcome_nowhere<L: ExerciseLog>(findings: &Register<'_, L>, order: &Order<'_>
 fn outcome_at<L: ExerciseLog>(
     findings: &Register<'_, L>,
     order: &Order<'_>,
+    asked: Asked,
     party: Party,
 ) -> Outcome
+    requires digest { asked.digest ≡ request_digest (order_of order.now).request }
+    requires sends { asked.sends ≡ sends_told findings.now (order_of order.now) }
     ensures { result ≡ outcome_at findings.now (order_of order.now) party }
 {
     match party {
-        Party::Station(station) => outcome_here(findings, order, station),
-        Party::Outside(address) => outcome_outside(findings, order, address),
+        Party::Station(station) => outcome_here(findings, order, asked, station),
+        Party::Outside(address) => outcome_outside(findings, order, asked.sends, address),
     }
 }
 
@@ -225,9 +236,10 @@ fn outcomes_at<L: ExerciseLog>(
 ) -> Result<Vec<Outcome>, AllocError>
     ensures { IfOk result (λ outcomes. outcomes.items ≡ map (outcome_at findings.now (order_of order.now)) parties.now) }
 {
+    let asked = asked_of(findings, order);
     let mut outcomes = Vec::with_capacity(alloc, parties.len())?;
     for party in parties {
-        outcomes.push(outcome_at(findings, order, *party))?;
+        outcomes.push(outcome_at(findings, order, asked, *party))?;
     }
     Ok(outcomes)
 }

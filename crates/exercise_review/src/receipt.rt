@@ -5,9 +5,10 @@ ghost use Rattle.std.specs.Cmp.Rules.{comparing, hashing};
 ghost use Rattle.indexmap.specs.IndexMap.{get};
 ghost use Rattle.exercise_review.specs.declared.receipt.Receipt.{Receipt};
 ghost use Rattle.exercise_review.specs.Heard.{same_receipt, receipt_fed, receipts_alike, first_kept, AreHeard};
+ghost use Rattle.exercise_review.specs.Register.{AreKeys};
 ghost use borrow.Author.Rules.{rules};
 
-use exercise_model::{EntryView, ExerciseLog};
+use exercise_model::{EntryView, ExerciseLog, Form};
 use indexmap::IndexMap;
 use std::alloc::{AllocError, Global};
 use std::hash::{BuildHasherDefault, DefaultHasher, Hash, Hasher};
@@ -79,18 +80,24 @@ fn keep_receipt<'a>(
     Ok(())
 }
 
-/// Keeps the next entry, where it receives something.
+/// Keeps the next entry, where it receives something. In a recording that is not open what is received
+/// and has a key is a request, for which nobody looks.
 fn note_receipt<'a, L: ExerciseLog>(
     heard: &mut Heard<'a>,
     log: &'a L,
+    keys: &[Option<u64>],
     entry: usize,
 ) -> Result<(), AllocError>
+    requires keys { AreKeys (L.recording log.now) (length (L.recording log.now).entries) keys.now }
     requires within { entry < length (L.recording log.now).entries }
     requires tied { AreHeard (L.recording log.now) entry heard.old }
     ensures { OnOk result (AreHeard (L.recording log.now) (entry + 1) heard.new) }
 {
     match log.entry(entry) {
         EntryView::Received { station, bytes, .. } => {
+            if log.form() != Form::Open && keys[entry].is_some() {
+                return Ok(());
+            }
             keep_receipt(heard, Receipt { station, bytes }, entry)?;
             Ok(())
         }
@@ -99,16 +106,19 @@ fn note_receipt<'a, L: ExerciseLog>(
     }
 }
 
-/// Where each station of a log received each datagram first and last. What is kept takes memory.
+/// Where each station of a log, whose entries have these keys, received each datagram first and last
+/// that means no request. What is kept takes memory.
 pub(crate) fn heard_in<'a, L: ExerciseLog>(
     alloc: Global,
     log: &'a L,
+    keys: &[Option<u64>],
 ) -> Result<Heard<'a>, AllocError>
+    requires { AreKeys (L.recording log.now) (length (L.recording log.now).entries) keys.now }
     ensures { IfOk result (AreHeard (L.recording log.now) (length (L.recording log.now).entries)) }
 {
     let mut heard = no_receipts(alloc);
     for entry in 0..log.entry_count() {
-        note_receipt(&mut heard, log, entry)?;
+        note_receipt(&mut heard, log, keys, entry)?;
     }
     Ok(heard)
 }

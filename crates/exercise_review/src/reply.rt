@@ -11,8 +11,20 @@ use crate::order::{Gets, Order};
 use crate::question::Question;
 use crate::register::Register;
 use crate::walk::first_entry;
+use crate::word::Word;
 use exercise_model::ExerciseLog;
 use siman_pdus::answers;
+
+/// A reply of a station to an order.
+#[derive(Clone, Copy)]
+pub(crate) struct Reply<'a> {
+    /// Whether it settles the order.
+    pub settles: bool,
+    /// Its word.
+    pub word: Option<Word>,
+    /// Its bytes.
+    pub bytes: &'a [u8],
+}
 
 /// Where a station replies to an order.
 #[derive(Drop)]
@@ -41,7 +53,7 @@ impl<L: ExerciseLog> Replies<'_, L> {
     }
 
     /// Whether the request that an entry takes up is a copy of the order.
-    fn takes_copy(&self, entry: usize) -> bool
+    pub(crate) fn takes_copy(&self, entry: usize) -> bool
         ensures { result ≡ takes_copy self.now.findings.now (order_of self.now.order.now) self.now.station entry }
     {
         let copies = Gets {

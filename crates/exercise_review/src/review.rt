@@ -68,10 +68,11 @@ pub fn review_of<L: ExerciseLog>(
     let (told, spans) = lists(alloc, &register, &orders)?;
     let account = register.into_findings().into_account(alloc)?;
     let stations = stations_counted(alloc, log, &account, &orders, &told)?;
+    let fates = fates_of(alloc, &told)?;
     Ok(Review {
         orders: orders.len(),
         others: account.others(),
-        fates: fates_of(&told),
+        fates,
         stations,
         told,
         spans,

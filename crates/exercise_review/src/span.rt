@@ -14,13 +14,13 @@ use crate::course::Course;
 use crate::entries::meant_at;
 use crate::fault::ReviewFault;
 use crate::life::Stretch;
-use crate::living::{lives_in, may_live};
+use crate::living::{last_living, lives_in, may_live};
 use crate::outcome::stamp_at;
 use crate::parties::{parts_in, station_parts};
 use crate::party::Outsider;
 use crate::register::Register;
 use dis_records::{EntityId, EntityState};
-use exercise_model::{Change, ExerciseLog, LARGEST_ENTITY};
+use exercise_model::{Change, ExerciseLog};
 use siman_pdus::{PduView, request_id};
 use std::alloc::{AllocError, Global};
 
@@ -200,7 +200,8 @@ fn push_station<L: ExerciseLog>(
     ensures { AddsWithin most spans.old.items (spans_of findings.now station) result spans.new.items }
 {
     let course = Course::of(alloc, findings, station, changes)?;
-    for below in 0..LARGEST_ENTITY {
+    let opening = findings.log().station(usize::from(station)).opening();
+    for below in 0..last_living(&course, opening) {
         push_entity(alloc, spans, most, findings, station, below + 1, &course)?;
     }
     Ok(())

@@ -5,7 +5,7 @@ ghost use Rattle.exercise_model.specs.Account.{states_of, values_below};
 ghost use Rattle.exercise_findings.specs.Account.{TellsAccount};
 ghost use Rattle.exercise_review.specs.Order.{order_of};
 ghost use Rattle.exercise_review.specs.Told.{orders_of, orders_told};
-ghost use Rattle.exercise_review.specs.Tally.{fate_number, same_fate, is_fate, is_fate_at, passes_at, many, counts_by, fates_of, is_entry_of, is_made_by, is_running, fate_place, fate_places, entry_places, maker_places, AreCounted, station_counts};
+ghost use Rattle.exercise_review.specs.Tally.{fate_number, is_fate_at, passes_at, many, counts_by, fates_of, is_entry_of, is_made_by, is_running, fate_place, fate_places, fate_numbers, entry_places, maker_places, AreCounted, station_counts};
 ghost use Rattle.exercise_review.specs.declared.fate.Fate.{Fate};
 
 use crate::counting::{Placing, counts_of};
@@ -74,49 +74,31 @@ impl Fate {
     }
 }
 
-/// Which orders at their parties have a fate.
+/// Which fate each order at a party has.
 #[derive(Drop)]
-struct HaveFate<'a> {
+struct FateNumbers<'a> {
     told: &'a [OrderAt],
-    fate: Fate,
 }
 
-impl Question for HaveFate<'_> {
-    ghost test = { λ q. passes_at (is_fate q.fate) q.told.now };
+impl Placing for FateNumbers<'_> {
+    ghost places = { λ q. fate_numbers q.told.now };
 
-    #[tactic(auto, unfolding(crate::specs::Tally::passes_at))]
-    fn passes(&self, place: usize) -> bool {
-        match self.told.get(place) {
-            Some(told) => told.outcome.fate.number() == self.fate.number(),
-            None => false,
+    #[tactic(auto, unfolding(crate::specs::Tally::fate_numbers))]
+    fn place(&self, number: usize) -> Option<usize> {
+        match self.told.get(number) {
+            Some(told) => Some(usize::from(told.outcome.fate.number())),
+            None => None,
         }
     }
 }
 
-/// How many orders at their parties have a fate.
-#[tactic(auto, unfolding(crate::specs::Tally::many))]
-fn fated(told: &[OrderAt], fate: Fate) -> usize
-    ensures { result ≡ many (is_fate fate) told.now }
-{
-    count_below(&HaveFate { told, fate }, told.len())
-}
-
 /// How many of these orders at their parties have each fate.
-#[tactic(auto, unfolding(crate::specs::Tally::fates_of))]
-pub(crate) fn fates_of(told: &[OrderAt]) -> FateCounts
-    ensures { result ≡ fates_of told.now }
+#[tactic(auto, using(crate::proofs::Places::all_fates))]
+pub(crate) fn fates_of(alloc: Global, told: &[OrderAt]) -> Result<FateCounts, AllocError>
+    ensures { IfOk result (λ counts. counts ≡ fates_of told.now) }
 {
-    FateCounts {
-        done: fated(told, Fate::Done),
-        answered: fated(told, Fate::Answered),
-        refused: fated(told, Fate::Refused),
-        pending: fated(told, Fate::Pending),
-        unheard: fated(told, Fate::Unheard),
-        unanswered: fated(told, Fate::Unanswered),
-        lost: fated(told, Fate::Lost),
-        unknown: fated(told, Fate::Unknown),
-        nobody: fated(told, Fate::Nobody),
-    }
+    let counts = counts_of(alloc, &FateNumbers { told }, told.len(), FATES)?;
+    Ok(fates_from(&counts, 0))
 }
 
 /// Where an order at a party is counted, if that is a recorded station: each has a place for each fate.

@@ -1,7 +1,10 @@
 //! The words of answers, and which of several counts.
 
-ghost use Rattle.std.specs.Prelude.{◌≡◌, ◌<◌, length, option_map, option_and_then, IfSome};
+ghost use Rattle.std.specs.Prelude.{◌≡◌, ◌<◌, length, option_map, option_and_then, IfSome, None};
+ghost use Rattle.std.specs.Option.{option_or};
+ghost use Rattle.exercise_model.specs.Recording.{PlainRecording};
 ghost use Rattle.siman_pdus.specs.Reading.{body_of};
+ghost use Rattle.exercise_review.specs.Gathered.{IsSpoken};
 ghost use Rattle.exercise_review.specs.Register.{IsUnder};
 ghost use Rattle.exercise_review.specs.Word.{response_word, status_word, word_of, settles, word_at, settles_at, is_settling, first_settling, telling, word_text};
 
@@ -106,7 +109,7 @@ impl fmt::Display for Word {
 }
 
 /// Whether an answer with this body settles the order that it answers.
-fn settles(body: &BodyView<'_>) -> bool
+pub(crate) fn settles(body: &BodyView<'_>) -> bool
     ensures { result ≡ settles (body_of body.now) }
 {
     match body {
@@ -150,6 +153,48 @@ pub(crate) fn settles_at<L: ExerciseLog>(findings: &Register<'_, L>, entry: usiz
     match meant_at(findings, entry) {
         Some(pdu) => settles(&pdu.body),
         None => false,
+    }
+}
+
+/// An entry whose word may count, if there is one, and its word.
+#[derive(Clone, Copy)]
+pub(crate) struct Spoken {
+    pub entry: Option<usize>,
+    pub word: Option<Word>,
+}
+
+impl Spoken {
+    /// No entry.
+    pub(crate) fn nothing() -> Spoken
+        ensures entry { result.entry ≡ None }
+        ensures word { result.word ≡ None }
+    {
+        Spoken {
+            entry: None,
+            word: None,
+        }
+    }
+
+    /// An entry, if there is one, and its word.
+    pub(crate) fn at<L: ExerciseLog>(findings: &Register<'_, L>, entry: Option<usize>) -> Spoken
+        ensures entry { result.entry ≡ entry }
+        ensures word { IsSpoken findings.now result }
+    {
+        Spoken {
+            entry,
+            word: word_of(findings, entry),
+        }
+    }
+
+    /// This one, or another where there is none.
+    pub(crate) fn or(self, other: Spoken) -> Spoken
+        ensures entry { result.entry ≡ option_or self.entry other.entry }
+        ensures word { (r : PlainRecording) → IsSpoken r self → IsSpoken r other → IsSpoken r result }
+    {
+        match self.entry {
+            Some(_) => self,
+            None => other,
+        }
     }
 }
 

@@ -1,0 +1,46 @@
+-- The keys of entries, known one after the other.
+use Rattle.std.proofs.Common.{◌≡◌, ℕ, ◌+◌, ◌<◌, ◌≤◌, List, [], ◌∷◌, ◌++◌, length, true, false, Option, Some, None, refl, sym, ap, ◌∙◌, arith}
+use Rattle.std.specs.Prelude.{slice_index_or, slice_get, option_and_then, if◌then◌else◌}
+use Rattle.std.proofs.lemmas.Bool.{eq-eqb}
+use Rattle.std.proofs.lemmas.Option.{slice_get_past}
+use Rattle.siman_pdus.specs.declared.pdu.Pdu.{Pdu}
+use Rattle.siman_pdus.specs.Role.{is_request_body}
+use Rattle.exercise_model.specs.Entry.{Received}
+use Rattle.exercise_model.specs.Recording.{PlainRecording}
+use Rattle.exercise_model.specs.Meaning.{meaning}
+use Rattle.exercise_model.specs.Setting.{is_open}
+use Rattle.exercise_review.specs.Digest.{digest_of}
+use Rattle.exercise_review.specs.Entries.{bytes_got_by, bytes_got, got_by}
+use Rattle.exercise_review.specs.Register.{order_key, id_key, got_key, entry_key, key_at, AreKeys}
+use Rattle.exercise_review.proofs.Registered.{column_more}
+
+pub no_keys : (r : PlainRecording) → AreKeys r 0 []
+no_keys r = record { count = refl; each = λ j l. absurd (let no : ⊥ = omega (arith, l) in no) }
+
+pub keys_more : (r : PlainRecording) (n : ℕ) (keys : List (Option ℕ)) (key : Option ℕ) → AreKeys r n keys → key ≡ key_at r n → AreKeys r (n + 1) (keys ++ key ∷ [])
+keys_more r n keys key known here = column_more None (λ i x. x ≡ key_at r i) n keys key known here
+
+pub key_kept : (r : PlainRecording) (n i : ℕ) (keys : List (Option ℕ)) → AreKeys r n keys → i < n → slice_index_or keys i None ≡ key_at r i
+key_kept r n i keys known within = known.each i within
+
+-- past the last entry there is none
+pub key_beyond : (r : PlainRecording) (i : ℕ) → length r.entries ≤ i → None ≡ key_at r i
+unfolding key_at
+key_beyond r i beyond = sym (ap (option_and_then (entry_key r i)) (slice_get_past r.entries i beyond))
+
+-- what a station receives in a recording that is not open has the key of the request that it brings, and none of an answer
+pub known_key : (r : PlainRecording) (s i stamp : ℕ) (b : List ℕ) → slice_get r.entries i ≡ Some (Received s stamp b) → is_open r.setting.form ≡ false
+    → key_at r i ≡ option_and_then (order_key s) (got_by r s i)
+unfolding key_at got_key order_key got_by bytes_got
+known_key r s i stamp b at closed =
+    ap (option_and_then (entry_key r i)) at
+    ∙ of_meaning (meaning r.setting.exercise b)
+    ∙ sym (ap (λ o. option_and_then (order_key s) (option_and_then (meaning r.setting.exercise) (option_and_then (bytes_got_by s) o))) at
+    ∙ ap (λ c. option_and_then (order_key s) (option_and_then (meaning r.setting.exercise) (if c then Some b else None))) (eq-eqb s s refl))
+  where
+    of_meaning : (m : Option Pdu) → option_and_then (got_key r.setting.form s) m ≡ option_and_then (order_key s) m
+    of_meaning None = refl
+    of_meaning (Some p) =
+        ap (λ c. if is_request_body p.body then order_key s p else (if c then id_key s p else None)) closed
+        ∙ elim (is_request_body p.body) as
+        (λ c. (if c then (if c then Some (digest_of s p) else None) else None) ≡ (if c then Some (digest_of s p) else None)) [ true ↦ refl | false ↦ refl ]

@@ -1,0 +1,198 @@
+use Rattle.std.proofs.Common.{◌≡◌, ◌≤◌, ◌+◌, ℕ, suc, length, Bool, true, false, Option, Some, None, sym, ap, ◌∙◌, subst, arith}
+use Rattle.std.specs.Prelude.{◌&&◌, is_some, if◌then◌else◌}
+use Rattle.std.specs.Option.{option_or}
+use Rattle.std.proofs.lemmas.Bool.{and_parts}
+use Rattle.exercise_model.specs.Recording.{PlainRecording}
+use Rattle.exercise_model.specs.Account.{change_at}
+use Rattle.exercise_review.specs.declared.reply.Reply.{Reply}
+use Rattle.exercise_review.specs.Gathered.{first_news, last_news}
+use Rattle.exercise_review.specs.News.{earlier}
+use Rattle.exercise_review.specs.Order.{OrderData, order_of}
+use Rattle.exercise_review.specs.Party.{is_copy, first_copy}
+use Rattle.exercise_review.specs.Register.{has_key, IsUnder}
+use Rattle.exercise_review.specs.Reply.{is_reply, is_news, is_changing_reply, change_of_order}
+use Rattle.exercise_review.specs.Word.{is_settling, first_settling}
+use Rattle.exercise_review.proofs.Replied.{IsLeast, IsGreatest, IsFoundAt, hears, least_starts, greatest_starts, least_on, greatest_on, least_ends, greatest_ends, settled_news, all_news, spoken_there, first_is_news, last_is_news, no_reply_no_news}
+use Rattle.exercise_review.proofs.Under.{copy_has, reply_has}
+use Rattle.exercise_review.proofs.Walks.{past, IsCountOn, IsFirstOn, IsLatestOn, on_last, lower, count_starts, count_on, count_ends, first_starts, first_on, first_ends, latest_starts, latest_on, latest_ends}
+use Rattle.exercise_review.proofs.gathered.gathered_under.Goals as goal
+
+pub loop-next-init : goal.loop-next-init
+unfolding is_changing_reply
+loop-next-init g c =
+    let r : PlainRecording = c.args.replies.now.findings.now in
+    let o : OrderData = order_of c.args.replies.now.order.now in
+    let t : ℕ = c.args.replies.now.station in
+    let h = has_key r c.args.key in
+    let n : ℕ = length r.entries in
+    let next : Option ℕ = c.last_under-next.result in
+    let e = c.last_under-next.ensures in
+    let less = lower h n next e in
+    let copies = copy_has r o t c.args.key c.requires in
+    let under = reply_has r o t c.args.key c.requires in
+    let settling : IsUnder r (is_settling r (is_reply r o t)) c.args.key = λ j p. under j (and_parts (is_reply r o t j) _ p).0 in
+    let changing : IsUnder r (is_changing_reply r o t) c.args.key = λ j p. under j (and_parts (is_reply r o t j) _ p).0 in
+    let none = c.nothing_gathered-gathered.ensures in
+    record {
+      on = on_last h n n next e (omega arith);
+      room = omega (arith, less, none.copies.0);
+      count = subst (IsCountOn (is_copy r o t) n next) (sym none.copies.0) (count_starts (is_copy r o t) h n next copies e);
+      first = subst (IsFirstOn (is_copy r o t) n next) (sym none.copies.1) (first_starts (is_copy r o t) h n next copies e);
+      settled = subst (IsFirstOn (is_settling r (is_reply r o t)) n next) (sym none.replied.0) (first_starts (is_settling r (is_reply r o t)) h n next settling e);
+      last = subst (IsLatestOn (is_reply r o t) n next) (sym none.replied.1.0) (latest_starts (is_reply r o t) h n next under e);
+      change = subst (IsFirstOn (is_changing_reply r o t) n next) (sym none.replied.1.1) (first_starts (is_changing_reply r o t) h n next changing e);
+      heard = subst (IsLeast (is_settling r (is_reply r o t)) (hears r o.maker t) n (past next)) (sym none.news.0)
+          (least_starts (is_settling r (is_reply r o t)) h (hears r o.maker t) n next settling e);
+      news = subst (IsGreatest (is_reply r o t) (hears r o.maker t) n (past next)) (sym none.news.1)
+          (greatest_starts (is_reply r o t) h (hears r o.maker t) n next under e);
+      words = none.words r;
+    }
+
+pub with_copy-requires : goal.with_copy-requires
+with_copy-requires g c =
+    let room = rw c.in-Some.is at c.loop-next.invariant.room in
+    let end = c.entry_count-end.ensures.count ∙ ap (λ (r : PlainRecording). length r.entries) c.log.ensures in
+    omega (arith, room, end, c.entry_count-end.type_inv)
+
+pub loop-next-smaller : goal.loop-next-smaller
+loop-next-smaller g c =
+    let less = lower (has_key c.args.replies.now.findings.now c.args.key) c.in-Some.entry c.before-next.result c.before-next.ensures in
+    omega (arith, less, ap past c.in-Some.is)
+
+pub loop-next-preserved : goal.loop-next-preserved
+unfolding is_changing_reply
+loop-next-preserved g c =
+    let r : PlainRecording = c.args.replies.now.findings.now in
+    let o : OrderData = order_of c.args.replies.now.order.now in
+    let t : ℕ = c.args.replies.now.station in
+    let h = has_key r c.args.key in
+    let n : ℕ = length r.entries in
+    let j : ℕ = c.in-Some.entry in
+    let next : Option ℕ = c.before-next.result in
+    let e = c.before-next.ensures in
+    let copied = is_copy r o t in
+    let reply = is_reply r o t in
+    let settling = is_settling r reply in
+    let changing = is_changing_reply r o t in
+    let was = c.loop-next.gathered in
+    let found : Option Reply = c.part_at-part.result.reply in
+    let copies = copy_has r o t c.args.key c.requires in
+    let under = reply_has r o t c.args.key c.requires in
+    let settling_under : (i : ℕ) → settling i ≡ true → h i ≡ true = λ i q. under i (and_parts (reply i) _ q).0 in
+    let changing_under : (i : ℕ) → changing i ≡ true → h i ≡ true = λ i q. under i (and_parts (reply i) _ q).0 in
+    let is : IsFoundAt r o t j found = (c.part_at-part.ensures.reply, c.part_at-part.ensures.bytes) in
+    let at = rw c.in-Some.is at c.loop-next.invariant.on in
+    let room = rw c.in-Some.is at c.loop-next.invariant.room in
+    let count : IsCountOn copied n (Some j) was.copies.count = rw c.in-Some.is at c.loop-next.invariant.count in
+    let first : IsFirstOn copied n (Some j) was.copies.first = rw c.in-Some.is at c.loop-next.invariant.first in
+    let settled : IsFirstOn settling n (Some j) was.replied.settled.entry = rw c.in-Some.is at c.loop-next.invariant.settled in
+    let last : IsLatestOn reply n (Some j) was.replied.last.entry = rw c.in-Some.is at c.loop-next.invariant.last in
+    let change : IsFirstOn changing n (Some j) was.replied.change = rw c.in-Some.is at c.loop-next.invariant.change in
+    let heard : IsLeast settling (hears r o.maker t) n (suc j) was.news.settled.entry = rw c.in-Some.is at c.loop-next.invariant.heard in
+    let news : IsGreatest reply (hears r o.maker t) n (suc j) was.news.last.entry = rw c.in-Some.is at c.loop-next.invariant.news in
+    let less = lower h j next e in
+    let one = c.with_copy.ensures.count ∙ ap (λ (b : Bool). (if b then 1 else 0) + was.copies.count) c.part_at-part.ensures.copy in
+    let counted = count_on copied h n j was.copies.count next copies e count in
+    let most = at_most_one c.part_at-part.result.is_copy in
+    record {
+      on = on_last h n j next e (omega (arith, at.0));
+      room = omega (arith, less, room, c.with_copy.ensures.count, most);
+      count = omega (arith, counted, one);
+      first = subst (IsFirstOn copied n next)
+          (sym (c.with_copy.ensures.first ∙ ap (λ (b : Bool). option_or (if b then Some j else None) was.copies.first) c.part_at-part.ensures.copy))
+          (first_on copied h n j next was.copies.first copies e first);
+      settled = subst (IsFirstOn settling n next)
+          (sym (c.with_reply.ensures.settled ∙ ap (λ (b : Bool). option_or (if b then Some j else None) was.replied.settled.entry) c.part_at-part.ensures.settles))
+          (first_on settling h n j next was.replied.settled.entry settling_under e settled);
+      last = subst (IsLatestOn reply n next)
+          (sym (c.with_reply.ensures.last ∙ ap (λ (b : Bool). option_or was.replied.last.entry (if b then Some j else None)) is.0))
+          (latest_on reply h n j next was.replied.last.entry under e last);
+      change = subst (IsFirstOn changing n next)
+          (sym (c.with_reply.ensures.change ∙ ap (λ (b : Bool). option_or (if b && is_some (change_at r j) then Some j else None) was.replied.change) is.0))
+          (first_on changing h n j next was.replied.change changing_under e change);
+      heard = subst (IsLeast settling (hears r o.maker t) n (past next))
+          (sym (c.with_news.ensures.settled
+          ∙ ap (λ (b : Bool). if b then earlier was.news.settled.entry (first_news r o.maker found) else was.news.settled.entry) c.part_at-part.ensures.settles))
+          (least_on settling h (hears r o.maker t) n j next was.news.settled.entry (first_news r o.maker found) settling_under e at.0
+          (λ settles. first_is_news r o t j o.maker found (and_parts (reply j) _ settles).0 is) heard);
+      news = subst (IsGreatest reply (hears r o.maker t) n (past next)) (sym c.with_news.ensures.last)
+          (greatest_on reply h (hears r o.maker t) n j next was.news.last.entry (last_news r o.maker found) under e at.0
+          (λ replies. last_is_news r o t j o.maker found replies is) (λ none. no_reply_no_news r o t j o.maker found none is) news);
+      words = record {
+        settled = c.with_reply.ensures.words.0;
+        last = c.with_reply.ensures.words.1;
+        heard = c.with_news.ensures.words.0;
+        heard_last = c.with_news.ensures.words.1;
+      };
+    }
+  where
+    at_most_one : (b : Bool) → (if b then 1 else 0) ≤ 1
+    at_most_one true = omega arith
+    at_most_one false = omega arith
+
+pub returns-clause-count : goal.returns-clause-count
+returns-clause-count g c =
+    let r : PlainRecording = c.args.replies.now.findings.now in
+    count_ends (is_copy r (order_of c.args.replies.now.order.now) c.args.replies.now.station) (length r.entries) c.loop-next.gathered.copies.count
+    (rw c.in_default.is at c.loop-next.invariant.count)
+
+pub returns-clause-first : goal.returns-clause-first
+unfolding first_copy
+returns-clause-first g c =
+    let r : PlainRecording = c.args.replies.now.findings.now in
+    first_ends (is_copy r (order_of c.args.replies.now.order.now) c.args.replies.now.station) (length r.entries) c.loop-next.gathered.copies.first
+    (rw c.in_default.is at c.loop-next.invariant.first)
+
+pub returns-clause-settled : goal.returns-clause-settled
+unfolding first_settling
+returns-clause-settled g c =
+    let r : PlainRecording = c.args.replies.now.findings.now in
+    first_ends (is_settling r (is_reply r (order_of c.args.replies.now.order.now) c.args.replies.now.station)) (length r.entries) c.loop-next.gathered.replied.settled.entry
+    (rw c.in_default.is at c.loop-next.invariant.settled)
+
+pub returns-clause-last : goal.returns-clause-last
+returns-clause-last g c =
+    let r : PlainRecording = c.args.replies.now.findings.now in
+    latest_ends (is_reply r (order_of c.args.replies.now.order.now) c.args.replies.now.station) (length r.entries) c.loop-next.gathered.replied.last.entry
+    (rw c.in_default.is at c.loop-next.invariant.last)
+
+pub returns-clause-change : goal.returns-clause-change
+unfolding change_of_order
+returns-clause-change g c =
+    let r : PlainRecording = c.args.replies.now.findings.now in
+    first_ends (is_changing_reply r (order_of c.args.replies.now.order.now) c.args.replies.now.station) (length r.entries) c.loop-next.gathered.replied.change
+    (rw c.in_default.is at c.loop-next.invariant.change)
+
+pub returns-clause-heard : goal.returns-clause-heard
+unfolding first_settling
+returns-clause-heard g c =
+    let r : PlainRecording = c.args.replies.now.findings.now in
+    let o : OrderData = order_of c.args.replies.now.order.now in
+    let t : ℕ = c.args.replies.now.station in
+    least_ends (is_settling r (is_reply r o t)) (hears r o.maker t) (length r.entries) c.loop-next.gathered.news.settled.entry (is_settling r (is_news r o t))
+    (settled_news r o t) (rw c.in_default.is at c.loop-next.invariant.heard)
+
+pub returns-clause-news : goal.returns-clause-news
+returns-clause-news g c =
+    let r : PlainRecording = c.args.replies.now.findings.now in
+    let o : OrderData = order_of c.args.replies.now.order.now in
+    let t : ℕ = c.args.replies.now.station in
+    greatest_ends (is_reply r o t) (hears r o.maker t) (length r.entries) c.loop-next.gathered.news.last.entry (is_news r o t)
+    (all_news r o t) (rw c.in_default.is at c.loop-next.invariant.news)
+
+pub with_reply-requires-clause-settled : goal.with_reply-requires-clause-settled
+with_reply-requires-clause-settled g c = c.loop-next.invariant.words.settled
+
+pub with_reply-requires-clause-last : goal.with_reply-requires-clause-last
+with_reply-requires-clause-last g c = c.loop-next.invariant.words.last
+
+pub with_reply-requires-clause-word : goal.with_reply-requires-clause-word
+with_reply-requires-clause-word g c =
+    spoken_there c.args.replies.now.findings.now c.args.replies.now.station c.in-Some.entry c.part_at-part.result.reply
+    c.part_at-part.ensures.bytes c.part_at-part.ensures.word
+
+pub with_news-requires-clause-settled : goal.with_news-requires-clause-settled
+with_news-requires-clause-settled g c = c.loop-next.invariant.words.heard
+
+pub with_news-requires-clause-last : goal.with_news-requires-clause-last
+with_news-requires-clause-last g c = c.loop-next.invariant.words.heard_last

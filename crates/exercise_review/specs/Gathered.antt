@@ -1,0 +1,41 @@
+-- What the logs of its maker and of a party say of an order, gathered from the last entry back to the first (profile).
+use Rattle.std.specs.Prelude.{◌≡◌, ℕ, List, length, Bool, false, Option, option_and_then}
+use Rattle.std.specs.Option.{option_map_or}
+use Rattle.exercise_model.specs.Recording.{PlainRecording}
+use Rattle.exercise_model.specs.Place.{first_below}
+use Rattle.exercise_model.specs.Meaning.{meaning}
+use Rattle.exercise_review.specs.declared.reply.Reply.{Reply}
+use Rattle.exercise_review.specs.declared.answered.Replied.{Replied}
+use Rattle.exercise_review.specs.declared.news.HeardNews.{HeardNews}
+use Rattle.exercise_review.specs.declared.word.Spoken.{Spoken}
+use Rattle.exercise_review.specs.declared.word.Word.{Word}
+use Rattle.exercise_review.specs.Counted.{last_below}
+use Rattle.exercise_review.specs.Heard.{gets_in}
+use Rattle.exercise_review.specs.Word.{word_of, word_at}
+
+-- there is a reply, and it settles
+abbrev pub settles_in : Option Reply → Bool
+settles_in reply = option_map_or (λ (x : Reply). x.settles) reply false
+
+-- the first entry at which a maker, if there is one, receives a reply, if it is one
+abbrev pub first_news : PlainRecording → (maker : Option ℕ) → Option Reply → Option ℕ
+first_news r maker reply = option_and_then (λ s. option_and_then (λ (x : Reply). first_below (gets_in r s x.bytes.now) (length r.entries)) reply) maker
+
+-- and the last
+abbrev pub last_news : PlainRecording → (maker : Option ℕ) → Option Reply → Option ℕ
+last_news r maker reply = option_and_then (λ s. option_and_then (λ (x : Reply). last_below (gets_in r s x.bytes.now) (length r.entries)) reply) maker
+
+-- the word of these bytes
+abbrev pub word_in : PlainRecording → List ℕ → Option Word
+word_in r b = option_and_then (λ p. word_of p.body) (meaning r.setting.exercise b)
+
+-- what is kept of an entry is its word
+abbrev pub IsSpoken : PlainRecording → Spoken → Type 0
+IsSpoken r x = x.word ≡ option_and_then (word_at r) x.entry
+
+-- what is kept of the replies, and of what was heard of them, are their words
+pub record AreSpoken (r : PlainRecording) (replied : Replied) (news : HeardNews) : Type 0 where
+  pub settled : IsSpoken r replied.settled
+  pub last : IsSpoken r replied.last
+  pub heard : IsSpoken r news.settled
+  pub heard_last : IsSpoken r news.last

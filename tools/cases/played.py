@@ -6,6 +6,7 @@ import socket
 import subprocess
 import threading
 import time
+from pathlib import Path
 
 from cases.trials import PATIENCE
 from pages import Outcome
@@ -16,14 +17,22 @@ PORTS = itertools.count(10_000 + os.getpid() % 20 * 1_000)
 LOCK = threading.Lock()
 
 
+def ports_in_use():
+    """The ports at which sockets are, as the system tells them. No socket is bound to try one: a child that another thread
+    starts at that moment would hold it until it runs its program, and the port with it."""
+    with contextlib.suppress(FileNotFoundError):
+        rows = Path("/proc/net/udp").read_text(encoding="ascii").splitlines()[1:]
+        return {int(row.split()[1].rpartition(":")[2], 16) for row in rows}
+    return set()
+
+
 def free_address():
     """An address of the loopback that nobody uses, and that is given once."""
     while True:
         with LOCK:
-            address = "127.0.0.1", next(PORTS)
-        with socket.socket(socket.AF_INET, socket.SOCK_DGRAM) as it, contextlib.suppress(OSError):
-            it.bind(("0.0.0.0", address[1]))
-            return address
+            port = next(PORTS)
+        if port not in ports_in_use():
+            return "127.0.0.1", port
 
 
 def word_of(address):

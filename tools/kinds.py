@@ -14,6 +14,7 @@ The kinds:
   records     Set Data of 10 fixed and 5 variable datums, and their answers
   colliding   Set Data that a hasher which multiplies by a known number can't tell apart, sent and received
   repeated    requests that are each sent and received 8 times, with other timestamps, and answered each time
+  broadcasts  256 stations: the first stops and starts all entities of all, and each of the others answers
 
 Kinds, numbers and orders are the same each time. A file ends at 1,048,576 entries, or at 268,435,456 bytes, which a
 recording of 'large' would pass at 33,000 and so ends before.
@@ -183,6 +184,20 @@ def repeated(count):
     return run
 
 
+def broadcasts(count):
+    run = Run(256, {station: [(1, 1)] for station in range(1, 256)})
+    others = range(1, 256)
+    for number in range(count // (1 + 3 * len(others))):
+        kind = STOP if number % 2 else START
+        asked = request(kind, 0, (ALL, ALL), ALL, number)
+        sent = run.send(0, asked)
+        received = [run.receive(station, asked, sent) for station in others]
+        for station, link in zip(others, received):
+            answer = able(kind, station, 0, 0, number)
+            run.receive(0, answer, run.send(station, answer, link))
+    return run
+
+
 def reversed_logs(count):
     return stations(count)
 
@@ -190,6 +205,7 @@ def reversed_logs(count):
 KINDS = {
     "stations": stations, "alone": alone, "reversed": reversed_logs, "waits": waits, "keys": keys, "scopes": scopes,
     "told": told, "large": large, "records": records, "colliding": colliding, "repeated": repeated,
+    "broadcasts": broadcasts,
 }
 
 

@@ -18,7 +18,7 @@ use std::alloc::{AllocError, Global};
 
 /// The entities of each station that are not Absent after its log.
 #[tactic(auto, using(exercise_model::proofs::Offered::account_steps))]
-fn states<L: ExerciseLog>(
+pub(crate) fn states<L: ExerciseLog>(
     alloc: Global,
     log: &L,
     tables: &Tables,

@@ -1,17 +1,17 @@
 //! What the log of each station says of its own entries.
 
-ghost use Rattle.std.specs.Prelude.{◌≡◌, ◌<◌, ◌≤◌, length, IfOk, OnOk, IfSome};
+ghost use Rattle.std.specs.Prelude.{◌≡◌, ◌<◌, ◌≤◌, length, map, IfOk, OnOk, IfSome};
 ghost use Rattle.exercise_model.specs.Recording.{PlainRecording, IsRecording};
 ghost use Rattle.exercise_model.specs.History.{station_at};
 ghost use Rattle.exercise_model.specs.State.{state_after};
 ghost use Rattle.exercise_model.specs.Place.{log_before};
-ghost use Rattle.exercise_model.specs.Account.{pair_of, change_at};
+ghost use Rattle.exercise_model.specs.Account.{pair_of, change_at, entities_of, values_below, others_of};
 ghost use Rattle.exercise_findings.specs.Account.{TellsAccount};
 ghost use Rattle.exercise_findings.specs.Source.{source_of};
 ghost use Rattle.exercise_findings.specs.Tables.{AreFindings, own_cause};
 
 use crate::account::Account;
-use crate::accounting::account;
+use crate::accounting::{account, states};
 use crate::earlier::{request_in, source_kept};
 use crate::made::state_made_before;
 use crate::pass::{Passed, find, settle};
@@ -119,6 +119,22 @@ impl<'a, L: ExerciseLog> Findings<'a, L> {
         ensures { result ≡ state_after self.now.setting.exercise (station_at self.now station) (log_before self.now station entry) entity }
     {
         state_made_before(self.log, &self.found.changes, station, entity, entry)
+    }
+
+    /// The entities of each station, by rising indices, that are not Absent after its log, by rising
+    /// numbers, with their states.
+    pub fn states(&self, alloc: Global) -> Result<Vec<Vec<(u16, EntityState)>>, AllocError>
+        ensures { IfOk result (λ states. map (λ v. v.items) states.items ≡ values_below (entities_of self.now) (length self.now.setting.stations)) }
+    {
+        states(alloc, self.log, &self.found.tables)
+    }
+
+    /// How many datagrams are "other". It takes no memory.
+    #[tactic(auto, using(crate::proofs::Looks::others_whole))]
+    pub fn others(&self) -> u32
+        ensures { result ≡ others_of self.now }
+    {
+        self.found.others
     }
 
     /// The account of the recording.

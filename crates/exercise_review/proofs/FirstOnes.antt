@@ -9,7 +9,7 @@ use Rattle.exercise_review.specs.Counted.{last_below}
 use Rattle.exercise_review.proofs.Runs.{none_passes}
 use Rattle.exercise_review.proofs.Walks.{past, jump, first_still}
 
-off : (b : Bool) → (b ≡ true → ⊥) → b ≡ false
+pub off : (b : Bool) → (b ≡ true → ⊥) → b ≡ false
 off true never = absurd (never refl)
 off false never = refl
 

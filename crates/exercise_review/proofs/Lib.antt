@@ -15,6 +15,7 @@ mod Orders
 mod Heads
 mod Walks
 mod Digests
+mod Ends
 mod Registered
 mod KnownKeys
 mod Under

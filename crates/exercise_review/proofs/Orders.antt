@@ -1,57 +1,143 @@
 -- Orders one after the other, and what is told of them, as loops make it.
-use Rattle.std.proofs.Common.{◌≡◌, ℕ, zero, suc, ◌+◌, ◌<◌, ◌≤◌, List, [], ◌∷◌, ◌++◌, length, take, get_or, map, Some, None, sym, ap, ◌∙◌, subst, arith}
-use Rattle.std.specs.Prelude.{Result, Ok, Err}
+use Rattle.std.proofs.Common.{◌≡◌, ⊎_elim, ℕ, zero, suc, ◌+◌, ◌<◌, ◌≤◌, List, [], ◌∷◌, ◌++◌, length, map, Bool, true, false, Option, Some, None, refl, sym, ap, ◌∙◌, append-nil, subst, arith}
+use Rattle.std.specs.Prelude.{Result, Ok, Err, OnOk, slice_get, slice_index_or, option_map, option_and_then, if◌then◌else◌}
 use Rattle.std.specs.List.{flat_map}
 use Rattle.std.specs.Option.{option_to_list}
 use Rattle.std.specs.Result.{IsErrAnd}
-use Rattle.std.proofs.lemmas.List.{length-append}
+use Rattle.std.proofs.lemmas.Grind.{flat_map-append}
+use Rattle.std.proofs.lemmas.Bool.{cases_lt}
+use Rattle.std.proofs.lemmas.List.{map-append}
+use Rattle.std.proofs.lemmas.Option.{slice_get_past}
+use Rattle.siman_pdus.specs.declared.pdu.Pdu.{Pdu}
+use Rattle.siman_pdus.specs.Answers.{same_id}
+use Rattle.exercise_model.specs.Entry.{Entry, Sent, Received, Told}
+use Rattle.exercise_model.specs.Meaning.{meaning}
 use Rattle.exercise_model.specs.Recording.{PlainRecording}
 use Rattle.exercise_review.specs.declared.fault.ReviewFault.{ReviewFault}
 use Rattle.exercise_review.specs.declared.fault.ReviewFault.TheVariants.{OverLimit, Memory}
-use Rattle.exercise_review.specs.Order.{OrderData, order_at}
+use Rattle.exercise_review.specs.declared.told.OrderAt.{OrderAt}
+use Rattle.exercise_review.specs.declared.told.Told as lists
+use Rattle.exercise_review.specs.Order.{OrderData, made_by, order_of_entry, head_of, order_at}
 use Rattle.exercise_review.specs.Room.{lists_below, AddsWithin}
-use Rattle.exercise_review.specs.Told.{orders_at}
-use Rattle.exercise_review.proofs.Lists.{lists_more}
-use Rattle.exercise_review.proofs.Lives.{append_none}
+use Rattle.exercise_review.specs.Counted.{count_at}
+use Rattle.exercise_review.specs.Tally.{makers_of, entry_places, IsTold, TellsWithin}
+use Rattle.exercise_review.specs.Told.{order_at_parties, orders_at, told_at, orders_of, orders_told}
+use Rattle.exercise_review.proofs.Lists.{lists_none, lists_more, part_below}
+use Rattle.exercise_review.proofs.Tallies.{none_counted}
 
-pub order_more : (r : PlainRecording) (k : ℕ) (o : OrderData) (xs ys : List OrderData) → order_at r k ≡ Some o → xs ≡ lists_below (orders_at r) k
-    → ys ≡ xs ++ o ∷ [] → ys ≡ lists_below (orders_at r) (k + 1)
-order_more r k o xs ys at before here =
-    here ∙ ap (λ zs. zs ++ o ∷ []) before ∙ ap (λ x. lists_below (orders_at r) k ++ option_to_list x) (sym at) ∙ sym (lists_more (orders_at r) k)
+-- ---- heads
 
-pub order_none : (r : PlainRecording) (k : ℕ) (xs : List OrderData) → order_at r k ≡ None → xs ≡ lists_below (orders_at r) k → xs ≡ lists_below (orders_at r) (k + 1)
-order_none r k xs at before =
-    before ∙ sym (append_none (lists_below (orders_at r) k)) ∙ ap (λ x. lists_below (orders_at r) k ++ option_to_list x) (sym at) ∙ sym (lists_more (orders_at r) k)
+-- an order stands at its head
+pub at_head : (r : PlainRecording) (i : ℕ) (o : OrderData) → order_at r i ≡ Some o → order_at r o.head ≡ Some o
+unfolding order_at
+at_head r i o at = let head : o.head ≡ i = here (same_id (head_of r i) (Some i)) (slice_get r.entries i) at in ap (order_at r) head ∙ at
+  where
+    of_pdu : (maker : Option ℕ) (m : Option Pdu) → option_map (made_by i maker) m ≡ Some o → o.head ≡ i
+    of_pdu maker None e = absurd (cc)
+    of_pdu maker (Some p) e = let same : made_by i maker p ≡ o = cc in ap (λ (x : OrderData). x.head) (sym same)
 
--- what is told of the first so many and of one more is no more than what is told of all
-flat_part : {X Y Z : Type 0} (f : Y → List Z) (v : X → Y) (xs : List X) (k : ℕ) (d : X) → k < length xs
-    → length (flat_map f (map v (take k xs))) + length (f (v (get_or xs k d))) ≤ length (flat_map f (map v xs))
-flat_part f v [] k d l = absurd (let no : ⊥ = omega (arith, l) in no)
-flat_part f v (x ∷ xs) zero d l = omega (arith, length-append (f (v x)) (flat_map f (map v xs)))
-flat_part f v (x ∷ xs) (suc k) d l =
-    omega (
-      arith,
-      flat_part f v xs k d (omega (arith, l)),
-      length-append (f (v x)) (flat_map f (map v (take k xs))),
-      length-append (f (v x)) (flat_map f (map v xs)),
-    )
+    of_entry : (e : Option Entry) → option_and_then (order_of_entry r i) e ≡ Some o → o.head ≡ i
+    of_entry None e = absurd (cc)
+    of_entry (Some (Sent s stamp b)) e = of_pdu (Some s) (meaning r.setting.exercise b) e
+    of_entry (Some (Received s stamp b)) e = of_pdu None (meaning r.setting.exercise b) e
+    of_entry (Some (Told s n y)) e = absurd (cc)
 
-too_many : {X Y Z : Type 0} (old part : List Z) (f : Y → List Z) (v : X → Y) (xs : List X) (k most : ℕ) (d : X) → k < length xs
-    → part ≡ old ++ flat_map f (map v (take k xs)) → most < length part + length (f (v (get_or xs k d)))
-    → most < length old + length (flat_map f (map v xs))
-too_many old part f v xs k most d l same over =
-    omega (arith, flat_part f v xs k d l, over, ap length same, length-append old (flat_map f (map v (take k xs))))
+    here : (b : Bool) (e : Option Entry) → (if b then option_and_then (order_of_entry r i) e else None) ≡ Some o → o.head ≡ i
+    here true e is = of_entry e is
+    here false e is = absurd (cc)
 
-ends : {X Y Z : Type 0} (old part new last : List Z) (f : Y → List Z) (v : X → Y) (xs : List X) (k most : ℕ) (d : X) (e : ReviewFault) → k < length xs
-    → part ≡ old ++ flat_map f (map v (take k xs)) → AddsWithin most part (f (v (get_or xs k d))) (Err e) new
-    → AddsWithin most old (flat_map f (map v xs)) (Err e) last
-ends old part new last f v xs k most d OverLimit l same over = too_many old part f v xs k most d l same over
-ends old part new last f v xs k most d Memory l same over = tt
+-- and is one of the entries
+pub among_entries : (r : PlainRecording) (i : ℕ) (o : OrderData) → order_at r i ≡ Some o → i < length r.entries
+unfolding order_at
+among_entries r i o at =
+    ⊎_elim
+    (λ (below : i < length r.entries). below)
+    (λ (beyond : length r.entries ≤ i). absurd (none (same_id (head_of r i) (Some i))
+    (sym (ap (λ (e : Option Entry). if same_id (head_of r i) (Some i) then option_and_then (order_of_entry r i) e else None) (slice_get_past r.entries i beyond)) ∙ at)))
+    (cases_lt i (length r.entries))
+  where
+    none : (b : Bool) → (if b then None else None) ≡ Some o → ⊥
+    none true e = cc
+    none false e = cc
+
+-- ---- one entry more
+
+-- what is told of an entry
+pub told_there : (r : PlainRecording) (k : ℕ) (o : OrderData) → order_at r k ≡ Some o → told_at r k ≡ order_at_parties r o
+told_there r k o at = ap (λ x. flat_map (order_at_parties r) (option_to_list x)) at ∙ append-nil (order_at_parties r o)
+
+pub nothing_there : (r : PlainRecording) (k : ℕ) → order_at r k ≡ None → told_at r k ≡ []
+nothing_there r k at = ap (λ x. flat_map (order_at_parties r) (option_to_list x)) at
+
+pub makers_more : (r : PlainRecording) (k : ℕ) (o : OrderData) → order_at r k ≡ Some o
+    → makers_of (lists_below (orders_at r) (k + 1)) ≡ makers_of (lists_below (orders_at r) k) ++ o.maker ∷ []
+makers_more r k o at =
+    ap makers_of (lists_more (orders_at r) k ∙ ap (λ x. lists_below (orders_at r) k ++ option_to_list x) at)
+    ∙ map-append (λ (x : OrderData). x.maker) (lists_below (orders_at r) k) (o ∷ [])
+
+pub makers_still : (r : PlainRecording) (k : ℕ) → order_at r k ≡ None → makers_of (lists_below (orders_at r) (k + 1)) ≡ makers_of (lists_below (orders_at r) k)
+makers_still r k at =
+    ap makers_of (lists_more (orders_at r) k ∙ ap (λ x. lists_below (orders_at r) k ++ option_to_list x) at ∙ append-nil (lists_below (orders_at r) k))
+
+pub told_none : (r : PlainRecording) (t : lists.Told) → length t.records.items ≡ length r.setting.stations
+    → ((s : ℕ) → s < length r.setting.stations → slice_index_or t.records.items s 0 ≡ 0) → t.makers.items ≡ [] → t.orders.items ≡ [] → IsTold r 0 t
+told_none r t stations none makers orders = record {
+  stations = stations;
+  records = λ s l. none s l ∙ sym (none_counted (entry_places r) s);
+  makers = makers ∙ ap makers_of (sym (lists_none (orders_at r)));
+  orders = orders ∙ sym (lists_none (told_at r));
+}
+
+-- an entry that is no head of an order
+pub told_still : (r : PlainRecording) (k : ℕ) (old new : lists.Told) → order_at r k ≡ None → IsTold r k old
+    → length new.records.items ≡ length r.setting.stations
+    → ((s : ℕ) → s < length r.setting.stations → slice_index_or new.records.items s 0 ≡ count_at (entry_places r) s (k + 1))
+    → new.makers.items ≡ old.makers.items → new.orders.items ≡ old.orders.items → IsTold r (k + 1) new
+told_still r k old new at before stations counted makers orders = record {
+  stations = stations;
+  records = counted;
+  makers = makers ∙ before.makers ∙ sym (makers_still r k at);
+  orders = orders
+      ∙ before.orders
+      ∙ sym (lists_more (told_at r) k ∙ ap (λ xs. lists_below (told_at r) k ++ xs) (nothing_there r k at) ∙ append-nil (lists_below (told_at r) k));
+}
+
+-- one that is
+pub told_more : (r : PlainRecording) (k most : ℕ) (o : OrderData) (old new : lists.Told) (result : Result (Unit {0}) ReviewFault) → order_at r k ≡ Some o
+    → IsTold r k old → length new.records.items ≡ length r.setting.stations
+    → ((s : ℕ) → s < length r.setting.stations → slice_index_or new.records.items s 0 ≡ count_at (entry_places r) s (k + 1))
+    → new.makers.items ≡ old.makers.items ++ o.maker ∷ [] → AddsWithin most old.orders.items (order_at_parties r o) result new.orders.items
+    → OnOk result (IsTold r (k + 1) new)
+told_more r k most o old new (Err e) at before stations counted makers adds = tt
+told_more r k most o old new (Ok x) at before stations counted makers adds = record {
+  stations = stations;
+  records = counted;
+  makers = makers ∙ ap (λ xs. xs ++ o.maker ∷ []) before.makers ∙ sym (makers_more r k o at);
+  orders = adds.0
+      ∙ ap (λ xs. xs ++ order_at_parties r o) before.orders
+      ∙ sym (lists_more (told_at r) k ∙ ap (λ xs. lists_below (told_at r) k ++ xs) (told_there r k o at));
+}
+
+-- ---- all entries
+
+-- WHAT IS TOLD of all entries is what is told of all orders
+pub told_all : (r : PlainRecording) → lists_below (told_at r) (length r.entries) ≡ orders_told r
+unfolding orders_told orders_of lists_below
+told_all r = below (length r.entries)
+  where
+    below : (n : ℕ) → lists_below (told_at r) n ≡ flat_map (order_at_parties r) (lists_below (orders_at r) n)
+    below zero = refl
+    below (suc n) = ap (λ xs. xs ++ told_at r n) (below n) ∙ sym (flat_map-append (order_at_parties r) (lists_below (orders_at r) n) (orders_at r n))
+
+refused : (r : PlainRecording) (part new : List OrderAt) (k most : ℕ) (e : ReviewFault) → k < length r.entries → part ≡ lists_below (told_at r) k
+    → AddsWithin most part (told_at r k) (Err e) new → TellsWithin r most (Err e)
+refused r part new k most OverLimit l same over =
+    omega (arith, over, ap length same, part_below (told_at r) k (length r.entries) l, ap length (told_all r))
+refused r part new k most Memory l same over = tt
 
 -- there is no room for what is told of the next: so there is none for all
-pub no_room : {X Y Z : Type 0} (old part new last : List Z) (f : Y → List Z) (v : X → Y) (xs : List X) (k most : ℕ) (d : X) (e : ReviewFault)
-    (result : Result (Unit {0}) ReviewFault) → IsErrAnd result (λ x. x ≡ e) → k < length xs → part ≡ old ++ flat_map f (map v (take k xs))
-    → AddsWithin most part (f (v (get_or xs k d))) (Err e) new → AddsWithin most old (flat_map f (map v xs)) result last
-no_room old part new last f v xs k most d e (Ok x) is l same over = absurd is
-no_room old part new last f v xs k most d e (Err x) is l same over =
-    subst (λ y. AddsWithin most old (flat_map f (map v xs)) (Err y) last) (sym is) (ends old part new last f v xs k most d e l same over)
+pub no_room : (r : PlainRecording) (part new : List OrderAt) (k most : ℕ) (e : ReviewFault) (result : Result lists.Told ReviewFault)
+    → IsErrAnd result (λ x. x ≡ e) → k < length r.entries → part ≡ lists_below (told_at r) k → AddsWithin most part (told_at r k) (Err e) new
+    → TellsWithin r most result
+no_room r part new k most e (Ok x) is l same over = absurd is
+no_room r part new k most e (Err x) is l same over = subst (λ y. TellsWithin r most (Err y)) (sym is) (refused r part new k most e l same over)

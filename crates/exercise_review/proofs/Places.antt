@@ -3,6 +3,7 @@ use Rattle.std.proofs.Common.{◌≡◌, ℕ, ◌+◌, ◌*◌, ◌<◌, List, l
 use Rattle.std.specs.Prelude.{nat_eq, ◌&&◌, option_map, option_and_then, slice_get, slice_index_or}
 use Rattle.std.specs.Option.{option_map_or}
 use Rattle.std.proofs.lemmas.List.{length-map}
+use Rattle.std.proofs.lemmas.Option.{slice_get-map}
 use Rattle.std.proofs.lemmas.Bool.{eqb-true, eq-eqb, ne_eqb}
 use Rattle.siman_pdus.specs.Answers.{same_id}
 use Rattle.exercise_model.specs.Entry.{Entry}
@@ -13,12 +14,13 @@ use Rattle.exercise_review.specs.declared.fate.Fate.TheVariants as fates
 use Rattle.exercise_review.specs.declared.party.Party.{Party}
 use Rattle.exercise_review.specs.declared.party.Party.TheVariants as parties
 use Rattle.exercise_review.specs.declared.told.OrderAt.{OrderAt}
+use Rattle.exercise_review.specs.declared.told.Told.{Told}
 use Rattle.exercise_review.specs.declared.tally.Counts.{Counts}
-use Rattle.exercise_review.specs.Told.{orders_told}
+use Rattle.exercise_review.specs.Told.{orders_of, orders_told}
 use Rattle.exercise_review.specs.Counted.{count_below, count_at}
-use Rattle.exercise_review.specs.declared.order.Order.{Order}
-use Rattle.exercise_review.specs.Order.{OrderData, order_of}
-use Rattle.exercise_review.specs.Tally.{fate_number, same_fate, is_station, is_fate, is_fate_at, passes_at, many, counts_by, fates_of, fates_at, fate_numbers, AreCounted, is_entry_of, is_made_by, place_at, fate_place, fate_places, entry_places, maker_places}
+use Rattle.exercise_review.specs.Order.{OrderData}
+use Rattle.exercise_review.specs.Tally.{fate_number, same_fate, is_station, is_fate, is_fate_at, passes_at, many, counts_by, fates_of, fates_at, fate_numbers, makers_of, IsTold, AreCounted, is_entry_of, is_made_by, place_at, fate_place, fate_places, entry_places, maker_places}
+use Rattle.exercise_review.proofs.Orders.{told_all}
 use Rattle.exercise_review.proofs.Tallies.{count_same}
 
 pub entries_counted : (r : PlainRecording) (s n : ℕ) → n ≡ length r.entries → count_at (entry_places r) s n ≡ many (is_entry_of s) r.entries
@@ -32,19 +34,39 @@ entries_counted r s n end =
       | Some e ↦ refl
     ]
 
-makers_counted : (os : List OrderData) (s n : ℕ) → n ≡ length os → count_at (maker_places os) s n ≡ many (is_made_by s) os
+-- what was told on the way is told of all orders, and these are their makers
+pub orders_are_told : (r : PlainRecording) (t : Told) → IsTold r (length r.entries) t → t.orders.items ≡ orders_told r
+orders_are_told r t told = told.orders ∙ told_all r
+
+pub orders_of_makers : (r : PlainRecording) (t : Told) → IsTold r (length r.entries) t → t.makers.items ≡ makers_of (orders_of r)
+unfolding orders_of
+orders_of_makers r t told = told.makers
+
+pub order_count : (r : PlainRecording) (t : Told) → IsTold r (length r.entries) t → length t.makers.items ≡ length (orders_of r)
+order_count r t told = ap length (orders_of_makers r t told) ∙ length-map (orders_of r) (λ (o : OrderData). o.maker)
+
+-- the entries of a station that were counted on the way are those of its log
+pub records_told : (r : PlainRecording) (t : Told) (s : ℕ) → IsTold r (length r.entries) t → s < length r.setting.stations
+    → slice_index_or t.records.items s 0 ≡ many (is_entry_of s) r.entries
+records_told r t s told l = told.records s l ∙ entries_counted r s (length r.entries) refl
+
+makers_counted : (os : List OrderData) (s n : ℕ) → n ≡ length os → count_at (maker_places (makers_of os)) s n ≡ many (is_made_by s) os
 unfolding count_at many maker_places passes_at
 makers_counted os s n end =
-    count_same (λ i. same_id (maker_places os i) (Some s)) (passes_at (is_made_by s) os) same n ∙ ap (count_below (passes_at (is_made_by s) os)) end
+    count_same (λ i. same_id (maker_places (makers_of os) i) (Some s)) (passes_at (is_made_by s) os) same n ∙ ap (count_below (passes_at (is_made_by s) os)) end
   where
-    same : (i : ℕ) → same_id (maker_places os i) (Some s) ≡ passes_at (is_made_by s) os i
-    same i = elim (slice_get os i) as (λ (o : Option OrderData). same_id (option_and_then (λ (x : OrderData). x.maker) o) (Some s) ≡ option_map_or (is_made_by s) o false) [
-      | None ↦ refl
-      | Some x ↦ refl
-    ]
+    of_order : (o : Option OrderData) → same_id (option_and_then (λ (m : Option ℕ). m) (option_map (λ (x : OrderData). x.maker) o)) (Some s) ≡ option_map_or (is_made_by s) o false
+    of_order None = refl
+    of_order (Some x) = refl
 
-pub orders_counted : (xs : List Order) (s n : ℕ) → n ≡ length xs → count_at (maker_places (map order_of xs)) s n ≡ many (is_made_by s) (map order_of xs)
-orders_counted xs s n end = makers_counted (map order_of xs) s n (end ∙ sym (length-map xs order_of))
+    same : (i : ℕ) → same_id (maker_places (makers_of os) i) (Some s) ≡ passes_at (is_made_by s) os i
+    same i = ap (λ (m : Option (Option ℕ)). same_id (option_and_then (λ (x : Option ℕ). x) m) (Some s)) (slice_get-map (λ (x : OrderData). x.maker) os i) ∙ of_order (slice_get os i)
+
+pub orders_counted : (os : List OrderData) (makers : List (Option ℕ)) (s n : ℕ) → makers ≡ makers_of os → n ≡ length makers
+    → count_at (maker_places makers) s n ≡ many (is_made_by s) os
+orders_counted os makers s n same end =
+    ap (λ (ms : List (Option ℕ)). count_at (maker_places ms) s n) same
+    ∙ makers_counted os s n (end ∙ ap length same ∙ length-map os (λ (o : OrderData). o.maker))
 
 few_fates : (f : Fate) → fate_number f < 9
 few_fates fates.Done = omega arith

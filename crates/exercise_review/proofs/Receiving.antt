@@ -10,7 +10,7 @@ use Rattle.indexmap.specs.IndexMap.{get}
 use Rattle.dis_records.specs.declared.entity_state.EntityState.{EntityState}
 use Rattle.siman_pdus.specs.declared.pdu.Pdu.{Pdu}
 use Rattle.siman_pdus.specs.Role.{is_request_body}
-use Rattle.exercise_model.specs.Entry.{Sent, Received, Told}
+use Rattle.exercise_model.specs.Entry.{Entry, Sent, Received, Told}
 use Rattle.exercise_model.specs.Meaning.{meaning}
 use Rattle.exercise_model.specs.Setting.{is_open}
 use Rattle.exercise_model.specs.Recording.{PlainRecording}
@@ -134,7 +134,7 @@ keyed_asks r n t stamp b at closed keyed =
         ] h
 
 -- such an entry need not be kept
-pub heard_asked : (r : PlainRecording) (n t stamp : ℕ) (b : List ℕ) (heard : Heard) → slice_get r.entries n ≡ Some (Received t stamp b) → is_open r.setting.form ≡ false
+heard_asked : (r : PlainRecording) (n t stamp : ℕ) (b : List ℕ) (heard : Heard) → slice_get r.entries n ≡ Some (Received t stamp b) → is_open r.setting.form ≡ false
     → is_some (key_at r n) ≡ true → AreHeard r n heard → AreHeard r (n + 1) heard
 unfolding gets_in bytes_got
 heard_asked r n t stamp b heard at closed keyed so_far = record {
@@ -154,3 +154,15 @@ heard_asked r n t stamp b heard at closed keyed so_far = record {
     fails s c other =
         ap (λ o. option_map_or (bytes_eq c) (option_and_then (bytes_got_by s) o) false) at
         ∙ elim (t == s) as (λ e. option_map_or (bytes_eq c) (if e then Some b else None) false ≡ false) [ true ↦ differs c other | false ↦ refl ]
+
+-- an entry of any kind that has a key, in a recording that is not open, need not be kept
+pub heard_keyed : (r : PlainRecording) (n : ℕ) (heard : Heard) → is_open r.setting.form ≡ false → is_some (key_at r n) ≡ true → AreHeard r n heard
+    → AreHeard r (n + 1) heard
+unfolding bytes_got
+heard_keyed r n heard closed keyed so_far = of_entry (slice_get r.entries n) refl
+  where
+    of_entry : (e : Option Entry) → slice_get r.entries n ≡ e → AreHeard r (n + 1) heard
+    of_entry None at = heard_still r n heard (λ s. ap (option_and_then (bytes_got_by s)) at) so_far
+    of_entry (Some (Sent t stamp b)) at = heard_still r n heard (sent_no_bytes r n t stamp b at) so_far
+    of_entry (Some (Received t stamp b)) at = heard_asked r n t stamp b heard at closed keyed so_far
+    of_entry (Some (Told t e y)) at = heard_still r n heard (told_no_bytes r n t e y at) so_far

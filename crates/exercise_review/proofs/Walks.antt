@@ -50,7 +50,7 @@ last_still : (f : ℕ → Bool) (i : ℕ) → f i ≡ false → last_below f (su
 unfolding last_below
 last_still f i e = ap (λ b. if b then Some i else last_below f i) e
 
-count_still : (f : ℕ → Bool) (i : ℕ) → f i ≡ false → count_below f (suc i) ≡ count_below f i
+pub count_still : (f : ℕ → Bool) (i : ℕ) → f i ≡ false → count_below f (suc i) ≡ count_below f i
 unfolding count_below
 count_still f i e = let more = ap (λ b. count_below f i + (if b then 1 else 0)) e in omega (arith, more)
 

@@ -1,5 +1,5 @@
 -- What entries are looked up by: their station, and the order that they make, bring or take up (profile).
-use Rattle.std.specs.Prelude.{◌≡◌, ℕ, ◌+◌, ◌*◌, List, length, Bool, true, false, nat_eq, Option, Some, None, option_map, option_and_then, slice_get, if◌then◌else◌}
+use Rattle.std.specs.Prelude.{◌≡◌, ℕ, ◌+◌, ◌*◌, List, length, Bool, true, false, nat_eq, Option, Some, None, option_map, option_and_then, slice_get, slice_index_or, IfSome, if◌then◌else◌}
 use Rattle.std.specs.Option.{option_map_or}
 use Rattle.std.specs.declared.hash.BuildHasherDefault.{BuildHasherDefault}
 use Rattle.std.specs.declared.hash.DefaultHasher.{DefaultHasher}
@@ -102,10 +102,24 @@ pub record AreRegistered (keys : ℕ → Option ℕ) (n : ℕ) (entries : LastEn
   pub last : (k : ℕ) → get nat_eq entries k ≡ last_below (holds keys k) n
   pub before : IsColumn None (IsBefore keys) n ways
 
--- WHAT A REGISTER KEEPS of a recording: its entries by their keys and by their second keys, and where each datagram was received
-pub record IsRegister (r : PlainRecording) (first second : Ways) (noted : Heard) : Type 0 where
+-- none of the entries, which have these ways back, goes back to entry i where that is marked
+abbrev pub IsEnd : (ways : List (Option ℕ)) → ℕ → Bool → Type 0
+IsEnd ways i end = end ≡ true → (j : ℕ) → slice_index_or ways j None ≡ Some i → ⊥
+
+-- WHAT MARKS the entries to which none goes back
+abbrev pub AreEnds : (ways : List (Option ℕ)) → List Bool → Type 0
+AreEnds ways = IsColumn false (IsEnd ways) (length ways)
+
+-- the entries below n by their second keys, if these are kept
+abbrev pub AreSeconds : PlainRecording → Option Ways → Type 0
+AreSeconds r second = IfSome second (λ (w : Ways). AreRegistered (second_at r) (length r.entries) w.last w.before.items)
+
+-- WHAT A REGISTER KEEPS of a recording: its entries by their keys, the marks of the last ones, and those by their second keys, and where each datagram
+-- was received
+pub record IsRegister (r : PlainRecording) (first : Ways) (marks : List Bool) (second : Option Ways) (noted : Heard) : Type 0 where
   pub orders : AreRegistered (key_at r) (length r.entries) first.last first.before.items
-  pub seconds : AreRegistered (second_at r) (length r.entries) second.last second.before.items
+  pub ends : AreEnds first.before.items marks
+  pub seconds : AreSeconds r second
   pub heard : AreHeard r (length r.entries) noted
 
 -- the key under which the maker of an order is told of it

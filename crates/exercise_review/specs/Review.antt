@@ -9,9 +9,10 @@ use Rattle.exercise_review.specs.declared.review.Review.{Review}
 use Rattle.exercise_review.specs.declared.review.TheConstants.{MOST_LINES}
 use Rattle.exercise_review.specs.declared.span.Span.{Span}
 use Rattle.exercise_review.specs.declared.told.OrderAt.{OrderAt}
+use Rattle.exercise_review.specs.declared.told.Told.{Told}
 use Rattle.exercise_review.specs.Told.{orders_of, orders_told}
 use Rattle.exercise_review.specs.Span.{all_spans}
-use Rattle.exercise_review.specs.Tally.{fates_of, station_counts}
+use Rattle.exercise_review.specs.Tally.{IsTold, fates_of, station_counts}
 
 -- HOW MANY LINES a review has: the first one, and one for each station, for each order at each of its parties, and for each stretch of a life
 abbrev pub line_count : PlainRecording → ℕ
@@ -23,8 +24,8 @@ pub record TellsLists (r : PlainRecording) (told : List OrderAt) (spans : List S
   pub spans_is : spans ≡ all_spans r
   pub within : line_count r ≤ MOST_LINES
 
-abbrev pub Lists : PlainRecording → Result (Vec OrderAt Global × Vec Span Global) ReviewFault → Type 0
-Lists r (Ok made) = TellsLists r made.0.items made.1.items
+abbrev pub Lists : PlainRecording → Result (Told × Vec Span Global) ReviewFault → Type 0
+Lists r (Ok made) = IsTold r (length r.entries) made.0 × TellsLists r made.0.orders.items made.1.items
 Lists r (Err OverLimit) = MOST_LINES < line_count r
 Lists r (Err Memory) = Unit {0}
 

@@ -1,5 +1,5 @@
 -- How many orders have each fate, and what is counted of each station (profile).
-use Rattle.std.specs.Prelude.{◌≡◌, ◌<◌, ℕ, ◌+◌, ◌*◌, List, length, option_map, option_and_then, slice_index_or, Bool, false, ◌&&◌, ◌==◌, Option, Some, None, slice_get}
+use Rattle.std.specs.Prelude.{◌≡◌, ◌<◌, ◌≤◌, ℕ, ◌+◌, ◌*◌, List, [], length, map, option_map, option_and_then, slice_index_or, Bool, false, ◌&&◌, ◌==◌, Option, Some, None, slice_get, Result, Ok, Err}
 use Rattle.std.specs.Option.{option_map_or}
 use Rattle.dis_records.specs.declared.entity_state.EntityState.{EntityState}
 use Rattle.exercise_model.specs.Entry.{Entry}
@@ -13,13 +13,17 @@ use Rattle.exercise_review.specs.declared.fate.Fate.{Fate}
 use Rattle.exercise_review.specs.declared.fate.Fate.TheVariants as fates
 use Rattle.exercise_review.specs.declared.party.Party.{Party}
 use Rattle.exercise_review.specs.declared.party.Party.TheVariants as parties
+use Rattle.exercise_review.specs.declared.fault.ReviewFault.{ReviewFault}
+use Rattle.exercise_review.specs.declared.fault.ReviewFault.TheVariants.{OverLimit, Memory}
 use Rattle.exercise_review.specs.declared.told.OrderAt.{OrderAt}
+use Rattle.exercise_review.specs.declared.told.Told.{Told}
 use Rattle.exercise_review.specs.declared.tally.FateCounts.{FateCounts}
 use Rattle.exercise_review.specs.declared.tally.Counts.{Counts}
 use Rattle.exercise_review.specs.declared.tally.StationCounts.{StationCounts}
-use Rattle.exercise_review.specs.Counted.{count_below}
+use Rattle.exercise_review.specs.Counted.{count_below, count_at}
 use Rattle.exercise_review.specs.Order.{OrderData}
-use Rattle.exercise_review.specs.Told.{orders_of, orders_told}
+use Rattle.exercise_review.specs.Room.{lists_below}
+use Rattle.exercise_review.specs.Told.{orders_at, told_at, orders_of, orders_told}
 use Rattle.exercise_review.specs.Parties.{outsider_at}
 
 -- ---- fates
@@ -100,8 +104,11 @@ unfoldable pub entry_places : PlainRecording → ℕ → Option ℕ
 entry_places r i = option_map (λ e. station_of (event_of e)) (slice_get r.entries i)
 
 -- the maker of each order, if a recorded station made it
-unfoldable pub maker_places : List OrderData → ℕ → Option ℕ
-maker_places os i = option_and_then (λ o. o.maker) (slice_get os i)
+abbrev pub makers_of : List OrderData → List (Option ℕ)
+makers_of os = map (λ (o : OrderData). o.maker) os
+
+unfoldable pub maker_places : (makers : List (Option ℕ)) → ℕ → Option ℕ
+maker_places makers i = option_and_then (λ maker. maker) (slice_get makers i)
 
 -- each station has nine places, one for each fate
 abbrev pub place_at : Fate → Option Party → Option ℕ
@@ -131,11 +138,28 @@ station_counts r s = record {
   running = many is_running (states_of r s);
 }
 
--- what was counted of each station: its entries, the orders that it made, and the fates of those that it was party to
+-- of each station, the entities that are there at the end
+abbrev pub ArePresent : PlainRecording → List (List (ℕ × EntityState)) → Type 0
+ArePresent r all = (s : ℕ) → slice_index_or all s [] ≡ states_of r s
+
+-- ---- what is told and counted, one entry after the other
+
+-- WHAT WAS TOLD of the entries below n: how many of them each station has, who made each of their orders, and these at their parties
+pub record IsTold (r : PlainRecording) (n : ℕ) (t : Told) : Type 0 where
+  pub stations : length t.records.items ≡ length r.setting.stations
+  pub records : (s : ℕ) → s < length r.setting.stations → slice_index_or t.records.items s 0 ≡ count_at (entry_places r) s n
+  pub makers : t.makers.items ≡ makers_of (lists_below (orders_at r) n)
+  pub orders : t.orders.items ≡ lists_below (told_at r) n
+
+-- all of that, where the orders at their parties are no more than so many; of want of memory nothing is said
+abbrev pub TellsWithin : PlainRecording → (most : ℕ) → Result Told ReviewFault → Type 0
+TellsWithin r most (Ok t) = IsTold r (length r.entries) t × (t.orders.items ≡ orders_told r) × (length t.orders.items ≤ most)
+TellsWithin r most (Err OverLimit) = most < length (orders_told r)
+TellsWithin r most (Err Memory) = Unit {0}
+
+-- what was counted of each station: the orders that it made, and the fates of those that it was party to
 pub record AreCounted (r : PlainRecording) (c : Counts) : Type 0 where
-  pub records : (s : ℕ) → s < length r.setting.stations → slice_index_or c.records.items s 0 ≡ many (is_entry_of s) r.entries
   pub made : (s : ℕ) → s < length r.setting.stations → slice_index_or c.made.items s 0 ≡ many (is_made_by s) (orders_of r)
   pub fates : (s : ℕ) → s < length r.setting.stations → (f : Fate) → slice_index_or c.fates.items (s * 9 + fate_number f) 0 ≡ many (is_fate_at s f) (orders_told r)
   pub room : length c.fates.items ≡ length r.setting.stations * 9
-  pub many_records : length c.records.items ≡ length r.setting.stations
   pub many_made : length c.made.items ≡ length r.setting.stations

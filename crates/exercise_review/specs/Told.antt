@@ -32,6 +32,10 @@ order_at_parties r o = map (order_told r o) (outcomes_of r o)
 abbrev pub orders_at : PlainRecording → ℕ → List OrderData
 orders_at r i = option_to_list (order_at r i)
 
+-- what is told of entry i: the order at it, at each of its parties
+abbrev pub told_at : PlainRecording → ℕ → List OrderAt
+told_at r i = flat_map (order_at_parties r) (orders_at r i)
+
 -- THE ORDERS OF A RECORDING, by their heads
 unfoldable pub orders_of : PlainRecording → List OrderData
 orders_of r = lists_below (orders_at r) (length r.entries)

@@ -19,7 +19,7 @@ pub(crate) trait Placing {
 }
 
 /// Counts one more at a place, if it is one of those that are counted.
-fn count_one(counts: &mut Vec<usize>, place: Option<usize>)
+pub(crate) fn count_one(counts: &mut Vec<usize>, place: Option<usize>)
     requires { (k : ℕ) → slice_index_or counts.old.items k 0 < 18446744073709551615 }
     ensures count { length counts.new.items ≡ length counts.old.items }
     ensures each { (k : ℕ) → k < length counts.old.items → slice_index_or counts.new.items k 0 ≡ slice_index_or counts.old.items k 0 + (if same_id place (Some k) then 1 else 0) }

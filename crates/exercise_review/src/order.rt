@@ -1,9 +1,10 @@
 //! Orders, each told by the entry at which it first stands.
 
-ghost use Rattle.std.specs.Prelude.{◌≡◌, ◌<◌, ◌&&◌, option_map, option_and_then, Some, None, length, if◌then◌else◌};
+ghost use Rattle.std.specs.Prelude.{◌≡◌, ◌<◌, ◌&&◌, option_map, option_and_then, slice_get, Some, None, length, if◌then◌else◌};
 ghost use Rattle.siman_pdus.specs.Answers.{same_id};
 ghost use Rattle.siman_pdus.specs.Reading.{pdu_of};
 ghost use Rattle.siman_pdus.specs.Role.{is_request_body};
+ghost use Rattle.exercise_model.specs.Held.{shown};
 ghost use Rattle.exercise_model.specs.Meaning.{meaning};
 ghost use Rattle.exercise_review.specs.Entries.{bytes_sent, sent_by};
 ghost use Rattle.exercise_review.specs.Register.{told_key, request_digest};
@@ -263,11 +264,26 @@ fn order_got<'a, L: ExerciseLog>(
 }
 
 /// The order of which an entry is the head; `None` where it is no head. It takes no memory.
-#[tactic(auto, unfolding(crate::specs::Order::order_at, crate::specs::Order::head_of, crate::specs::Entries::bytes_sent))]
+#[tactic(auto, unfolding(crate::specs::Order::order_at, crate::specs::Order::head_of))]
 pub fn order_at<'a, L: ExerciseLog>(findings: &Register<'a, L>, entry: usize) -> Option<Order<'a>>
     ensures { option_map order_of result ≡ order_at findings.now entry }
 {
-    match entry_at(findings, entry)? {
+    let view = entry_at(findings, entry)?;
+    order_in(findings, view, entry)
+}
+
+/// The order of which an entry is the head, where this is what stands there.
+#[tactic(auto, unfolding(crate::specs::Order::order_at, crate::specs::Order::head_of, crate::specs::Entries::bytes_sent))]
+pub(crate) fn order_in<'a, L: ExerciseLog>(
+    findings: &Register<'a, L>,
+    view: EntryView<'a>,
+    entry: usize,
+) -> Option<Order<'a>>
+    requires within { entry < length findings.now.entries }
+    requires entry { slice_get findings.now.entries entry ≡ Some (shown view) }
+    ensures { option_map order_of result ≡ order_at findings.now entry }
+{
+    match view {
         EntryView::Sent { station, bytes, .. } => order_sent(findings, station, bytes, entry),
         EntryView::Received { bytes, .. } => order_got(findings, bytes, entry),
         EntryView::Told { .. } => None,

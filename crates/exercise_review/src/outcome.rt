@@ -1,7 +1,7 @@
 //! What is told of an order at each of its parties.
 
-ghost use Rattle.std.specs.Prelude.{◌≡◌, map, IfOk};
-ghost use Rattle.exercise_review.specs.Order.{order_of};
+ghost use Rattle.std.specs.Prelude.{◌≡◌, Some, map, IfOk};
+ghost use Rattle.exercise_review.specs.Order.{order_of, order_at};
 ghost use Rattle.exercise_review.specs.Register.{request_digest};
 ghost use Rattle.exercise_review.specs.Outcome.{stamp_at, took_between, took, sends_told, outcome_here, outcome_outside, outcome_nowhere, outcome_at, outcomes_of};
 
@@ -122,6 +122,22 @@ fn asked_of<L: ExerciseLog>(findings: &Register<'_, L>, order: &Order<'_>) -> As
     }
 }
 
+/// The same of an order that stands at its head: where nothing stands under its key behind that, it
+/// was sent once.
+fn asked_at_head<L: ExerciseLog>(findings: &Register<'_, L>, order: &Order<'_>) -> Asked
+    requires { order_at findings.now order.now.head ≡ Some (order_of order.now) }
+    ensures digest { result.digest ≡ request_digest (order_of order.now).request }
+    ensures sends { result.sends ≡ sends_told findings.now (order_of order.now) }
+{
+    match order.maker {
+        Some(_maker) if findings.is_last(order.head) => Asked {
+            digest: request_digest(&order.request),
+            sends: Some(1),
+        },
+        _ => asked_of(findings, order),
+    }
+}
+
 /// What is told of an order at a recorded station: its log is gone through by the key of the order
 /// there.
 #[tactic(auto, unfolding(crate::specs::Word::telling, crate::specs::Fate::fate_of))]
@@ -191,12 +207,18 @@ fn outcome_outside<L: ExerciseLog>(
 }
 
 /// What is told of an order that has no party.
-fn outcome_nowhere<L: ExerciseLog>(findings: &Register<'_, L>, order: &Order<'_>) -> Outcome
+fn outcome_nowhere<L: ExerciseLog>(
+    findings: &Register<'_, L>,
+    order: &Order<'_>,
+    sends: Option<usize>,
+) -> Outcome
+    requires { sends ≡ sends_told findings.now (order_of order.now) }
     ensures { result ≡ outcome_nowhere findings.now (order_of order.now) }
 {
+    let (_findings, _order) = (findings, order);
     Outcome {
         party: None,
-        sends: asked_of(findings, order).sends,
+        sends,
         receipts: None,
         got: None,
         said: None,
@@ -232,11 +254,13 @@ fn outcomes_at<L: ExerciseLog>(
     alloc: Global,
     findings: &Register<'_, L>,
     order: &Order<'_>,
+    asked: Asked,
     parties: &[Party],
 ) -> Result<Vec<Outcome>, AllocError>
+    requires digest { asked.digest ≡ request_digest (order_of order.now).request }
+    requires sends { asked.sends ≡ sends_told findings.now (order_of order.now) }
     ensures { IfOk result (λ outcomes. outcomes.items ≡ map (outcome_at findings.now (order_of order.now)) parties.now) }
 {
-    let asked = asked_of(findings, order);
     let mut outcomes = Vec::with_capacity(alloc, parties.len())?;
     for party in parties {
         outcomes.push(outcome_at(findings, order, asked, *party))?;
@@ -244,9 +268,29 @@ fn outcomes_at<L: ExerciseLog>(
     Ok(outcomes)
 }
 
+/// What is told of an order, of which this is asked, at each of its parties, or once where it has none.
+#[tactic(auto, unfolding(crate::specs::Outcome::outcomes_of))]
+fn outcomes_by<L: ExerciseLog>(
+    alloc: Global,
+    findings: &Register<'_, L>,
+    order: &Order<'_>,
+    asked: Asked,
+) -> Result<Vec<Outcome>, AllocError>
+    requires digest { asked.digest ≡ request_digest (order_of order.now).request }
+    requires sends { asked.sends ≡ sends_told findings.now (order_of order.now) }
+    ensures { IfOk result (λ outcomes. outcomes.items ≡ outcomes_of findings.now (order_of order.now)) }
+{
+    let parties = parties_of(alloc, findings, order)?;
+    if parties.is_empty() {
+        let mut outcomes = Vec::new(alloc);
+        outcomes.push(outcome_nowhere(findings, order, asked.sends))?;
+        return Ok(outcomes);
+    }
+    outcomes_at(alloc, findings, order, asked, &parties)
+}
+
 /// What became of an order: what is told of it at each of its parties, by rising addresses, or once
 /// where it has none.
-#[tactic(auto, unfolding(crate::specs::Outcome::outcomes_of))]
 pub fn outcomes_of<L: ExerciseLog>(
     alloc: Global,
     findings: &Register<'_, L>,
@@ -254,11 +298,17 @@ pub fn outcomes_of<L: ExerciseLog>(
 ) -> Result<Vec<Outcome>, AllocError>
     ensures { IfOk result (λ outcomes. outcomes.items ≡ outcomes_of findings.now (order_of order.now)) }
 {
-    let parties = parties_of(alloc, findings, order)?;
-    if parties.is_empty() {
-        let mut outcomes = Vec::new(alloc);
-        outcomes.push(outcome_nowhere(findings, order))?;
-        return Ok(outcomes);
-    }
-    outcomes_at(alloc, findings, order, &parties)
+    outcomes_by(alloc, findings, order, asked_of(findings, order))
+}
+
+/// The same of an order that stands at its head.
+pub(crate) fn outcomes_at_head<L: ExerciseLog>(
+    alloc: Global,
+    findings: &Register<'_, L>,
+    order: &Order<'_>,
+) -> Result<Vec<Outcome>, AllocError>
+    requires { order_at findings.now order.now.head ≡ Some (order_of order.now) }
+    ensures { IfOk result (λ outcomes. outcomes.items ≡ outcomes_of findings.now (order_of order.now)) }
+{
+    outcomes_by(alloc, findings, order, asked_at_head(findings, order))
 }

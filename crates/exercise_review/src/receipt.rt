@@ -93,11 +93,11 @@ fn note_receipt<'a, L: ExerciseLog>(
     requires tied { AreHeard (L.recording log.now) entry heard.old }
     ensures { OnOk result (AreHeard (L.recording log.now) (entry + 1) heard.new) }
 {
+    if log.form() != Form::Open && keys[entry].is_some() {
+        return Ok(());
+    }
     match log.entry(entry) {
         EntryView::Received { station, bytes, .. } => {
-            if log.form() != Form::Open && keys[entry].is_some() {
-                return Ok(());
-            }
             keep_receipt(heard, Receipt { station, bytes }, entry)?;
             Ok(())
         }

@@ -1,17 +1,12 @@
 //! What is told of a whole recording.
 
-ghost use Rattle.std.specs.Prelude.{◌≡◌, ◌≤◌, ◌<◌, ◌+◌, length, map};
-ghost use Rattle.exercise_review.specs.Order.{order_of};
-ghost use Rattle.exercise_review.specs.Told.{orders_of, orders_told};
-ghost use Rattle.exercise_review.specs.Span.{all_spans};
-ghost use Rattle.exercise_review.specs.Review.{line_count, Lists, Reviews};
+ghost use Rattle.exercise_review.specs.Review.{Lists, Reviews};
 
 use crate::fault::ReviewFault;
-use crate::order::Order;
 use crate::register::Register;
 use crate::span::{Span, spans_within};
 use crate::tally::{FateCounts, StationCounts, fates_of, stations_counted};
-use crate::told::{OrderAt, orders_of, orders_within};
+use crate::told::{OrderAt, Told, told_within};
 use exercise_findings::Findings;
 use exercise_model::ExerciseLog;
 use std::alloc::Global;
@@ -43,14 +38,12 @@ pub struct Review {
 fn lists<L: ExerciseLog>(
     alloc: Global,
     findings: &Register<'_, L>,
-    orders: &[Order<'_>],
-) -> Result<(Vec<OrderAt>, Vec<Span>), ReviewFault>
-    requires { map order_of orders.now ≡ orders_of findings.now }
+) -> Result<(Told, Vec<Span>), ReviewFault>
     ensures { Lists findings.now result }
 {
     let most = MOST_LINES - 1 - findings.log().station_count();
-    let told = orders_within(alloc, findings, orders, most)?;
-    let spans = spans_within(alloc, findings, most - told.len())?;
+    let told = told_within(alloc, findings, most)?;
+    let spans = spans_within(alloc, findings, most - told.orders.len())?;
     Ok((told, spans))
 }
 
@@ -64,17 +57,18 @@ pub fn review_of<L: ExerciseLog>(
 {
     let log = findings.log();
     let register = Register::of(alloc, findings)?;
-    let orders = orders_of(alloc, &register)?;
-    let (told, spans) = lists(alloc, &register, &orders)?;
-    let account = register.into_findings().into_account(alloc)?;
-    let stations = stations_counted(alloc, log, &account, &orders, &told)?;
-    let fates = fates_of(alloc, &told)?;
+    let (told, spans) = lists(alloc, &register)?;
+    let findings = register.into_findings();
+    let states = findings.states(alloc)?;
+    let stations = stations_counted(alloc, log, &states, &told)?;
+    let fates = fates_of(alloc, &told.orders)?;
+    let Told { makers, orders, .. } = told;
     Ok(Review {
-        orders: orders.len(),
-        others: account.others(),
+        orders: makers.len(),
+        others: findings.others(),
         fates,
         stations,
-        told,
+        told: orders,
         spans,
     })
 }

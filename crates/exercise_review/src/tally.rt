@@ -1,23 +1,19 @@
 //! How many orders have each fate, and what is counted of each station.
 
-ghost use Rattle.std.specs.Prelude.{◌≡◌, ◌<◌, ◌≤◌, ◌+◌, ◌*◌, length, map, IfOk, slice_index_or, [], ℕ};
-ghost use Rattle.exercise_model.specs.Account.{states_of, values_below};
-ghost use Rattle.exercise_findings.specs.Account.{TellsAccount};
-ghost use Rattle.exercise_review.specs.Order.{order_of};
-ghost use Rattle.exercise_review.specs.Told.{orders_of, orders_told};
-ghost use Rattle.exercise_review.specs.Tally.{fate_number, is_fate_at, passes_at, many, counts_by, fates_of, is_entry_of, is_made_by, is_running, fate_place, fate_places, fate_numbers, entry_places, maker_places, AreCounted, station_counts};
+ghost use Rattle.std.specs.Prelude.{◌≡◌, ◌<◌, ◌≤◌, ◌+◌, ◌*◌, List, length, map, IfOk, slice_index_or, [], ℕ};
+ghost use Rattle.exercise_model.specs.Account.{values_below};
+ghost use Rattle.exercise_review.specs.Order.{OrderData};
+ghost use Rattle.exercise_review.specs.Tally.{fate_number, is_fate_at, passes_at, many, counts_by, fates_of, is_made_by, is_running, fate_place, fate_places, fate_numbers, makers_of, maker_places, ArePresent, IsTold, AreCounted, station_counts};
 ghost use Rattle.exercise_review.specs.declared.fate.Fate.{Fate};
 
 use crate::counting::{Placing, counts_of};
 use crate::fate::Fate;
-use crate::order::Order;
 use crate::parties::parts_of;
 use crate::party::{Outsider, Party};
 use crate::question::{Question, count_below};
-use crate::told::OrderAt;
+use crate::told::{OrderAt, Told};
 use dis_records::EntityState;
-use exercise_findings::Account;
-use exercise_model::{EntryView, ExerciseLog};
+use exercise_model::ExerciseLog;
 use std::alloc::{AllocError, Global};
 
 /// How many fates there are.
@@ -128,69 +124,35 @@ impl Placing for FatePlaces<'_> {
     }
 }
 
-/// Which station each entry is one of.
-#[derive(Drop)]
-struct EntryPlaces<'a, L: ExerciseLog> {
-    log: &'a L,
-}
-
-impl<L: ExerciseLog> Placing for EntryPlaces<'_, L> {
-    ghost places = { λ q. entry_places (L.recording q.log.now) };
-
-    #[tactic(auto, unfolding(crate::specs::Tally::entry_places))]
-    fn place(&self, entry: usize) -> Option<usize> {
-        if entry >= self.log.entry_count() {
-            return None;
-        }
-        let at = match self.log.entry(entry) {
-            EntryView::Sent { station, .. } => station,
-            EntryView::Received { station, .. } => station,
-            EntryView::Told { station, .. } => station,
-        };
-        Some(usize::from(at))
-    }
-}
-
 /// Which station made each order.
 #[derive(Drop)]
 struct MakerPlaces<'a> {
-    orders: &'a [Order<'a>],
+    makers: &'a [Option<u16>],
 }
 
 impl Placing for MakerPlaces<'_> {
-    ghost places = { λ q. maker_places (map order_of q.orders.now) };
+    ghost places = { λ q. maker_places q.makers.now };
 
     #[tactic(auto, unfolding(crate::specs::Tally::maker_places))]
     fn place(&self, number: usize) -> Option<usize> {
-        Some(usize::from(self.orders.get(number)?.maker?))
+        match *self.makers.get(number)? {
+            Some(maker) => Some(usize::from(maker)),
+            None => None,
+        }
     }
-}
-
-/// How many entries the log of each station has.
-#[tactic(auto, using(crate::proofs::Places::entries_counted))]
-fn records_by_station<L: ExerciseLog>(alloc: Global, log: &L) -> Result<Vec<usize>, AllocError>
-    ensures each { let r = L.recording log.now in IfOk result (λ counts. (s : ℕ) → s < length r.setting.stations → slice_index_or counts.items s 0 ≡ many (is_entry_of s) r.entries) }
-    ensures count { IfOk result (λ counts. length counts.items ≡ length (L.recording log.now).setting.stations) }
-{
-    counts_of(
-        alloc,
-        &EntryPlaces { log },
-        log.entry_count(),
-        log.station_count(),
-    )
 }
 
 /// How many of these orders each of so many stations made.
 #[tactic(auto, using(crate::proofs::Places::orders_counted))]
 fn made_by_station(
     alloc: Global,
-    orders: &[Order<'_>],
+    makers: &[Option<u16>],
     stations: usize,
 ) -> Result<Vec<usize>, AllocError>
-    ensures each { IfOk result (λ counts. (s : ℕ) → s < stations → slice_index_or counts.items s 0 ≡ many (is_made_by s) (map order_of orders.now)) }
+    ensures each { (orders : List OrderData) → makers.now ≡ makers_of orders → IfOk result (λ counts. (s : ℕ) → s < stations → slice_index_or counts.items s 0 ≡ many (is_made_by s) orders) }
     ensures count { IfOk result (λ counts. length counts.items ≡ stations) }
 {
-    counts_of(alloc, &MakerPlaces { orders }, orders.len(), stations)
+    counts_of(alloc, &MakerPlaces { makers }, makers.len(), stations)
 }
 
 /// How many of these orders at their parties have each fate at each of so many stations.
@@ -251,55 +213,59 @@ fn running_of(present: &[(u16, EntityState)]) -> usize
     count_below(&AreRunning { present }, present.len())
 }
 
-/// What is counted of the entries, of the orders and of these at their parties.
+/// What is counted of the orders and of these at their parties.
 #[derive(Drop)]
 struct Counts {
-    records: Vec<usize>,
     made: Vec<usize>,
     fates: Vec<usize>,
 }
 
-/// Counts the entries of each station, the orders that it made, and the fates of those that it was
-/// party to.
+/// Counts the orders that each station made, and the fates of those that it was party to.
+#[tactic(auto, using(crate::proofs::Places::orders_of_makers, crate::proofs::Places::orders_are_told))]
 fn counts_by_station<L: ExerciseLog>(
     alloc: Global,
     log: &L,
-    orders: &[Order<'_>],
-    told: &[OrderAt],
+    told: &Told,
 ) -> Result<Counts, AllocError>
-    requires orders { map order_of orders.now ≡ orders_of (L.recording log.now) }
-    requires told { told.now ≡ orders_told (L.recording log.now) }
+    requires { let r = L.recording log.now in IsTold r (length r.entries) told.now }
     ensures { IfOk result (AreCounted (L.recording log.now)) }
 {
     let stations = log.station_count();
-    let records = records_by_station(alloc, log)?;
-    let made = made_by_station(alloc, orders, stations)?;
-    let fates = fates_by_station(alloc, told, stations)?;
-    Ok(Counts {
-        records,
-        made,
-        fates,
-    })
+    let made = made_by_station(alloc, &told.makers, stations)?;
+    let fates = fates_by_station(alloc, &told.orders, stations)?;
+    Ok(Counts { made, fates })
 }
 
-/// What is counted of a station, by the account of the recording and these counts.
-#[tactic(auto, using(crate::proofs::Places::fates_are), unfolding(crate::specs::Tally::station_counts))]
+/// The entities that are there at the end at a station, of those of all stations.
+fn present_at(states: &[Vec<(u16, EntityState)>], station: usize) -> &[(u16, EntityState)]
+    ensures { result.now ≡ slice_index_or (map (λ v. v.items) states.now) station [] }
+{
+    match states.get(station) {
+        Some(present) => present.as_slice(),
+        None => &[],
+    }
+}
+
+/// What is counted of a station, by what was told and by these counts.
+#[tactic(auto, using(crate::proofs::Places::fates_are, crate::proofs::Places::records_told), unfolding(crate::specs::Tally::station_counts))]
 fn station_counts<L: ExerciseLog>(
     log: &L,
-    account: &Account,
+    states: &[Vec<(u16, EntityState)>],
+    told: &Told,
     counts: &Counts,
     station: u16,
 ) -> StationCounts
-    requires account { TellsAccount (L.recording log.now) account.now }
+    requires states { ArePresent (L.recording log.now) (map (λ v. v.items) states.now) }
+    requires told { let r = L.recording log.now in IsTold r (length r.entries) told.now }
     requires counts { AreCounted (L.recording log.now) counts.now }
     requires within { station < length (L.recording log.now).setting.stations }
     ensures { result ≡ station_counts (L.recording log.now) station }
 {
     let station = usize::from(station);
-    let present = account.states(station);
+    let present = present_at(states, station);
     StationCounts {
         at: parts_of(log.station(station).address()),
-        records: counts.records[station],
+        records: told.records[station],
         made: counts.made[station],
         fates: fates_from(&counts.fates, station * FATES),
         entities: present.len(),
@@ -312,19 +278,17 @@ fn station_counts<L: ExerciseLog>(
 pub(crate) fn stations_counted<L: ExerciseLog>(
     alloc: Global,
     log: &L,
-    account: &Account,
-    orders: &[Order<'_>],
-    told: &[OrderAt],
+    states: &[Vec<(u16, EntityState)>],
+    told: &Told,
 ) -> Result<Vec<StationCounts>, AllocError>
-    requires account { TellsAccount (L.recording log.now) account.now }
-    requires orders { map order_of orders.now ≡ orders_of (L.recording log.now) }
-    requires told { told.now ≡ orders_told (L.recording log.now) }
+    requires states { ArePresent (L.recording log.now) (map (λ v. v.items) states.now) }
+    requires told { let r = L.recording log.now in IsTold r (length r.entries) told.now }
     ensures { let r = L.recording log.now in IfOk result (λ counts. counts.items ≡ values_below (station_counts r) (length r.setting.stations)) }
 {
-    let counted = counts_by_station(alloc, log, orders, told)?;
+    let counted = counts_by_station(alloc, log, told)?;
     let mut counts = Vec::new(alloc);
     for station in 0..log.station_count() {
-        counts.push(station_counts(log, account, &counted, station as u16))?;
+        counts.push(station_counts(log, states, told, &counted, station as u16))?;
     }
     Ok(counts)
 }

@@ -1,22 +1,25 @@
 //! The orders of a recording at their parties, as they are told.
 
-ghost use Rattle.std.specs.Prelude.{◌≡◌, ◌≤◌, length, map, option_map, IfOk};
-ghost use Rattle.std.specs.List.{flat_map};
-ghost use Rattle.exercise_review.specs.Order.{order_of};
+ghost use Rattle.std.specs.Prelude.{◌≡◌, ◌≤◌, ◌<◌, ◌+◌, ℕ, Some, length, map, slice_get, slice_index_or, option_map, OnOk};
+ghost use Rattle.exercise_model.specs.Held.{shown};
+ghost use Rattle.exercise_review.specs.Counted.{count_at};
+ghost use Rattle.exercise_review.specs.Order.{order_of, order_at};
 ghost use Rattle.exercise_review.specs.Parties.{outsider_at, party_address};
-ghost use Rattle.exercise_review.specs.Told.{order_told, order_at_parties, orders_of, orders_told};
-ghost use Rattle.exercise_review.specs.Room.{AddsWithin, MakesWithin};
+ghost use Rattle.exercise_review.specs.Told.{order_told, order_at_parties, told_at};
+ghost use Rattle.exercise_review.specs.Tally.{entry_places, IsTold, TellsWithin};
+ghost use Rattle.exercise_review.specs.Room.{AddsWithin};
 
+use crate::counting::count_one;
 use crate::entries::entry_count;
 use crate::fault::ReviewFault;
-use crate::order::{Order, order_at};
-use crate::outcome::{Outcome, outcomes_of};
+use crate::order::{Order, order_in};
+use crate::outcome::{Outcome, outcomes_at_head};
 use crate::party::{Outsider, Party};
 use crate::register::Register;
 use dis_records::{EntityId, Kind};
-use exercise_model::ExerciseLog;
+use exercise_model::{EntryView, ExerciseLog};
 use siman_pdus::{Message, request_id};
-use std::alloc::{AllocError, Global};
+use std::alloc::Global;
 
 /// An order at one of its parties, as it is told.
 #[derive(Clone, Copy, PartialEq, Eq)]
@@ -69,23 +72,6 @@ fn order_told<L: ExerciseLog>(
     }
 }
 
-/// The orders of a recording, by their heads.
-#[tactic(auto, unfolding(crate::specs::Told::orders_of), using(crate::proofs::Lists::list_steps))]
-pub(crate) fn orders_of<'a, L: ExerciseLog>(
-    alloc: Global,
-    findings: &Register<'a, L>,
-) -> Result<Vec<Order<'a>>, AllocError>
-    ensures { IfOk result (λ orders. map order_of orders.items ≡ orders_of findings.now) }
-{
-    let mut orders = Vec::new(alloc);
-    for entry in 0..entry_count(findings) {
-        if let Some(order) = order_at(findings, entry) {
-            orders.push(order)?;
-        }
-    }
-    Ok(orders)
-}
-
 /// Adds an order with each of these outcomes, where there is room for so many.
 fn push_outcomes<L: ExerciseLog>(
     told: &mut Vec<OrderAt>,
@@ -114,42 +100,83 @@ fn push_order<L: ExerciseLog>(
     findings: &Register<'_, L>,
     order: &Order<'_>,
 ) -> Result<(), ReviewFault>
-    requires { length told.old.items ≤ most }
+    requires room { length told.old.items ≤ most }
+    requires head { order_at findings.now order.now.head ≡ Some (order_of order.now) }
     ensures { AddsWithin most told.old.items (order_at_parties findings.now (order_of order.now)) result told.new.items }
 {
-    let outcomes = outcomes_of(alloc, findings, order)?;
+    let outcomes = outcomes_at_head(alloc, findings, order)?;
     push_outcomes(told, most, findings, order, &outcomes)
 }
 
-/// Adds these orders at all of their parties, where there is room for so many.
-fn push_orders<L: ExerciseLog>(
-    alloc: Global,
-    told: &mut Vec<OrderAt>,
-    most: usize,
-    findings: &Register<'_, L>,
-    orders: &[Order<'_>],
-) -> Result<(), ReviewFault>
-    requires { length told.old.items ≤ most }
-    ensures { AddsWithin most told.old.items (flat_map (order_at_parties findings.now) (map order_of orders.now)) result told.new.items }
-{
-    for order in orders {
-        push_order(alloc, told, most, findings, order)?;
-    }
-    Ok(())
+/// What is told of the entries so far.
+#[derive(Drop)]
+pub(crate) struct Told {
+    /// How many entries the log of each station has.
+    pub records: Vec<usize>,
+    /// Who made each order.
+    pub makers: Vec<Option<u16>>,
+    /// The orders at their parties.
+    pub orders: Vec<OrderAt>,
 }
 
-/// These orders at all of their parties; `OverLimit` where there are more than so many.
-#[tactic(auto, unfolding(crate::specs::Told::orders_told))]
-pub(crate) fn orders_within<L: ExerciseLog>(
+/// Counts the next entry among those of its station.
+fn count_entry<L: ExerciseLog>(
+    records: &mut Vec<usize>,
+    findings: &Register<'_, L>,
+    view: &EntryView<'_>,
+    entry: usize,
+)
+    requires within { entry < length findings.now.entries }
+    requires entry { slice_get findings.now.entries entry ≡ Some (shown view.now) }
+    requires stations { length records.old.items ≡ length findings.now.setting.stations }
+    requires before { (s : ℕ) → s < length findings.now.setting.stations → slice_index_or records.old.items s 0 ≡ count_at (entry_places findings.now) s entry }
+    ensures stations { length records.new.items ≡ length findings.now.setting.stations }
+    ensures counted { (s : ℕ) → s < length findings.now.setting.stations → slice_index_or records.new.items s 0 ≡ count_at (entry_places findings.now) s (entry + 1) }
+{
+    let _end = entry_count(findings);
+    count_one(records, Some(usize::from(view.station())));
+}
+
+/// Adds what is told of the next entry, where there is room for that.
+fn push_entry<L: ExerciseLog>(
+    alloc: Global,
+    told: &mut Told,
+    most: usize,
+    findings: &Register<'_, L>,
+    entry: usize,
+) -> Result<(), ReviewFault>
+    requires within { entry < length findings.now.entries }
+    requires room { length told.old.orders.items ≤ most }
+    requires before { IsTold findings.now entry told.old }
+    ensures told { OnOk result (IsTold findings.now (entry + 1) told.new) }
+    ensures added { AddsWithin most told.old.orders.items (told_at findings.now entry) result told.new.orders.items }
+{
+    let view = findings.log().entry(entry);
+    count_entry(&mut told.records, findings, &view, entry);
+    match order_in(findings, view, entry) {
+        Some(order) => {
+            told.makers.push(order.maker)?;
+            push_order(alloc, &mut told.orders, most, findings, &order)
+        }
+        None => Ok(()),
+    }
+}
+
+/// The orders of a recording at all of their parties; `OverLimit` where there are more than so many.
+pub(crate) fn told_within<L: ExerciseLog>(
     alloc: Global,
     findings: &Register<'_, L>,
-    orders: &[Order<'_>],
     most: usize,
-) -> Result<Vec<OrderAt>, ReviewFault>
-    requires { map order_of orders.now ≡ orders_of findings.now }
-    ensures { MakesWithin most (orders_told findings.now) result }
+) -> Result<Told, ReviewFault>
+    ensures { TellsWithin findings.now most result }
 {
-    let mut told = Vec::new(alloc);
-    push_orders(alloc, &mut told, most, findings, orders)?;
+    let mut told = Told {
+        records: vec![in alloc; 0; findings.log().station_count()]?,
+        makers: Vec::new(alloc),
+        orders: Vec::new(alloc),
+    };
+    for entry in 0..entry_count(findings) {
+        push_entry(alloc, &mut told, most, findings, entry)?;
+    }
     Ok(told)
 }

@@ -1,10 +1,10 @@
 //! Entries by their keys: from the last under each key a way leads back to the first.
 
-ghost use Rattle.std.specs.Prelude.{◌≡◌, ◌<◌, ℕ, ◌+◌, true, nat_eq, None, Some, IfOk, OnOk, IfSome, unwrap_or};
+ghost use Rattle.std.specs.Prelude.{◌≡◌, ◌<◌, ℕ, ◌+◌, true, false, nat_eq, None, Some, IfOk, OnOk, IfSome, length, slice_index_or, unwrap_or};
 ghost use Rattle.indexmap.specs.IndexMap.{get};
 ghost use Rattle.siman_pdus.specs.Answers.{same_id};
 ghost use Rattle.exercise_model.specs.Place.{first_below};
-ghost use Rattle.exercise_review.specs.Register.{holds, AreRegistered};
+ghost use Rattle.exercise_review.specs.Register.{holds, AreRegistered, AreEnds};
 ghost use Rattle.exercise_review.specs.Counted.{last_below};
 
 use crate::question::{Question, first_below};
@@ -72,6 +72,31 @@ pub(crate) fn ways_of<K: Keying>(alloc: Global, keying: &K, end: usize) -> Resul
     Ok(Ways { last, before })
 }
 
+/// Notes that something goes back to an entry, if it does: that is not the last under its key.
+fn note_earlier(ends: &mut Vec<bool>, earlier: Option<usize>)
+    ensures count { length ends.new.items ≡ length ends.old.items }
+    ensures each { (i : ℕ) → slice_index_or ends.new.items i false ≡ true → (slice_index_or ends.old.items i false ≡ true) × (earlier ≡ Some i → ⊥) }
+{
+    let Some(earlier) = earlier else {
+        return;
+    };
+    if earlier < ends.len() {
+        ends[earlier] = false;
+    }
+}
+
+/// For each entry whether none goes back to it, where these are the ways back of all. What is kept
+/// takes memory.
+pub(crate) fn ends_of(alloc: Global, before: &[Option<usize>]) -> Result<Vec<bool>, AllocError>
+    ensures { IfOk result (λ ends. AreEnds before.now ends.items) }
+{
+    let mut ends = vec![in alloc; true; before.len()]?;
+    for entry in 0..before.len() {
+        note_earlier(&mut ends, before[entry]);
+    }
+    Ok(ends)
+}
+
 /// The entry before one under their key.
 fn before<K: Keying>(ways: &Ways, keying: &K, end: usize, entry: usize) -> Option<usize>
     requires within { entry < end }
@@ -130,13 +155,15 @@ pub(crate) fn is_first<K: Keying, Q: Question>(
     }
 }
 
-/// Whether an entry that passes is the first.
-#[tactic(auto, using(crate::proofs::FirstOnes::none_or_not, crate::proofs::FirstOnes::none_before))]
-fn is_first_of_all<Q: Question>(question: &Q, end: usize, entry: usize) -> bool
-    requires within { entry < end }
-    requires passes { Q.test question.now entry ≡ true }
+/// Whether an entry is the first that passes: all before it are asked.
+#[tactic(auto, using(crate::proofs::FirstOnes::fails_itself, crate::proofs::FirstOnes::none_or_not, crate::proofs::FirstOnes::none_before))]
+pub(crate) fn is_first_of_all<Q: Question>(question: &Q, end: usize, entry: usize) -> bool
+    requires { entry < end }
     ensures { result ≡ same_id (first_below (Q.test question.now) end) (Some entry) }
 {
+    if !question.passes(entry) {
+        return false;
+    }
     match first_below(question, entry) {
         Some(_) => false,
         None => true,

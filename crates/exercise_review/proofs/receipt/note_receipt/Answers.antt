@@ -5,7 +5,7 @@ use Rattle.exercise_model.specs.Setting.{is_open}
 use Rattle.exercise_review.specs.Register.{key_at}
 use Rattle.exercise_review.proofs.KnownKeys.{key_kept}
 use Rattle.exercise_review.specs.declared.receipt.Receipt.{Receipt}
-use Rattle.exercise_review.proofs.Receiving.{heard_still, heard_more, heard_asked, sent_no_bytes, told_no_bytes}
+use Rattle.exercise_review.proofs.Receiving.{heard_still, heard_more, heard_keyed, sent_no_bytes, told_no_bytes}
 use Rattle.exercise_review.proofs.receipt.note_receipt.Goals as goal
 
 pub returns-in_ok-keep_receipt-in-Received : goal.returns-in_ok-keep_receipt-in-Received
@@ -30,5 +30,4 @@ returns-then-is_some g c =
     let r : PlainRecording = g.L.ExerciseLog.recording c.args.log.now in
     let closed : is_open r.setting.form ≡ false = search rules in
     let keyed : is_some (key_at r c.args.entry) ≡ true = ap is_some (sym (key_kept r (length r.entries) c.args.entry c.args.keys.now c.requires.keys c.requires.within)) ∙ sym c.is_some.ensures ∙ c.if-is_some.true in
-    heard_asked r c.args.entry c.in-Received.station c.in-Received.stamp c.in-Received.bytes.now c.args.heard.now c.in-Received.ensures.entry closed keyed
-    c.requires.tied
+    heard_keyed r c.args.entry c.args.heard.now closed keyed c.requires.tied

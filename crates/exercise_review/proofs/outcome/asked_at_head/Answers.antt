@@ -1,0 +1,11 @@
+use Rattle.exercise_review.specs.Order.{order_of}
+use Rattle.exercise_review.proofs.Ends.{sent_once}
+use Rattle.exercise_review.proofs.Orders.{among_entries}
+use Rattle.exercise_review.proofs.outcome.asked_at_head.Goals as goal
+
+pub is_last-requires : goal.is_last-requires
+is_last-requires g c = among_entries c.args.findings.now c.args.order.now.head (order_of c.args.order.now) c.requires
+
+pub returns-in-Some-clause-sends : goal.returns-in-Some-clause-sends
+returns-in-Some-clause-sends g c =
+    sent_once c.args.findings.now (order_of c.args.order.now) c.in-Some._maker c.requires c.in-Some.is (c.is_last.ensures c.if-is_last.true)

@@ -1,0 +1,10 @@
+use Rattle.std.proofs.Common.{◌≤◌, length}
+use Rattle.exercise_review.specs.Tally.{IsTold}
+use Rattle.exercise_review.proofs.told.told_within.Given as goal
+
+-- What was told of the entries so far, for which there was room.
+abbrev pub invariant-loop-entry : goal.invariant-loop-entry
+invariant-loop-entry g l = record {
+  told : IsTold l.findings l.entry l.told;
+  room : length l.told.orders.items ≤ l.most;
+}

@@ -12,7 +12,7 @@ use Rattle.exercise_review.specs.Counted.{last_below, count_below}
 use Rattle.exercise_review.specs.Digest.{digest_of}
 use Rattle.exercise_review.specs.Order.{OrderData, sends_order, order_at, sends_of}
 use Rattle.exercise_review.specs.Outcome.{sends_told}
-use Rattle.exercise_review.specs.Register.{order_key, holds, has_key, IsBefore, IsEnd, AreEnds, IsUnder}
+use Rattle.exercise_review.specs.Register.{order_key, holds, has_key, IsBefore, AreEnds, IsUnder}
 use Rattle.exercise_review.proofs.FirstOnes.{off}
 use Rattle.exercise_review.proofs.OneOrder.{order_made}
 use Rattle.exercise_review.proofs.Runs.{none_passes}

@@ -1,6 +1,7 @@
 -- The changes of stations as a course keeps them: what comes next, one change more at a time, and what is passed over.
 use Rattle.std.proofs.Common.{◌≡◌, ◌≢◌, ⊎_elim, ℕ, zero, suc, ◌+◌, ◌-◌, ◌<◌, ◌≤◌, List, [], ◌∷◌, ◌++◌, length, map, set, take, drop, append-nil, get_or, replicate, Bool, true, false, Option, Some, None, Vec, refl, sym, ap, ◌∙◌, subst, arith}
-use Rattle.std.specs.Prelude.{IfSome, nat_eq, slice_get, slice_index_or, not, ◌&&◌, option_and_then, if◌then◌else◌}
+use Rattle.std.specs.Prelude.{IfSome, nat_eq, slice_get, slice_index_or, not, ◌&&◌, option_map, option_and_then, if◌then◌else◌}
+use Rattle.std.specs.Option.{option_to_list}
 use Rattle.std.specs.declared.alloc.Global.{Global}
 use Rattle.std.proofs.lemmas.Bool.{cases_eq, cases_lt, eqb-true, eq-eqb, ne_eqb}
 use Rattle.std.proofs.lemmas.List.{take_more, take_all, drop_more, drop_all, length-set, length-replicate, get_or-replicate, get_or_past}
@@ -28,7 +29,7 @@ use Rattle.exercise_findings.specs.State.{state_before}
 use Rattle.exercise_review.specs.Life.{LifeSoFar, stretch_of, lived_on, lives_of}
 use Rattle.exercise_review.specs.Room.{lists_below}
 use Rattle.exercise_review.specs.Span.{span_of, entity_at, entity_spans, own_change, made_of, made_at, changes_made, lived_by}
-use Rattle.exercise_review.specs.Course.{AreChanges, no_made, change_in, is_one, is_all, is_of, moves_all, IsNextIn, AreNextIn, AreOwn, IsCourse, IsStill, lived_in, lives_in}
+use Rattle.exercise_review.specs.Course.{AreChanges, AreNoted, no_made, change_in, is_one, is_all, is_of, moves_all, IsNextIn, AreNextIn, AreOwn, IsCourse, IsStill, lived_in, lives_in}
 use Rattle.exercise_review.proofs.Lists.{lists_none}
 use Rattle.exercise_review.proofs.Spans.{state_is, lived_by-more, lives_on, lives_are, change_more, change_none}
 
@@ -93,7 +94,7 @@ changes_still r n all none so_far = record {
 
 pub changes_more : (r : PlainRecording) (n t : ℕ) (e : Entry) (c : Change) (all : List (Vec Made Global)) (old new : Vec Made Global)
     → slice_get r.entries n ≡ Some e → t ≡ station_of (event_of e) → change_at r n ≡ Some c → slice_get all t ≡ Some old → t < length all
-    → new.items ≡ old.items ++ made_of n c ∷ [] → AreChanges r n all → AreChanges r (n + 1) (set all t new)
+    → new.items ≡ old.items ++ made_of r n c ∷ [] → AreChanges r n all → AreChanges r (n + 1) (set all t new)
 changes_more r n t e c all old new at station change here within pushed so_far = record {
   count = length-set all t new ∙ so_far.count;
   each = λ s. ⊎_elim
@@ -336,6 +337,32 @@ none_added r s e most c old entity course room none =
     (sym (append-nil old) ∙ ap (λ xs. old ++ xs) (sym (ap (map (span_of r (entity_at (station_at r s).address e))) lives)), room)
 
 -- the changes of one of all stations
+-- ---- what is noted of changes
+
+noted_append : (r : PlainRecording) (xs ys : List Made) → AreNoted r xs → AreNoted r ys → AreNoted r (xs ++ ys)
+noted_append r [] ys first second k l = second k l
+noted_append r (x ∷ xs) ys first second zero l = first 0 (omega arith)
+noted_append r (x ∷ xs) ys first second (suc k) l = noted_append r xs ys (λ j m. first (suc j) (omega (arith, m))) second k (omega (arith, l))
+
+noted_one : (r : PlainRecording) (n : ℕ) (c : Option Change) → AreNoted r (option_to_list (option_map (made_of r n) c))
+noted_one r n None k l = absurd (omega (arith, l))
+noted_one r n (Some c) zero l = refl
+noted_one r n (Some c) (suc k) l = absurd (omega (arith, l))
+
+noted_below : (r : PlainRecording) (s n : ℕ) → AreNoted r (lists_below (made_at r s) n)
+unfolding lists_below made_at
+noted_below r s zero k l = absurd (omega (arith, l))
+noted_below r s (suc n) k l =
+    noted_append r (lists_below (made_at r s) n) (made_at r s n) (noted_below r s n) (noted_one r n (own_change r s n)) k l
+
+-- THE CHANGES OF A STATION have with them what their entries say
+pub changes_noted : (r : PlainRecording) (s : ℕ) → AreNoted r (changes_made r s)
+unfolding changes_made
+changes_noted r s = noted_below r s (length r.entries)
+
+pub course_noted : (r : PlainRecording) (s : ℕ) (c : Course) → IsCourse r s c → AreNoted r c.changes.now
+course_noted r s c course = subst (AreNoted r) (sym course.changes) (changes_noted r s)
+
 pub changes_here : (r : PlainRecording) (all : List (Vec Made Global)) (s : ℕ) (ms : Vec Made Global) → AreChanges r (length r.entries) all → s < length all
     → ms ≡ get_or all s ms → ms.items ≡ changes_made r s
 unfolding changes_made

@@ -1,5 +1,5 @@
 -- The changes of a station, and which of them comes next for an entity (profile).
-use Rattle.std.specs.Prelude.{◌≡◌, ℕ, ◌+◌, ◌<◌, ◌≤◌, List, [], ◌++◌, length, Bool, true, false, ◌==◌, ◌&&◌, not, None, IfSome, slice_get, slice_index_or, Vec}
+use Rattle.std.specs.Prelude.{◌≡◌, ℕ, ◌+◌, ◌<◌, ◌≤◌, List, [], ◌++◌, length, Bool, true, false, ◌==◌, ◌&&◌, not, Some, None, IfSome, slice_get, slice_index_or, Vec}
 use Rattle.std.specs.declared.alloc.Global.{Global}
 use Rattle.dis_records.specs.declared.kind.Kind.TheVariants as kinds
 use Rattle.dis_records.specs.declared.entity.Scope.{Scope}
@@ -18,7 +18,7 @@ use Rattle.exercise_review.specs.declared.course.Own.{Own}
 use Rattle.exercise_review.specs.declared.course.Course.{Course}
 use Rattle.exercise_review.specs.Life.{LifeSoFar, stretch_of}
 use Rattle.exercise_review.specs.Room.{lists_below}
-use Rattle.exercise_review.specs.Span.{made_at, changes_made, lived_by}
+use Rattle.exercise_review.specs.Span.{noted_of, made_at, changes_made, lived_by}
 
 -- THE CHANGES OF ALL STATIONS in the entries below n, each station's in their order
 pub record AreChanges (r : PlainRecording) (n : ℕ) (all : List (Vec Made Global)) : Type 0 where
@@ -27,11 +27,15 @@ pub record AreChanges (r : PlainRecording) (n : ℕ) (all : List (Vec Made Globa
 
 -- what is read past the end of a list of changes
 abbrev pub no_made : Made
-no_made = record { entry = 0; change = record { kind = kinds.CreateEntity; scope = One 0 } }
+no_made = record { entry = 0; change = record { kind = kinds.CreateEntity; scope = One 0 }; noted = record { stamp = None; by = None; request = None } }
 
 -- the change at a place
 abbrev pub change_in : List Made → ℕ → Change
 change_in ms k = (slice_index_or ms k no_made).change
+
+-- WHAT IS NOTED of each of these changes is what its entry says
+abbrev pub AreNoted : PlainRecording → List Made → Type 0
+AreNoted r ms = (k : ℕ) → k < length ms → (slice_index_or ms k no_made).noted ≡ noted_of r (Some (slice_index_or ms k no_made).entry)
 
 -- a scope is entity e alone, or all entities
 abbrev pub is_one : ℕ → Scope → Bool

@@ -6,7 +6,7 @@ ghost use Rattle.exercise_review.specs.Course.{AreChanges};
 
 use crate::entries::{entry_at, entry_count};
 use crate::register::Register;
-use crate::span::Made;
+use crate::span::{Made, made_of};
 use exercise_model::{Change, EntryView, ExerciseLog};
 use std::alloc::{AllocError, Global};
 
@@ -39,7 +39,7 @@ pub(crate) fn changes_made<L: ExerciseLog>(
     let mut changes = Vec::new(alloc);
     for entry in 0..entry_count(findings) {
         if let Some(change) = own_change(findings, station, entry) {
-            changes.push(Made { entry, change })?;
+            changes.push(made_of(findings, entry, change))?;
         }
     }
     Ok(changes)
@@ -71,7 +71,8 @@ fn note_change<L: ExerciseLog>(
         return Ok(());
     };
     let station = usize::from(findings.log().entry(entry).station());
-    all[station].push(Made { entry, change })?;
+    let made = made_of(findings, entry, change);
+    all[station].push(made)?;
     Ok(())
 }
 

@@ -6,8 +6,8 @@ ghost use Rattle.exercise_model.specs.Station.{is_entity};
 ghost use Rattle.exercise_review.specs.Life.{lives_of};
 ghost use Rattle.exercise_review.specs.Outcome.{stamp_at};
 ghost use Rattle.exercise_review.specs.Room.{lists_below, AddsWithin, MakesWithin};
-ghost use Rattle.exercise_review.specs.Span.{request_behind, span_of, entity_spans, spans_of, all_spans, changes_made};
-ghost use Rattle.exercise_review.specs.Course.{IsCourse};
+ghost use Rattle.exercise_review.specs.Span.{request_behind, noted_of, made_of, span_of, entity_spans, spans_of, all_spans, changes_made};
+ghost use Rattle.exercise_review.specs.Course.{AreNoted, IsCourse};
 
 use crate::changes::{changes_by_station, changes_made};
 use crate::course::Course;
@@ -46,11 +46,23 @@ pub struct Span {
     pub request: Option<u32>,
 }
 
+/// What is noted of an entry that changes something, so that it need not be looked at again.
+#[derive(Clone, Copy)]
+pub(crate) struct Noted {
+    /// Its stamp.
+    pub stamp: Option<u64>,
+    /// Who asked for the change.
+    pub by: Option<Outsider>,
+    /// The identifier of that request.
+    pub request: Option<u32>,
+}
+
 /// What an entry changes.
 #[derive(Clone, Copy)]
 pub(crate) struct Made {
     pub entry: usize,
     pub change: Change,
+    pub noted: Noted,
 }
 
 /// The request that the answer at an entry takes up, if there is such an entry.
@@ -77,23 +89,92 @@ fn stamp_if<L: ExerciseLog>(findings: &Register<'_, L>, entry: Option<usize>) ->
     }
 }
 
-/// A stretch of an entity's life, as it is told.
-fn span_of<L: ExerciseLog>(findings: &Register<'_, L>, entity: EntityId, stretch: Stretch) -> Span
-    ensures { result ≡ span_of findings.now entity stretch }
+/// What is noted of an entry that changes something, if there is one.
+fn noted_of<L: ExerciseLog>(findings: &Register<'_, L>, entry: Option<usize>) -> Noted
+    ensures { result ≡ noted_of findings.now entry }
 {
-    let (by, request) = match request_behind(findings, stretch.from) {
+    let (by, request) = match request_behind(findings, entry) {
         Some(pdu) => (Some(parts_in(pdu.origin)), request_id(&pdu)),
         None => (None, None),
     };
+    Noted {
+        stamp: stamp_if(findings, entry),
+        by,
+        request,
+    }
+}
+
+/// The change that an entry makes, with what is noted of that.
+pub(crate) fn made_of<L: ExerciseLog>(
+    findings: &Register<'_, L>,
+    entry: usize,
+    change: Change,
+) -> Made
+    ensures { result ≡ made_of findings.now entry change }
+{
+    Made {
+        entry,
+        change,
+        noted: noted_of(findings, Some(entry)),
+    }
+}
+
+/// Where the change of an entry stands among changes by rising entries, if it is one of them.
+fn place_of(changes: &[Made], entry: usize) -> usize
+    ensures { result ≤ length changes.now }
+{
+    let mut low = 0;
+    let mut high = changes.len();
+    while low < high {
+        let middle = low + (high - low) / 2;
+        if changes[middle].entry < entry {
+            low = middle + 1;
+        } else {
+            high = middle;
+        }
+    }
+    low
+}
+
+/// The same as is noted of an entry, taken from these changes where it is one of them.
+fn noted_among<L: ExerciseLog>(
+    findings: &Register<'_, L>,
+    changes: &[Made],
+    entry: Option<usize>,
+) -> Noted
+    requires { AreNoted findings.now changes.now }
+    ensures { result ≡ noted_of findings.now entry }
+{
+    if let Some(number) = entry {
+        let place = place_of(changes, number);
+        if place < changes.len() && changes[place].entry == number {
+            return changes[place].noted;
+        }
+    }
+    noted_of(findings, entry)
+}
+
+/// A stretch of an entity's life, as it is told, by the changes of its station.
+fn span_of<L: ExerciseLog>(
+    findings: &Register<'_, L>,
+    changes: &[Made],
+    entity: EntityId,
+    stretch: Stretch,
+) -> Span
+    requires { AreNoted findings.now changes.now }
+    ensures { result ≡ span_of findings.now entity stretch }
+{
+    let from = noted_among(findings, changes, stretch.from);
+    let until = noted_among(findings, changes, stretch.until);
     Span {
         entity,
         state: stretch.state,
         from: stretch.from,
         to: stretch.until,
-        since: stamp_if(findings, stretch.from),
-        until: stamp_if(findings, stretch.until),
-        by,
-        request,
+        since: from.stamp,
+        until: until.stamp,
+        by: from.by,
+        request: from.request,
     }
 }
 
@@ -102,17 +183,19 @@ fn push_stretches<L: ExerciseLog>(
     spans: &mut Vec<Span>,
     most: usize,
     findings: &Register<'_, L>,
+    changes: &[Made],
     entity: EntityId,
     stretches: &[Stretch],
 ) -> Result<(), ReviewFault>
-    requires { length spans.old.items ≤ most }
+    requires noted { AreNoted findings.now changes.now }
+    requires room { length spans.old.items ≤ most }
     ensures { AddsWithin most spans.old.items (map (span_of findings.now entity) stretches.now) result spans.new.items }
 {
     for stretch in stretches {
         if spans.len() >= most {
             return Err(ReviewFault::OverLimit);
         }
-        spans.push(span_of(findings, entity, *stretch))?;
+        spans.push(span_of(findings, changes, entity, *stretch))?;
     }
     Ok(())
 }
@@ -135,6 +218,7 @@ fn lives_by<L: ExerciseLog>(
 }
 
 /// Adds those of an entity of a station, by the course of that station.
+#[tactic(auto, using(crate::proofs::Courses::course_noted))]
 fn push_lives<L: ExerciseLog>(
     alloc: Global,
     spans: &mut Vec<Span>,
@@ -157,7 +241,7 @@ fn push_lives<L: ExerciseLog>(
         application: at.application,
         entity,
     };
-    push_stretches(spans, most, findings, id, &stretches)
+    push_stretches(spans, most, findings, course.changes, id, &stretches)
 }
 
 /// Adds those of an entity of a station, if there may be any.

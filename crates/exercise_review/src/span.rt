@@ -136,17 +136,36 @@ fn place_of(changes: &[Made], entry: usize) -> usize
     low
 }
 
-/// The same as is noted of an entry, taken from these changes where it is one of them.
+/// The same, looked for at a place and right behind it first.
+fn place_near(changes: &[Made], near: usize, entry: usize) -> usize
+    ensures { result ≤ length changes.now }
+{
+    if near < changes.len() {
+        if changes[near].entry == entry {
+            return near;
+        }
+        let next = near + 1;
+        if next < changes.len() && changes[next].entry == entry {
+            return next;
+        }
+    }
+    place_of(changes, entry)
+}
+
+/// The same as is noted of an entry, taken from these changes where it is one of them. It is looked for
+/// near where the last one stood.
 fn noted_among<L: ExerciseLog>(
     findings: &Register<'_, L>,
     changes: &[Made],
+    near: &mut usize,
     entry: Option<usize>,
 ) -> Noted
     requires { AreNoted findings.now changes.now }
     ensures { result ≡ noted_of findings.now entry }
 {
     if let Some(number) = entry {
-        let place = place_of(changes, number);
+        let place = place_near(changes, *near, number);
+        *near = place;
         if place < changes.len() && changes[place].entry == number {
             return changes[place].noted;
         }
@@ -158,14 +177,15 @@ fn noted_among<L: ExerciseLog>(
 fn span_of<L: ExerciseLog>(
     findings: &Register<'_, L>,
     changes: &[Made],
+    near: &mut usize,
     entity: EntityId,
     stretch: Stretch,
 ) -> Span
     requires { AreNoted findings.now changes.now }
     ensures { result ≡ span_of findings.now entity stretch }
 {
-    let from = noted_among(findings, changes, stretch.from);
-    let until = noted_among(findings, changes, stretch.until);
+    let from = noted_among(findings, changes, near, stretch.from);
+    let until = noted_among(findings, changes, near, stretch.until);
     Span {
         entity,
         state: stretch.state,
@@ -191,11 +211,13 @@ fn push_stretches<L: ExerciseLog>(
     requires room { length spans.old.items ≤ most }
     ensures { AddsWithin most spans.old.items (map (span_of findings.now entity) stretches.now) result spans.new.items }
 {
+    let mut near = 0;
     for stretch in stretches {
         if spans.len() >= most {
             return Err(ReviewFault::OverLimit);
         }
-        spans.push(span_of(findings, changes, entity, *stretch))?;
+        let span = span_of(findings, changes, &mut near, entity, *stretch);
+        spans.push(span)?;
     }
     Ok(())
 }

@@ -1,5 +1,5 @@
 -- Orders one after the other, and what is told of them, as loops make it.
-use Rattle.std.proofs.Common.{◌≡◌, ⊎_elim, ℕ, zero, suc, ◌+◌, ◌<◌, ◌≤◌, List, [], ◌∷◌, ◌++◌, length, Bool, true, false, Option, Some, None, refl, sym, ap, ◌∙◌, append-nil, subst, arith}
+use Rattle.std.proofs.Common.{◌≡◌, ⊎_elim, ℕ, zero, suc, ◌+◌, ◌<◌, ◌≤◌, List, [], ◌∷◌, ◌++◌, length, map, Bool, true, false, Option, Some, None, refl, sym, ap, ◌∙◌, append-nil, subst, arith}
 use Rattle.std.specs.Prelude.{Result, Ok, Err, OnOk, slice_get, slice_index_or, option_map, option_and_then, if◌then◌else◌}
 use Rattle.std.specs.List.{flat_map}
 use Rattle.std.specs.Option.{option_to_list}
@@ -21,9 +21,28 @@ use Rattle.exercise_review.specs.Order.{OrderData, made_by, order_of_entry, head
 use Rattle.exercise_review.specs.Room.{lists_below, AddsWithin}
 use Rattle.exercise_review.specs.Counted.{count_at}
 use Rattle.exercise_review.specs.Tally.{makers_of, entry_places, IsTold, TellsWithin}
-use Rattle.exercise_review.specs.Told.{order_at_parties, orders_at, told_at, orders_of, orders_told}
+use Rattle.exercise_review.specs.declared.party.Party.{Party}
+use Rattle.exercise_review.specs.Parties.{parties_of}
+use Rattle.exercise_review.specs.Outcome.{outcome_at, outcomes_at, outcomes_of}
+use Rattle.exercise_review.specs.Told.{order_told, order_at_parties, orders_at, told_at, orders_of, orders_told}
 use Rattle.exercise_review.proofs.Lists.{lists_none, lists_more, part_below}
 use Rattle.exercise_review.proofs.Tallies.{none_counted}
+
+-- ---- an order at its parties
+
+map_twice : {X Y Z : Type 0} (f : Y → Z) (g : X → Y) (xs : List X) → map f (map g xs) ≡ map (λ x. f (g x)) xs
+map_twice f g [] = refl
+map_twice f g (x ∷ xs) = ap (λ ys. f (g x) ∷ ys) (map_twice f g xs)
+
+-- an order that has parties is told at each of them
+pub told_at_parties : (r : PlainRecording) (o : OrderData) (parties : List Party) → parties ≡ parties_of r o → (length parties ≡ 0 → ⊥)
+    → map (λ party. order_told r o (outcome_at r o party)) parties ≡ order_at_parties r o
+unfolding outcomes_of
+told_at_parties r o parties are some = sym (ap (λ ps. map (order_told r o) (outcomes_at r o ps)) (sym are) ∙ of_list parties some)
+  where
+    of_list : (ps : List Party) → (length ps ≡ 0 → ⊥) → map (order_told r o) (outcomes_at r o ps) ≡ map (λ party. order_told r o (outcome_at r o party)) ps
+    of_list [] some = absurd (some refl)
+    of_list (p ∷ ps) some = map_twice (order_told r o) (outcome_at r o) (p ∷ ps)
 
 -- ---- heads
 

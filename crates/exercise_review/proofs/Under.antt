@@ -24,7 +24,7 @@ use Rattle.exercise_review.specs.Digest.{digest, digest_of}
 use Rattle.exercise_review.specs.Entries.{bytes_sent_by, bytes_got_by, bytes_sent, bytes_got, sent_by, got_by}
 use Rattle.exercise_review.specs.Order.{OrderData, sends_order, gets_order, entry_gets, gets_anywhere, is_outside, sends_under_id, is_first_under_id}
 use Rattle.exercise_review.specs.Party.{is_copy, is_told_from, tells_from}
-use Rattle.exercise_review.specs.Reply.{answers_order, is_reply, is_changing_reply, replies_in}
+use Rattle.exercise_review.specs.Reply.{answers_order, takes_copy, is_reply, is_changing_reply, replies_in}
 use Rattle.exercise_review.specs.Word.{is_settling}
 use Rattle.exercise_review.specs.Register.{number_under, order_key, id_key, sent_key, got_key, entry_key, key_at, nowhere, second_key, second_at, holds, has_key, told_key, IsUnder}
 use Rattle.exercise_review.proofs.Runs.{there}
@@ -174,9 +174,11 @@ sends_keyed r s p asks i h =
     let q = there (is_same_order p) (sent_by r s i) h in
     sent_keyed r s i q.0 q.1 ∙ asked_key r s i q.0 (sym (same_asking p q.0 q.2) ∙ asks) ∙ sym (same_key s p q.0 q.2)
 
+sends_have : (r : PlainRecording) (s : ℕ) (p : Pdu) (k : ℕ) → order_key s p ≡ Some k → IsUnder r (sends_order r s p) k
+sends_have r s p k e i h = has_it r i k (sends_keyed r s p (is_asking s k p e) i h ∙ e)
+
 pub sends_under : (r : PlainRecording) (s : ℕ) (p : Pdu) → IfSome (order_key s p) (IsUnder r (sends_order r s p))
-sends_under r s p = if_key (order_key s p) (IsUnder r (sends_order r s p)) (λ k e i h.
-    has_it r i k (sends_keyed r s p (is_asking s k p e) i h ∙ e))
+sends_under r s p = if_key (order_key s p) (IsUnder r (sends_order r s p)) (sends_have r s p)
 
 gets_have : (r : PlainRecording) (s : ℕ) (p : Pdu) (k : ℕ) → order_key s p ≡ Some k → IsUnder r (gets_order r s p) k
 unfolding gets_order
@@ -187,8 +189,35 @@ gets_have r s p k e i h =
 pub gets_under : (r : PlainRecording) (s : ℕ) (p : Pdu) → IfSome (order_key s p) (IsUnder r (gets_order r s p))
 gets_under r s p = if_key (order_key s p) (IsUnder r (gets_order r s p)) (gets_have r s p)
 
+pub send_has : (r : PlainRecording) (o : OrderData) (t k : ℕ) → order_key t o.request ≡ Some k → IsUnder r (sends_order r t o.request) k
+send_has r o t = sends_have r t o.request
+
 pub copy_has : (r : PlainRecording) (o : OrderData) (t k : ℕ) → order_key t o.request ≡ Some k → IsUnder r (is_copy r o t) k
 copy_has r o t = gets_have r t o.request
+
+-- what is received there is not sent there
+got_not_sent : (r : PlainRecording) (t i : ℕ) (q : Pdu) → got_by r t i ≡ Some q → sent_by r t i ≡ None
+unfolding got_by sent_by bytes_got bytes_sent
+got_not_sent r t i q =
+    elim (slice_get r.entries i) as (λ o. option_and_then (meaning r.setting.exercise) (option_and_then (bytes_got_by t) o) ≡ Some q
+    → option_and_then (meaning r.setting.exercise) (option_and_then (bytes_sent_by t) o) ≡ None) [
+      | None ↦ λ h. absurd (cc)
+      | Some e ↦ of_entry e
+    ]
+  where
+    of_entry : (e : Entry) → option_and_then (meaning r.setting.exercise) (bytes_got_by t e) ≡ Some q
+        → option_and_then (meaning r.setting.exercise) (bytes_sent_by t e) ≡ None
+    of_entry (Sent s stamp b) = λ h. absurd (cc)
+    of_entry (Received s stamp b) = λ h. refl
+    of_entry (Told s n y) = λ h. absurd (cc)
+
+-- A COPY is nothing else: at its entry the station neither sends the order nor replies to it
+pub copy_alone : (r : PlainRecording) (o : OrderData) (t i : ℕ) → is_copy r o t i ≡ true → (sends_order r t o.request i ≡ false) × (is_reply r o t i ≡ false)
+unfolding gets_order sends_order is_reply
+copy_alone r o t i h =
+    let q = there (is_same_order o.request) (got_by r t i) h in
+    let none = got_not_sent r t i q.0 q.1 in
+    (ap (λ x. option_map_or (is_same_order o.request) x false) none, ap (λ x. option_map_or (λ (p : Pdu). is_answer_to p o.request) x false && takes_copy r o t i) none)
 
 pub reply_has : (r : PlainRecording) (o : OrderData) (t k : ℕ) → order_key t o.request ≡ Some k → IsUnder r (is_reply r o t) k
 unfolding is_reply gets_order

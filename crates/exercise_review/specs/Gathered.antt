@@ -1,17 +1,22 @@
 -- What the logs of its maker and of a party say of an order, gathered from the last entry back to the first (profile).
-use Rattle.std.specs.Prelude.{◌≡◌, ℕ, List, length, Bool, false, Option, option_and_then}
+use Rattle.std.specs.Prelude.{◌≡◌, ℕ, List, length, Bool, false, Option, option_and_then, IfSome}
 use Rattle.std.specs.Option.{option_map_or}
 use Rattle.exercise_model.specs.Recording.{PlainRecording}
 use Rattle.exercise_model.specs.Place.{first_below}
 use Rattle.exercise_model.specs.Meaning.{meaning}
+use Rattle.exercise_review.specs.declared.gathered.Gathered.{Gathered}
 use Rattle.exercise_review.specs.declared.reply.Reply.{Reply}
 use Rattle.exercise_review.specs.declared.answered.Replied.{Replied}
 use Rattle.exercise_review.specs.declared.news.HeardNews.{HeardNews}
 use Rattle.exercise_review.specs.declared.word.Spoken.{Spoken}
 use Rattle.exercise_review.specs.declared.word.Word.{Word}
-use Rattle.exercise_review.specs.Counted.{last_below}
+use Rattle.exercise_review.specs.Counted.{count_below, last_below}
 use Rattle.exercise_review.specs.Heard.{gets_in}
-use Rattle.exercise_review.specs.Word.{word_of, word_at}
+use Rattle.exercise_review.specs.Order.{OrderData, sends_order}
+use Rattle.exercise_review.specs.Outcome.{receipts_of}
+use Rattle.exercise_review.specs.Party.{first_copy}
+use Rattle.exercise_review.specs.Reply.{is_reply, is_news, change_of_order}
+use Rattle.exercise_review.specs.Word.{word_of, word_at, is_settling, first_settling}
 
 -- there is a reply, and it settles
 abbrev pub settles_in : Option Reply → Bool
@@ -39,3 +44,19 @@ pub record AreSpoken (r : PlainRecording) (replied : Replied) (news : HeardNews)
   pub last : IsSpoken r replied.last
   pub heard : IsSpoken r news.settled
   pub heard_last : IsSpoken r news.last
+
+-- WHAT WAS GATHERED of an order at station t: its sends and its copies there, the replies of the station, and what the maker heard of these
+pub record IsGathered (r : PlainRecording) (o : OrderData) (t : ℕ) (x : Gathered) : Type 0 where
+  pub sends : x.sends ≡ count_below (sends_order r t o.request) (length r.entries)
+  pub count : x.copies.count ≡ receipts_of r o t
+  pub first : x.copies.first ≡ first_copy r o t
+  pub settled : x.replied.settled.entry ≡ first_settling r (is_reply r o t)
+  pub last : x.replied.last.entry ≡ last_below (is_reply r o t) (length r.entries)
+  pub change : x.replied.change ≡ change_of_order r o t
+  pub heard : x.news.settled.entry ≡ first_settling r (is_news r o t)
+  pub news : x.news.last.entry ≡ last_below (is_news r o t) (length r.entries)
+  pub words : AreSpoken r x.replied x.news
+
+-- what was gathered of an order at the station that made it, if that was done
+abbrev pub IsOwn : PlainRecording → OrderData → Option Gathered → Type 0
+IsOwn r o own = IfSome own (λ (x : Gathered). IfSome o.maker (λ s. IsGathered r o s x))

@@ -13,6 +13,7 @@ pub mod Reply
 pub mod Word
 pub mod Fate
 pub mod Outcome
+pub mod Asked
 pub mod Life
 pub mod InRuns
 pub mod Answering

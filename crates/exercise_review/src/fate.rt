@@ -1,12 +1,8 @@
 //! What became of an order at a party of it.
 
-ghost use Rattle.std.specs.Prelude.{◌≡◌, length};
-ghost use Rattle.exercise_review.specs.Counted.{last_below};
+ghost use Rattle.std.specs.Prelude.{◌≡◌};
 ghost use Rattle.exercise_review.specs.Order.{order_of};
-ghost use Rattle.exercise_review.specs.Party.{first_copy};
-ghost use Rattle.exercise_review.specs.Reply.{is_reply, is_news};
-ghost use Rattle.exercise_review.specs.Word.{first_settling};
-ghost use Rattle.exercise_review.specs.Gathered.{AreSpoken};
+ghost use Rattle.exercise_review.specs.Gathered.{IsGathered};
 ghost use Rattle.exercise_review.specs.Fate.{fate_heard, fate_by, traces_of, fate_of, fate_text};
 
 use crate::gathered::{Gathered, gathered_of};
@@ -123,11 +119,7 @@ impl fmt::Display for Fate {
 /// The traces of an order at a recorded station, where this was gathered there.
 #[tactic(auto, unfolding(crate::specs::Fate::traces_of), using(crate::proofs::Walks::found_alike))]
 pub(crate) fn traces_by<L: ExerciseLog>(replies: &Replies<'_, L>, gathered: Gathered) -> Traces
-    requires got { let q = replies.now in gathered.copies.first ≡ first_copy q.findings.now (order_of q.order.now) q.station }
-    requires settled { let q = replies.now in gathered.replied.settled.entry ≡ first_settling q.findings.now (is_reply q.findings.now (order_of q.order.now) q.station) }
-    requires last { let q = replies.now in gathered.replied.last.entry ≡ last_below (is_reply q.findings.now (order_of q.order.now) q.station) (length q.findings.now.entries) }
-    requires news { let q = replies.now in gathered.news.settled.entry ≡ first_settling q.findings.now (is_news q.findings.now (order_of q.order.now) q.station) }
-    requires words { AreSpoken replies.now.findings.now gathered.replied gathered.news }
+    requires { let q = replies.now in IsGathered q.findings.now (order_of q.order.now) q.station gathered }
     ensures { let q = replies.now in result ≡ traces_of q.findings.now (order_of q.order.now) q.station }
 {
     Traces {

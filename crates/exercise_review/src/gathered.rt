@@ -1,34 +1,37 @@
 //! What the logs of its maker and of a party say of an order, gathered on one way back through the
 //! entries under its key.
 
-ghost use Rattle.std.specs.Prelude.{◌≡◌, ◌<◌, ◌+◌, ◌&&◌, length, Some, None, false, is_some, IfSome, if◌then◌else◌};
-ghost use Rattle.std.specs.Option.{option_or};
+ghost use Rattle.std.specs.Prelude.{◌≡◌, ◌<◌, ◌+◌, ◌&&◌, length, Some, None, true, false, is_some, IfSome, if◌then◌else◌};
+ghost use Rattle.std.specs.Option.{option_or, option_map_or};
+ghost use Rattle.siman_pdus.specs.Reading.{pdu_of};
+ghost use Rattle.exercise_model.specs.Meaning.{meaning};
 ghost use Rattle.exercise_model.specs.Recording.{PlainRecording};
-ghost use Rattle.exercise_model.specs.Place.{first_below};
-ghost use Rattle.exercise_review.specs.Counted.{last_below, count_below};
 ghost use Rattle.exercise_review.specs.Entries.{bytes_sent, bytes_got};
-ghost use Rattle.exercise_review.specs.Gathered.{settles_in, word_in, IsSpoken, AreSpoken};
+ghost use Rattle.exercise_review.specs.Counted.{count_below, last_below};
+ghost use Rattle.exercise_review.specs.Gathered.{settles_in, word_in, IsSpoken, AreSpoken, IsGathered};
 ghost use Rattle.exercise_review.specs.Heard.{asks_in};
-ghost use Rattle.exercise_review.specs.Order.{order_of};
+ghost use Rattle.exercise_review.specs.Order.{order_of, sends_order};
 ghost use Rattle.exercise_review.specs.Outcome.{receipts_of};
 ghost use Rattle.exercise_review.specs.Party.{is_copy, first_copy};
 ghost use Rattle.exercise_review.specs.Register.{order_key};
-ghost use Rattle.exercise_review.specs.Reply.{is_reply, is_news, change_of_order};
+ghost use Rattle.exercise_review.specs.Reply.{is_reply, is_news};
 ghost use Rattle.exercise_review.specs.Word.{is_settling, first_settling};
 
 use crate::answered::{Replied, with_reply};
 use crate::entries::{entry_at, meant};
 use crate::news::{HeardNews, with_news};
-use crate::order::Gets;
+use crate::order::{Gets, Sends};
 use crate::reply::{News, Replies, Reply, change_of_order};
 use crate::walk::{Counted, counted_entries, last_entry};
 use crate::word::{Spoken, Word, first_settling, settles};
 use exercise_model::{EntryView, ExerciseLog};
-use siman_pdus::{answers, same_order};
+use siman_pdus::{PduView, answers, same_order};
 
-/// What an entry has to do with an order at a station: it is a copy, or a reply, or neither.
+/// What an entry has to do with an order at a station: it sends the order, or is a copy of it, or a
+/// reply to it, or none of these.
 #[derive(Clone, Copy)]
 struct Part<'a> {
+    is_send: bool,
     is_copy: bool,
     reply: Option<Reply<'a>>,
 }
@@ -36,7 +39,9 @@ struct Part<'a> {
 /// What the logs say of an order at a station.
 #[derive(Clone, Copy)]
 pub(crate) struct Gathered {
-    /// How often the station received it, and where first.
+    /// How often the station sent it.
+    pub sends: usize,
+    /// How often it received it, and where first.
     pub copies: Counted,
     /// What the station replied.
     pub replied: Replied,
@@ -57,55 +62,141 @@ fn brings_copy<L: ExerciseLog>(replies: &Replies<'_, L>, entry: usize, bytes: &[
     }
 }
 
-/// What a station sends at an entry, if that is a reply.
+/// What a station sends at an entry, where these bytes mean this PDU, if that is a reply.
 #[tactic(auto, unfolding(crate::specs::Reply::is_reply, crate::specs::Entries::sent_by, crate::specs::Word::settles_at), using(crate::proofs::Heard::meant_sent, crate::proofs::Under::is_answering))]
 fn reply_in<'b, L: ExerciseLog>(
     replies: &Replies<'_, L>,
     entry: usize,
     bytes: &'b [u8],
+    pdu: &PduView<'_>,
 ) -> Option<Reply<'b>>
-    requires { bytes_sent replies.now.findings.now replies.now.station entry ≡ Some bytes.now }
+    requires bytes { bytes_sent replies.now.findings.now replies.now.station entry ≡ Some bytes.now }
+    requires meant { meaning replies.now.findings.now.setting.exercise bytes.now ≡ Some (pdu_of pdu.now) }
     ensures reply { let q = replies.now in is_some result ≡ is_reply q.findings.now (order_of q.order.now) q.station entry }
     ensures settles { let q = replies.now in settles_in result ≡ is_settling q.findings.now (is_reply q.findings.now (order_of q.order.now) q.station) entry }
     ensures bytes { IfSome result (λ reply. reply.bytes.now ≡ bytes.now) }
     ensures word { IfSome result (λ reply. reply.word ≡ word_in replies.now.findings.now bytes.now) }
     ensures answers { IfSome result (λ reply. asks_in replies.now.findings.now bytes.now ≡ false) }
+    ensures taken { let q = replies.now in IfSome result (λ reply. is_copy q.findings.now (order_of q.order.now) q.station reply.copy ≡ true) }
 {
-    let pdu = meant(replies.findings, bytes)?;
-    if !answers(&pdu, &replies.order.request) || !replies.takes_copy(entry) {
+    if !answers(pdu, &replies.order.request) {
         return None;
     }
+    let copy = replies.copy_taken(entry)?;
     Some(Reply {
         settles: settles(&pdu.body),
         word: Word::of(&pdu.body),
         bytes,
+        copy,
     })
 }
 
+/// What has nothing to do with an order.
+const fn no_part<'a>() -> Part<'a>
+    ensures { (result.is_send ≡ false) × ((result.is_copy ≡ false) × (result.reply ≡ None)) }
+{
+    Part {
+        is_send: false,
+        is_copy: false,
+        reply: None,
+    }
+}
+
+/// What an entry at which a station sends this has to do with an order there.
+#[tactic(auto, unfolding(crate::specs::Order::sends_order, crate::specs::Reply::is_reply, crate::specs::Entries::sent_by))]
+fn part_sent<'a, L: ExerciseLog>(
+    replies: &Replies<'_, L>,
+    entry: usize,
+    bytes: &'a [u8],
+) -> Part<'a>
+    requires { bytes_sent replies.now.findings.now replies.now.station entry ≡ Some bytes.now }
+    ensures send { let q = replies.now in result.is_send ≡ sends_order q.findings.now q.station (order_of q.order.now).request entry }
+    ensures copy { result.is_copy ≡ false }
+    ensures reply { let q = replies.now in is_some result.reply ≡ is_reply q.findings.now (order_of q.order.now) q.station entry }
+    ensures settles { let q = replies.now in settles_in result.reply ≡ is_settling q.findings.now (is_reply q.findings.now (order_of q.order.now) q.station) entry }
+    ensures bytes { IfSome result.reply (λ reply. reply.bytes.now ≡ bytes.now) }
+    ensures word { IfSome result.reply (λ reply. reply.word ≡ word_in replies.now.findings.now bytes.now) }
+    ensures answers { IfSome result.reply (λ reply. asks_in replies.now.findings.now bytes.now ≡ false) }
+    ensures taken { let q = replies.now in IfSome result.reply (λ reply. is_copy q.findings.now (order_of q.order.now) q.station reply.copy ≡ true) }
+{
+    let Some(pdu) = meant(replies.findings, bytes) else {
+        return no_part();
+    };
+    Part {
+        is_send: same_order(&replies.order.request, &pdu),
+        is_copy: false,
+        reply: reply_in(replies, entry, bytes, &pdu),
+    }
+}
+
 /// What an entry has to do with an order at a station.
-#[tactic(auto, unfolding(crate::specs::Reply::is_reply, crate::specs::Order::gets_order, crate::specs::Entries::sent_by, crate::specs::Entries::got_by, crate::specs::Entries::bytes_sent, crate::specs::Entries::bytes_got))]
+#[tactic(auto, unfolding(crate::specs::Reply::is_reply, crate::specs::Order::sends_order, crate::specs::Order::gets_order, crate::specs::Entries::sent_by, crate::specs::Entries::got_by, crate::specs::Entries::bytes_sent, crate::specs::Entries::bytes_got))]
 fn part_at<'a, L: ExerciseLog>(replies: &Replies<'a, L>, entry: usize) -> Part<'a>
+    ensures send { let q = replies.now in result.is_send ≡ sends_order q.findings.now q.station (order_of q.order.now).request entry }
     ensures copy { let q = replies.now in result.is_copy ≡ is_copy q.findings.now (order_of q.order.now) q.station entry }
     ensures reply { let q = replies.now in is_some result.reply ≡ is_reply q.findings.now (order_of q.order.now) q.station entry }
     ensures settles { let q = replies.now in settles_in result.reply ≡ is_settling q.findings.now (is_reply q.findings.now (order_of q.order.now) q.station) entry }
     ensures bytes { IfSome result.reply (λ reply. bytes_sent replies.now.findings.now replies.now.station entry ≡ Some reply.bytes.now) }
     ensures word { IfSome result.reply (λ reply. reply.word ≡ word_in replies.now.findings.now reply.bytes.now) }
     ensures answers { IfSome result.reply (λ reply. asks_in replies.now.findings.now reply.bytes.now ≡ false) }
+    ensures taken { let q = replies.now in IfSome result.reply (λ reply. is_copy q.findings.now (order_of q.order.now) q.station reply.copy ≡ true) }
 {
     match entry_at(replies.findings, entry) {
         Some(EntryView::Received { station, bytes, .. }) if station == replies.station => Part {
+            is_send: false,
             is_copy: brings_copy(replies, entry, bytes),
             reply: None,
         },
-        Some(EntryView::Sent { station, bytes, .. }) if station == replies.station => Part {
-            is_copy: false,
-            reply: reply_in(replies, entry, bytes),
-        },
-        _ => Part {
-            is_copy: false,
+        Some(EntryView::Sent { station, bytes, .. }) if station == replies.station => {
+            part_sent(replies, entry, bytes)
+        }
+        _ => no_part(),
+    }
+}
+
+/// The same, where an entry, if there is one, is known to be a copy: it is not read again.
+#[tactic(auto, using(crate::proofs::Under::copy_alone))]
+fn part_known<'a, L: ExerciseLog>(
+    replies: &Replies<'a, L>,
+    entry: usize,
+    known: Option<usize>,
+) -> Part<'a>
+    requires { let q = replies.now in IfSome known (λ i. is_copy q.findings.now (order_of q.order.now) q.station i ≡ true) }
+    ensures send { let q = replies.now in result.is_send ≡ sends_order q.findings.now q.station (order_of q.order.now).request entry }
+    ensures copy { let q = replies.now in result.is_copy ≡ is_copy q.findings.now (order_of q.order.now) q.station entry }
+    ensures reply { let q = replies.now in is_some result.reply ≡ is_reply q.findings.now (order_of q.order.now) q.station entry }
+    ensures settles { let q = replies.now in settles_in result.reply ≡ is_settling q.findings.now (is_reply q.findings.now (order_of q.order.now) q.station) entry }
+    ensures bytes { IfSome result.reply (λ reply. bytes_sent replies.now.findings.now replies.now.station entry ≡ Some reply.bytes.now) }
+    ensures word { IfSome result.reply (λ reply. reply.word ≡ word_in replies.now.findings.now reply.bytes.now) }
+    ensures answers { IfSome result.reply (λ reply. asks_in replies.now.findings.now reply.bytes.now ≡ false) }
+    ensures taken { let q = replies.now in IfSome result.reply (λ reply. is_copy q.findings.now (order_of q.order.now) q.station reply.copy ≡ true) }
+{
+    match known {
+        Some(copy) if copy == entry => Part {
+            is_send: false,
+            is_copy: true,
             reply: None,
         },
+        _ => part_at(replies, entry),
     }
+}
+
+/// The entry that is known to be a copy: that which a reply takes up, if there is one.
+fn known_by(known: Option<usize>, reply: Option<Reply<'_>>) -> Option<usize>
+    ensures { result ≡ option_map_or (λ (x : Reply). Some x.copy) reply.entry known }
+{
+    match reply {
+        Some(reply) => Some(reply.copy),
+        None => known,
+    }
+}
+
+/// One more, if there is one.
+fn with_one(behind: usize, is_one: bool) -> usize
+    requires { behind < 18446744073709551615 }
+    ensures { result ≡ (if is_one then 1 else 0) + behind }
+{
+    if is_one { behind + 1 } else { behind }
 }
 
 /// How many copies there are behind an entry and there, and which is the first.
@@ -126,12 +217,14 @@ fn with_copy(behind: Counted, entry: usize, is_copy: bool) -> Counted
 
 /// Nothing yet.
 fn nothing_gathered() -> Gathered
+    ensures sends { result.sends ≡ 0 }
     ensures copies { (result.copies.count ≡ 0) × (result.copies.first ≡ None) }
     ensures replied { (result.replied.settled.entry ≡ None) × ((result.replied.last.entry ≡ None) × (result.replied.change ≡ None)) }
     ensures news { (result.news.settled.entry ≡ None) × (result.news.last.entry ≡ None) }
     ensures words { (r : PlainRecording) → AreSpoken r result.replied result.news }
 {
     Gathered {
+        sends: 0,
         copies: Counted {
             count: 0,
             first: None,
@@ -151,23 +244,19 @@ fn nothing_gathered() -> Gathered
 /// What the logs say of an order at a station, by the entries under its key there.
 fn gathered_under<L: ExerciseLog>(replies: &Replies<'_, L>, key: u64) -> Gathered
     requires { order_key replies.now.station (order_of replies.now.order.now).request ≡ Some key }
-    ensures count { let q = replies.now in result.copies.count ≡ receipts_of q.findings.now (order_of q.order.now) q.station }
-    ensures first { let q = replies.now in result.copies.first ≡ first_copy q.findings.now (order_of q.order.now) q.station }
-    ensures settled { let q = replies.now in result.replied.settled.entry ≡ first_settling q.findings.now (is_reply q.findings.now (order_of q.order.now) q.station) }
-    ensures last { let q = replies.now in result.replied.last.entry ≡ last_below (is_reply q.findings.now (order_of q.order.now) q.station) (length q.findings.now.entries) }
-    ensures change { let q = replies.now in result.replied.change ≡ change_of_order q.findings.now (order_of q.order.now) q.station }
-    ensures heard { let q = replies.now in result.news.settled.entry ≡ first_settling q.findings.now (is_news q.findings.now (order_of q.order.now) q.station) }
-    ensures news { let q = replies.now in result.news.last.entry ≡ last_below (is_news q.findings.now (order_of q.order.now) q.station) (length q.findings.now.entries) }
-    ensures words { AreSpoken replies.now.findings.now result.replied result.news }
+    ensures { let q = replies.now in IsGathered q.findings.now (order_of q.order.now) q.station result }
 {
     let findings = replies.findings;
     let maker = replies.order.maker;
     let _end = findings.log().entry_count();
     let mut gathered = nothing_gathered();
+    let mut known = None;
     let mut next = findings.last_under(key);
     while let Some(entry) = next {
-        let part = part_at(replies, entry);
+        let part = part_known(replies, entry, known);
+        known = known_by(known, part.reply);
         gathered = Gathered {
+            sends: with_one(gathered.sends, part.is_send),
             copies: with_copy(gathered.copies, entry, part.is_copy),
             replied: with_reply(findings, gathered.replied, entry, part.reply),
             news: with_news(findings, maker, gathered.news, part.reply),
@@ -192,27 +281,41 @@ fn heard_anywhere<L: ExerciseLog>(replies: &Replies<'_, L>) -> HeardNews
     }
 }
 
-/// What the logs say of a PDU at a station: all entries are asked.
+/// How often a station received an order, and where first: all entries are asked.
 #[tactic(auto, unfolding(crate::specs::Party::first_copy))]
-fn gathered_anywhere<L: ExerciseLog>(replies: &Replies<'_, L>) -> Gathered
-    ensures count { let q = replies.now in result.copies.count ≡ receipts_of q.findings.now (order_of q.order.now) q.station }
-    ensures first { let q = replies.now in result.copies.first ≡ first_copy q.findings.now (order_of q.order.now) q.station }
-    ensures settled { let q = replies.now in result.replied.settled.entry ≡ first_settling q.findings.now (is_reply q.findings.now (order_of q.order.now) q.station) }
-    ensures last { let q = replies.now in result.replied.last.entry ≡ last_below (is_reply q.findings.now (order_of q.order.now) q.station) (length q.findings.now.entries) }
-    ensures change { let q = replies.now in result.replied.change ≡ change_of_order q.findings.now (order_of q.order.now) q.station }
-    ensures heard { let q = replies.now in result.news.settled.entry ≡ first_settling q.findings.now (is_news q.findings.now (order_of q.order.now) q.station) }
-    ensures news { let q = replies.now in result.news.last.entry ≡ last_below (is_news q.findings.now (order_of q.order.now) q.station) (length q.findings.now.entries) }
-    ensures words { AreSpoken replies.now.findings.now result.replied result.news }
+fn copies_anywhere<L: ExerciseLog>(replies: &Replies<'_, L>) -> Counted
+    ensures count { let q = replies.now in result.count ≡ receipts_of q.findings.now (order_of q.order.now) q.station }
+    ensures first { let q = replies.now in result.first ≡ first_copy q.findings.now (order_of q.order.now) q.station }
 {
     let gets = Gets {
         findings: replies.findings,
         station: replies.station,
         request: &replies.order.request,
     };
+    counted_entries(replies.findings, None, &gets)
+}
+
+/// How often a station sent an order: all entries are asked.
+fn sends_anywhere<L: ExerciseLog>(replies: &Replies<'_, L>) -> usize
+    ensures { let q = replies.now in result ≡ count_below (sends_order q.findings.now q.station (order_of q.order.now).request) (length q.findings.now.entries) }
+{
+    let sends = Sends {
+        findings: replies.findings,
+        station: replies.station,
+        request: &replies.order.request,
+    };
+    counted_entries(replies.findings, None, &sends).count
+}
+
+/// What the logs say of a PDU at a station: all entries are asked.
+fn gathered_anywhere<L: ExerciseLog>(replies: &Replies<'_, L>) -> Gathered
+    ensures { let q = replies.now in IsGathered q.findings.now (order_of q.order.now) q.station result }
+{
     let settled = first_settling(replies.findings, None, replies);
     let last = last_entry(replies.findings, None, replies);
     Gathered {
-        copies: counted_entries(replies.findings, None, &gets),
+        sends: sends_anywhere(replies),
+        copies: copies_anywhere(replies),
         replied: Replied {
             settled: Spoken::at(replies.findings, settled),
             last: Spoken::at(replies.findings, last),
@@ -224,15 +327,8 @@ fn gathered_anywhere<L: ExerciseLog>(replies: &Replies<'_, L>) -> Gathered
 
 /// What the logs say of an order at a station, where this is its key there.
 pub(crate) fn gathered_of<L: ExerciseLog>(replies: &Replies<'_, L>, key: Option<u64>) -> Gathered
-    requires key { key ≡ order_key replies.now.station (order_of replies.now.order.now).request }
-    ensures count { let q = replies.now in result.copies.count ≡ receipts_of q.findings.now (order_of q.order.now) q.station }
-    ensures first { let q = replies.now in result.copies.first ≡ first_copy q.findings.now (order_of q.order.now) q.station }
-    ensures settled { let q = replies.now in result.replied.settled.entry ≡ first_settling q.findings.now (is_reply q.findings.now (order_of q.order.now) q.station) }
-    ensures last { let q = replies.now in result.replied.last.entry ≡ last_below (is_reply q.findings.now (order_of q.order.now) q.station) (length q.findings.now.entries) }
-    ensures change { let q = replies.now in result.replied.change ≡ change_of_order q.findings.now (order_of q.order.now) q.station }
-    ensures heard { let q = replies.now in result.news.settled.entry ≡ first_settling q.findings.now (is_news q.findings.now (order_of q.order.now) q.station) }
-    ensures news { let q = replies.now in result.news.last.entry ≡ last_below (is_news q.findings.now (order_of q.order.now) q.station) (length q.findings.now.entries) }
-    ensures words { AreSpoken replies.now.findings.now result.replied result.news }
+    requires { key ≡ order_key replies.now.station (order_of replies.now.order.now).request }
+    ensures { let q = replies.now in IsGathered q.findings.now (order_of q.order.now) q.station result }
 {
     match key {
         Some(key) => gathered_under(replies, key),

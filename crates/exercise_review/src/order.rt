@@ -7,11 +7,11 @@ ghost use Rattle.siman_pdus.specs.Role.{is_request_body};
 ghost use Rattle.exercise_model.specs.Held.{shown};
 ghost use Rattle.exercise_model.specs.Meaning.{meaning};
 ghost use Rattle.exercise_review.specs.Entries.{bytes_sent, sent_by};
-ghost use Rattle.exercise_review.specs.Register.{told_key, request_digest};
+ghost use Rattle.exercise_review.specs.Register.{told_key};
 ghost use Rattle.exercise_review.specs.Order.{order_of, sends_order, gets_order, gets_anywhere, is_outside, is_for_station, head_sent, head_got, head_of, made_by, order_at, sends_of, sends_under_id, is_first_under_id};
 
 use crate::entries::{entry_at, entry_count, got_by, meant, sent_by};
-use crate::keys::{id_key, key_under, order_key, request_digest};
+use crate::keys::{id_key, order_key};
 use crate::question::{Question, first_below};
 use crate::register::Register;
 use crate::stations::{is_for_station, is_outside};
@@ -305,20 +305,8 @@ impl Order<'_> {
     }
 
     /// How often its maker sent it; 0 where it came from outside.
-    pub fn sends<L: ExerciseLog>(&self, findings: &Register<'_, L>) -> usize
-        ensures { result ≡ sends_of findings.now (order_of self.now) }
-    {
-        self.sends_by(findings, request_digest(&self.request))
-    }
-
-    /// The same, where this is the digest of its request.
     #[tactic(auto, unfolding(crate::specs::Order::sends_of), using(crate::proofs::Under::under_steps))]
-    pub(crate) fn sends_by<L: ExerciseLog>(
-        &self,
-        findings: &Register<'_, L>,
-        digest: Option<u64>,
-    ) -> usize
-        requires { digest ≡ request_digest (order_of self.now).request }
+    pub fn sends<L: ExerciseLog>(&self, findings: &Register<'_, L>) -> usize
         ensures { result ≡ sends_of findings.now (order_of self.now) }
     {
         match self.maker {
@@ -328,7 +316,7 @@ impl Order<'_> {
                     station,
                     request: &self.request,
                 };
-                let key = key_under(station, digest);
+                let key = order_key(station, &self.request);
                 counted_entries(findings, key, &sends).count
             }
             None => 0,

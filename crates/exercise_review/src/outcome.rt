@@ -2,16 +2,17 @@
 
 ghost use Rattle.std.specs.Prelude.{◌≡◌, Some, map, IfOk};
 ghost use Rattle.exercise_review.specs.Order.{order_of, order_at};
-ghost use Rattle.exercise_review.specs.Register.{request_digest};
+ghost use Rattle.exercise_review.specs.Asked.{IsAsked};
+ghost use Rattle.exercise_review.specs.Gathered.{IsGathered};
 ghost use Rattle.exercise_review.specs.Outcome.{stamp_at, took_between, took, sends_told, outcome_here, outcome_outside, outcome_nowhere, outcome_at, outcomes_of};
 
 use crate::entries::entry_at;
 use crate::fate::{Fate, fate_of, traces_by};
-use crate::gathered::gathered_of;
+use crate::gathered::{Gathered, gathered_of};
 use crate::keys::{key_under, request_digest};
 use crate::order::Order;
-use crate::parties::parties_of;
-use crate::party::{Outsider, Party, ToldFrom};
+use crate::parties::parties_by;
+use crate::party::{Outsider, Party, ToldFrom, is_maker};
 use crate::register::Register;
 use crate::reply::Replies;
 use crate::word::{Word, telling, word_of};
@@ -86,60 +87,84 @@ fn took<L: ExerciseLog>(
     }
 }
 
-/// How often an order was sent, if its maker is recorded, where this is the digest of its request.
-fn sends_told<L: ExerciseLog>(
-    findings: &Register<'_, L>,
-    order: &Order<'_>,
-    digest: Option<u64>,
-) -> Option<usize>
-    requires { digest ≡ request_digest (order_of order.now).request }
-    ensures { result ≡ sends_told findings.now (order_of order.now) }
-{
-    match order.maker {
-        Some(_) => Some(order.sends_by(findings, digest)),
-        None => None,
-    }
-}
-
 /// What is asked of an order at each of its parties alike.
 #[derive(Clone, Copy)]
-struct Asked {
+pub(crate) struct Asked {
     /// The digest of its request.
-    digest: Option<u64>,
+    pub digest: Option<u64>,
     /// How often it was sent, if its maker is recorded.
-    sends: Option<usize>,
+    pub sends: Option<usize>,
+    /// What was gathered at its maker, if that was done.
+    pub own: Option<Gathered>,
 }
 
 /// What is asked of an order at each of its parties alike.
-fn asked_of<L: ExerciseLog>(findings: &Register<'_, L>, order: &Order<'_>) -> Asked
-    ensures digest { result.digest ≡ request_digest (order_of order.now).request }
-    ensures sends { result.sends ≡ sends_told findings.now (order_of order.now) }
+#[tactic(auto, unfolding(crate::specs::Order::sends_of))]
+pub(crate) fn asked_of<L: ExerciseLog>(findings: &Register<'_, L>, order: &Order<'_>) -> Asked
+    ensures { IsAsked findings.now (order_of order.now) result }
 {
     let digest = request_digest(&order.request);
+    let Some(station) = order.maker else {
+        return Asked {
+            digest,
+            sends: None,
+            own: None,
+        };
+    };
+    let replies = Replies {
+        findings,
+        order,
+        station,
+    };
+    let gathered = gathered_of(&replies, key_under(station, digest));
     Asked {
         digest,
-        sends: sends_told(findings, order, digest),
+        sends: Some(gathered.sends),
+        own: Some(gathered),
     }
 }
 
 /// The same of an order that stands at its head: where nothing stands under its key behind that, it
 /// was sent once.
-fn asked_at_head<L: ExerciseLog>(findings: &Register<'_, L>, order: &Order<'_>) -> Asked
+pub(crate) fn asked_at_head<L: ExerciseLog>(findings: &Register<'_, L>, order: &Order<'_>) -> Asked
     requires { order_at findings.now order.now.head ≡ Some (order_of order.now) }
-    ensures digest { result.digest ≡ request_digest (order_of order.now).request }
-    ensures sends { result.sends ≡ sends_told findings.now (order_of order.now) }
+    ensures { IsAsked findings.now (order_of order.now) result }
 {
     match order.maker {
         Some(_maker) if findings.is_last(order.head) => Asked {
             digest: request_digest(&order.request),
             sends: Some(1),
+            own: None,
         },
         _ => asked_of(findings, order),
     }
 }
 
-/// What is told of an order at a recorded station: its log is gone through by the key of the order
-/// there.
+/// What was gathered of an order, of which this is asked, at a recorded station: its log is gone
+/// through by the key of the order there, unless that was done.
+fn gathered_at<L: ExerciseLog>(
+    findings: &Register<'_, L>,
+    order: &Order<'_>,
+    asked: Asked,
+    station: u16,
+) -> Gathered
+    requires { IsAsked findings.now (order_of order.now) asked }
+    ensures { IsGathered findings.now (order_of order.now) station result }
+{
+    match asked.own {
+        Some(gathered) if is_maker(order, station) => gathered,
+        _ => {
+            let replies = Replies {
+                findings,
+                order,
+                station,
+            };
+            gathered_of(&replies, key_under(station, asked.digest))
+        }
+    }
+}
+
+/// What is told of an order at a recorded station.
 #[tactic(auto, unfolding(crate::specs::Word::telling, crate::specs::Fate::fate_of))]
 fn outcome_here<L: ExerciseLog>(
     findings: &Register<'_, L>,
@@ -147,8 +172,7 @@ fn outcome_here<L: ExerciseLog>(
     asked: Asked,
     station: u16,
 ) -> Outcome
-    requires digest { asked.digest ≡ request_digest (order_of order.now).request }
-    requires sends { asked.sends ≡ sends_told findings.now (order_of order.now) }
+    requires { IsAsked findings.now (order_of order.now) asked }
     ensures { result ≡ outcome_here findings.now (order_of order.now) station }
 {
     let replies = Replies {
@@ -156,7 +180,7 @@ fn outcome_here<L: ExerciseLog>(
         order,
         station,
     };
-    let gathered = gathered_of(&replies, key_under(station, asked.digest));
+    let gathered = gathered_at(findings, order, asked, station);
     let said = gathered.replied.settled.or(gathered.replied.last);
     let heard = gathered.news.settled.or(gathered.news.last);
     Outcome {
@@ -207,7 +231,7 @@ fn outcome_outside<L: ExerciseLog>(
 }
 
 /// What is told of an order that has no party.
-fn outcome_nowhere<L: ExerciseLog>(
+pub(crate) fn outcome_nowhere<L: ExerciseLog>(
     findings: &Register<'_, L>,
     order: &Order<'_>,
     sends: Option<usize>,
@@ -233,14 +257,13 @@ fn outcome_nowhere<L: ExerciseLog>(
 
 /// What is told of an order at a party.
 #[tactic(auto, unfolding(crate::specs::Outcome::outcome_at))]
-fn outcome_at<L: ExerciseLog>(
+pub(crate) fn outcome_at<L: ExerciseLog>(
     findings: &Register<'_, L>,
     order: &Order<'_>,
     asked: Asked,
     party: Party,
 ) -> Outcome
-    requires digest { asked.digest ≡ request_digest (order_of order.now).request }
-    requires sends { asked.sends ≡ sends_told findings.now (order_of order.now) }
+    requires { IsAsked findings.now (order_of order.now) asked }
     ensures { result ≡ outcome_at findings.now (order_of order.now) party }
 {
     match party {
@@ -257,8 +280,7 @@ fn outcomes_at<L: ExerciseLog>(
     asked: Asked,
     parties: &[Party],
 ) -> Result<Vec<Outcome>, AllocError>
-    requires digest { asked.digest ≡ request_digest (order_of order.now).request }
-    requires sends { asked.sends ≡ sends_told findings.now (order_of order.now) }
+    requires { IsAsked findings.now (order_of order.now) asked }
     ensures { IfOk result (λ outcomes. outcomes.items ≡ map (outcome_at findings.now (order_of order.now)) parties.now) }
 {
     let mut outcomes = Vec::with_capacity(alloc, parties.len())?;
@@ -268,29 +290,9 @@ fn outcomes_at<L: ExerciseLog>(
     Ok(outcomes)
 }
 
-/// What is told of an order, of which this is asked, at each of its parties, or once where it has none.
-#[tactic(auto, unfolding(crate::specs::Outcome::outcomes_of))]
-fn outcomes_by<L: ExerciseLog>(
-    alloc: Global,
-    findings: &Register<'_, L>,
-    order: &Order<'_>,
-    asked: Asked,
-) -> Result<Vec<Outcome>, AllocError>
-    requires digest { asked.digest ≡ request_digest (order_of order.now).request }
-    requires sends { asked.sends ≡ sends_told findings.now (order_of order.now) }
-    ensures { IfOk result (λ outcomes. outcomes.items ≡ outcomes_of findings.now (order_of order.now)) }
-{
-    let parties = parties_of(alloc, findings, order)?;
-    if parties.is_empty() {
-        let mut outcomes = Vec::new(alloc);
-        outcomes.push(outcome_nowhere(findings, order, asked.sends))?;
-        return Ok(outcomes);
-    }
-    outcomes_at(alloc, findings, order, asked, &parties)
-}
-
 /// What became of an order: what is told of it at each of its parties, by rising addresses, or once
 /// where it has none.
+#[tactic(auto, unfolding(crate::specs::Outcome::outcomes_of))]
 pub fn outcomes_of<L: ExerciseLog>(
     alloc: Global,
     findings: &Register<'_, L>,
@@ -298,17 +300,12 @@ pub fn outcomes_of<L: ExerciseLog>(
 ) -> Result<Vec<Outcome>, AllocError>
     ensures { IfOk result (λ outcomes. outcomes.items ≡ outcomes_of findings.now (order_of order.now)) }
 {
-    outcomes_by(alloc, findings, order, asked_of(findings, order))
-}
-
-/// The same of an order that stands at its head.
-pub(crate) fn outcomes_at_head<L: ExerciseLog>(
-    alloc: Global,
-    findings: &Register<'_, L>,
-    order: &Order<'_>,
-) -> Result<Vec<Outcome>, AllocError>
-    requires { order_at findings.now order.now.head ≡ Some (order_of order.now) }
-    ensures { IfOk result (λ outcomes. outcomes.items ≡ outcomes_of findings.now (order_of order.now)) }
-{
-    outcomes_by(alloc, findings, order, asked_at_head(findings, order))
+    let asked = asked_of(findings, order);
+    let parties = parties_by(alloc, findings, order, asked.own)?;
+    if parties.is_empty() {
+        let mut outcomes = Vec::new(alloc);
+        outcomes.push(outcome_nowhere(findings, order, asked.sends))?;
+        return Ok(outcomes);
+    }
+    outcomes_at(alloc, findings, order, asked, &parties)
 }

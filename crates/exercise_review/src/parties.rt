@@ -4,13 +4,15 @@ ghost use Rattle.std.specs.Prelude.{◌≡◌, ◌≢◌, ◌<◌, ◌≤◌, �
 ghost use Rattle.dis_records.specs.Entity.{pair_of, is_addressed};
 ghost use Rattle.exercise_model.specs.History.{station_at};
 ghost use Rattle.exercise_model.specs.Recording.{IsRecording};
+ghost use Rattle.exercise_review.specs.Gathered.{IsOwn};
 ghost use Rattle.exercise_review.specs.Order.{order_of};
 ghost use Rattle.exercise_review.specs.Party.{pair_at};
 ghost use Rattle.exercise_review.specs.Parties.{number_of, addresses, maker_address, party_address, party_at, parties_of, has_outsiders, number_heard, candidate_at, nearer, IsNextParty};
 
 use crate::entries::{entry_count, got_by};
+use crate::gathered::Gathered;
 use crate::order::Order;
-use crate::party::{At, Outsider, Party, is_party, is_party_outside};
+use crate::party::{At, Outsider, Party, is_party, is_party_by, is_party_outside};
 use crate::question::first_below;
 use crate::register::Register;
 use dis_records::{Address, EntityId};
@@ -267,18 +269,37 @@ fn station_parties<L: ExerciseLog>(
     alloc: Global,
     findings: &Register<'_, L>,
     order: &Order<'_>,
+    own: Option<Gathered>,
 ) -> Result<Vec<Party>, AllocError>
-    requires { has_outsiders findings.now (order_of order.now) ≡ false }
+    requires recorded { has_outsiders findings.now (order_of order.now) ≡ false }
+    requires own { IsOwn findings.now (order_of order.now) own }
     ensures { IfOk result (λ parties. parties.items ≡ parties_of findings.now (order_of order.now)) }
 {
     let (from, to) = addressed_among(findings, order.request.target);
     let mut parties = Vec::new(alloc);
     for station in from..to {
-        if is_party(findings, order, station as u16) {
+        if is_party_by(findings, order, own, station as u16) {
             parties.push(Party::Station(station as u16))?;
         }
     }
     Ok(parties)
+}
+
+/// The parties of an order, where this was gathered at its maker, if it was.
+pub(crate) fn parties_by<L: ExerciseLog>(
+    alloc: Global,
+    findings: &Register<'_, L>,
+    order: &Order<'_>,
+    own: Option<Gathered>,
+) -> Result<Vec<Party>, AllocError>
+    requires { IsOwn findings.now (order_of order.now) own }
+    ensures { IfOk result (λ parties. parties.items ≡ parties_of findings.now (order_of order.now)) }
+{
+    if has_outsiders(findings, order) {
+        parties_anywhere(alloc, findings, order)
+    } else {
+        station_parties(alloc, findings, order, own)
+    }
 }
 
 /// The parties of an order, by rising addresses: the recorded stations that it is for, and whoever
@@ -291,9 +312,5 @@ pub fn parties_of<L: ExerciseLog>(
 ) -> Result<Vec<Party>, AllocError>
     ensures { IfOk result (λ parties. parties.items ≡ parties_of findings.now (order_of order.now)) }
 {
-    if has_outsiders(findings, order) {
-        parties_anywhere(alloc, findings, order)
-    } else {
-        station_parties(alloc, findings, order)
-    }
+    parties_by(alloc, findings, order, None)
 }

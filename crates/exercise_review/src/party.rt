@@ -1,12 +1,14 @@
 //! The parties of an order: whom it is for, and who answered it from outside.
 
-ghost use Rattle.std.specs.Prelude.{◌≡◌, Some};
+ghost use Rattle.std.specs.Prelude.{◌≡◌, Some, is_some};
 ghost use Rattle.siman_pdus.specs.Answers.{same_id};
 ghost use Rattle.siman_pdus.specs.Reading.{pdu_of};
+ghost use Rattle.exercise_review.specs.Gathered.{IsOwn};
 ghost use Rattle.exercise_review.specs.Order.{order_of};
 ghost use Rattle.exercise_review.specs.Party.{pair_at, first_copy, is_party, tells_from, is_told_from, names, is_at, is_recorded_at, is_party_outside};
 
 use crate::entries::got_by;
+use crate::gathered::Gathered;
 use crate::keys::order_key;
 use crate::order::{Gets, Order};
 use crate::question::{Question, first_below};
@@ -50,10 +52,32 @@ pub(crate) fn first_copy<L: ExerciseLog>(
     first_entry(findings, order_key(station, &order.request), &gets)
 }
 
-/// Whether a recorded station is a party of an order: the order addresses it; its own maker is one
-/// only where it received the order. It takes no memory.
+/// Whether a recorded station received an order, where this was gathered at its maker, if it was.
+#[tactic(auto, unfolding(crate::specs::Party::first_copy))]
+fn has_copy<L: ExerciseLog>(
+    findings: &Register<'_, L>,
+    order: &Order<'_>,
+    own: Option<Gathered>,
+    station: u16,
+) -> bool
+    requires { IsOwn findings.now (order_of order.now) own }
+    ensures { result ≡ is_some (first_copy findings.now (order_of order.now) station) }
+{
+    match own {
+        Some(gathered) if is_maker(order, station) => gathered.copies.first.is_some(),
+        _ => first_copy(findings, order, station).is_some(),
+    }
+}
+
+/// Whether a recorded station is a party of an order, where this was gathered at its maker, if it was.
 #[tactic(auto, unfolding(crate::specs::Party::is_party))]
-pub fn is_party<L: ExerciseLog>(findings: &Register<'_, L>, order: &Order<'_>, station: u16) -> bool
+pub(crate) fn is_party_by<L: ExerciseLog>(
+    findings: &Register<'_, L>,
+    order: &Order<'_>,
+    own: Option<Gathered>,
+    station: u16,
+) -> bool
+    requires { IsOwn findings.now (order_of order.now) own }
     ensures { result ≡ is_party findings.now (order_of order.now) station }
 {
     let meant = Meant {
@@ -61,11 +85,19 @@ pub fn is_party<L: ExerciseLog>(findings: &Register<'_, L>, order: &Order<'_>, s
         pdu: &order.request,
     };
     meant.passes(usize::from(station))
-        && (!is_maker(order, station) || first_copy(findings, order, station).is_some())
+        && (!is_maker(order, station) || has_copy(findings, order, own, station))
+}
+
+/// Whether a recorded station is a party of an order: the order addresses it; its own maker is one
+/// only where it received the order. It takes no memory.
+pub fn is_party<L: ExerciseLog>(findings: &Register<'_, L>, order: &Order<'_>, station: u16) -> bool
+    ensures { result ≡ is_party findings.now (order_of order.now) station }
+{
+    is_party_by(findings, order, None, station)
 }
 
 /// Whether a recorded station made an order.
-fn is_maker(order: &Order<'_>, station: u16) -> bool
+pub(crate) fn is_maker(order: &Order<'_>, station: u16) -> bool
     ensures { result ≡ same_id order.now.maker (Some station) }
 {
     match order.maker {

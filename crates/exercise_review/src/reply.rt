@@ -1,7 +1,8 @@
 //! What a party replied to an order, and what its maker heard of that.
 
-ghost use Rattle.std.specs.Prelude.{◌≡◌};
+ghost use Rattle.std.specs.Prelude.{◌≡◌, true, is_some, IfSome};
 ghost use Rattle.exercise_review.specs.Order.{order_of};
+ghost use Rattle.exercise_review.specs.Party.{is_copy};
 ghost use Rattle.exercise_review.specs.Register.{order_key};
 ghost use Rattle.exercise_review.specs.Reply.{answers_order, takes_copy, is_reply, is_changing_reply, change_of_order, replies_in, has_reply_in, is_news};
 
@@ -24,6 +25,8 @@ pub(crate) struct Reply<'a> {
     pub word: Option<Word>,
     /// Its bytes.
     pub bytes: &'a [u8],
+    /// The entry of the copy that it takes up.
+    pub copy: usize,
 }
 
 /// Where a station replies to an order.
@@ -52,9 +55,10 @@ impl<L: ExerciseLog> Replies<'_, L> {
         }
     }
 
-    /// Whether the request that an entry takes up is a copy of the order.
-    pub(crate) fn takes_copy(&self, entry: usize) -> bool
-        ensures { result ≡ takes_copy self.now.findings.now (order_of self.now.order.now) self.now.station entry }
+    /// The request that an entry takes up, if that is a copy of the order.
+    pub(crate) fn copy_taken(&self, entry: usize) -> Option<usize>
+        ensures taken { is_some result ≡ takes_copy self.now.findings.now (order_of self.now.order.now) self.now.station entry }
+        ensures copy { IfSome result (λ i. is_copy self.now.findings.now (order_of self.now.order.now) self.now.station i ≡ true) }
     {
         let copies = Gets {
             findings: self.findings,
@@ -62,8 +66,8 @@ impl<L: ExerciseLog> Replies<'_, L> {
             request: &self.order.request,
         };
         match self.findings.pair(entry) {
-            Some(taken) => copies.passes(taken as usize),
-            None => false,
+            Some(taken) if copies.passes(taken as usize) => Some(taken as usize),
+            _ => None,
         }
     }
 }
@@ -73,7 +77,7 @@ impl<L: ExerciseLog> Question for Replies<'_, L> {
 
     #[tactic(auto, unfolding(crate::specs::Reply::is_reply))]
     fn passes(&self, entry: usize) -> bool {
-        self.is_answer(entry) && self.takes_copy(entry)
+        self.is_answer(entry) && self.copy_taken(entry).is_some()
     }
 }
 

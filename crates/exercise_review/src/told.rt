@@ -1,9 +1,11 @@
 //! The orders of a recording at their parties, as they are told.
 
-ghost use Rattle.std.specs.Prelude.{◌≡◌, ◌≤◌, ◌<◌, ◌+◌, ℕ, Some, length, map, slice_get, slice_index_or, option_map, OnOk};
+ghost use Rattle.std.specs.Prelude.{◌≡◌, ◌≤◌, ◌<◌, ◌+◌, ◌∷◌, [], ℕ, Some, length, map, slice_get, slice_index_or, option_map, OnOk};
 ghost use Rattle.exercise_model.specs.Held.{shown};
+ghost use Rattle.exercise_review.specs.Asked.{IsAsked};
 ghost use Rattle.exercise_review.specs.Counted.{count_at};
 ghost use Rattle.exercise_review.specs.Order.{order_of, order_at};
+ghost use Rattle.exercise_review.specs.Outcome.{outcome_at};
 ghost use Rattle.exercise_review.specs.Parties.{outsider_at, party_address};
 ghost use Rattle.exercise_review.specs.Told.{order_told, order_at_parties, told_at};
 ghost use Rattle.exercise_review.specs.Tally.{entry_places, IsTold, TellsWithin};
@@ -13,7 +15,8 @@ use crate::counting::count_one;
 use crate::entries::entry_count;
 use crate::fault::ReviewFault;
 use crate::order::{Order, order_in};
-use crate::outcome::{Outcome, outcomes_at_head};
+use crate::outcome::{Asked, Outcome, asked_at_head, outcome_at, outcome_nowhere};
+use crate::parties::parties_by;
 use crate::party::{Outsider, Party};
 use crate::register::Register;
 use dis_records::{EntityId, Kind};
@@ -72,27 +75,40 @@ fn order_told<L: ExerciseLog>(
     }
 }
 
-/// Adds an order with each of these outcomes, where there is room for so many.
-fn push_outcomes<L: ExerciseLog>(
+/// Adds what is told of an order, where there is room for that.
+fn push_told(told: &mut Vec<OrderAt>, most: usize, order: OrderAt) -> Result<(), ReviewFault>
+    requires { length told.old.items ≤ most }
+    ensures { AddsWithin most told.old.items (order ∷ []) result told.new.items }
+{
+    if told.len() >= most {
+        return Err(ReviewFault::OverLimit);
+    }
+    told.push(order)?;
+    Ok(())
+}
+
+/// Adds an order, of which this is asked, at each of these parties, where there is room for so many.
+fn push_parties<L: ExerciseLog>(
     told: &mut Vec<OrderAt>,
     most: usize,
     findings: &Register<'_, L>,
     order: &Order<'_>,
-    outcomes: &[Outcome],
+    asked: Asked,
+    parties: &[Party],
 ) -> Result<(), ReviewFault>
-    requires { length told.old.items ≤ most }
-    ensures { AddsWithin most told.old.items (map (order_told findings.now (order_of order.now)) outcomes.now) result told.new.items }
+    requires room { length told.old.items ≤ most }
+    requires asked { IsAsked findings.now (order_of order.now) asked }
+    ensures { let o = order_of order.now in AddsWithin most told.old.items (map (λ party. order_told findings.now o (outcome_at findings.now o party)) parties.now) result told.new.items }
 {
-    for outcome in outcomes {
-        if told.len() >= most {
-            return Err(ReviewFault::OverLimit);
-        }
-        told.push(order_told(findings, order, *outcome))?;
+    for party in parties {
+        let outcome = outcome_at(findings, order, asked, *party);
+        push_told(told, most, order_told(findings, order, outcome))?;
     }
     Ok(())
 }
 
 /// Adds an order at each of its parties, where there is room for so many.
+#[tactic(auto, unfolding(crate::specs::Outcome::outcomes_of))]
 fn push_order<L: ExerciseLog>(
     alloc: Global,
     told: &mut Vec<OrderAt>,
@@ -104,8 +120,13 @@ fn push_order<L: ExerciseLog>(
     requires head { order_at findings.now order.now.head ≡ Some (order_of order.now) }
     ensures { AddsWithin most told.old.items (order_at_parties findings.now (order_of order.now)) result told.new.items }
 {
-    let outcomes = outcomes_at_head(alloc, findings, order)?;
-    push_outcomes(told, most, findings, order, &outcomes)
+    let asked = asked_at_head(findings, order);
+    let parties = parties_by(alloc, findings, order, asked.own)?;
+    if parties.is_empty() {
+        let outcome = outcome_nowhere(findings, order, asked.sends);
+        return push_told(told, most, order_told(findings, order, outcome));
+    }
+    push_parties(told, most, findings, order, asked, &parties)
 }
 
 /// What is told of the entries so far.

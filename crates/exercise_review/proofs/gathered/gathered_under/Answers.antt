@@ -1,19 +1,19 @@
 use Rattle.std.proofs.Common.{◌≡◌, ◌≤◌, ◌+◌, ℕ, suc, length, Bool, true, false, Option, Some, None, sym, ap, ◌∙◌, subst, arith}
-use Rattle.std.specs.Prelude.{◌&&◌, is_some, if◌then◌else◌}
-use Rattle.std.specs.Option.{option_or}
+use Rattle.std.specs.Prelude.{◌&&◌, is_some, IfSome, if◌then◌else◌}
+use Rattle.std.specs.Option.{option_or, option_map_or}
 use Rattle.std.proofs.lemmas.Bool.{and_parts}
 use Rattle.exercise_model.specs.Recording.{PlainRecording}
 use Rattle.exercise_model.specs.Account.{change_at}
 use Rattle.exercise_review.specs.declared.reply.Reply.{Reply}
 use Rattle.exercise_review.specs.Gathered.{first_news, last_news}
 use Rattle.exercise_review.specs.News.{earlier}
-use Rattle.exercise_review.specs.Order.{OrderData, order_of}
+use Rattle.exercise_review.specs.Order.{OrderData, order_of, sends_order}
 use Rattle.exercise_review.specs.Party.{is_copy, first_copy}
 use Rattle.exercise_review.specs.Register.{has_key, IsUnder}
 use Rattle.exercise_review.specs.Reply.{is_reply, is_news, is_changing_reply, change_of_order}
 use Rattle.exercise_review.specs.Word.{is_settling, first_settling}
 use Rattle.exercise_review.proofs.Replied.{IsLeast, IsGreatest, IsFoundAt, hears, least_starts, greatest_starts, least_on, greatest_on, least_ends, greatest_ends, settled_news, all_news, spoken_there, first_is_news, last_is_news, no_reply_no_news}
-use Rattle.exercise_review.proofs.Under.{copy_has, reply_has}
+use Rattle.exercise_review.proofs.Under.{copy_has, reply_has, send_has}
 use Rattle.exercise_review.proofs.Walks.{past, IsCountOn, IsFirstOn, IsLatestOn, on_last, lower, count_starts, count_on, count_ends, first_starts, first_on, first_ends, latest_starts, latest_on, latest_ends}
 use Rattle.exercise_review.proofs.gathered.gathered_under.Goals as goal
 
@@ -28,6 +28,8 @@ loop-next-init g c =
     let next : Option ℕ = c.last_under-next.result in
     let e = c.last_under-next.ensures in
     let less = lower h n next e in
+    let sent = sends_order r t o.request in
+    let sending = send_has r o t c.args.key c.requires in
     let copies = copy_has r o t c.args.key c.requires in
     let under = reply_has r o t c.args.key c.requires in
     let settling : IsUnder r (is_settling r (is_reply r o t)) c.args.key = λ j p. under j (and_parts (is_reply r o t j) _ p).0 in
@@ -36,6 +38,9 @@ loop-next-init g c =
     record {
       on = on_last h n n next e (omega arith);
       room = omega (arith, less, none.copies.0);
+      sent = omega (arith, less, none.sends);
+      known = tt;
+      sends = subst (IsCountOn sent n next) (sym none.sends) (count_starts sent h n next sending e);
       count = subst (IsCountOn (is_copy r o t) n next) (sym none.copies.0) (count_starts (is_copy r o t) h n next copies e);
       first = subst (IsFirstOn (is_copy r o t) n next) (sym none.copies.1) (first_starts (is_copy r o t) h n next copies e);
       settled = subst (IsFirstOn (is_settling r (is_reply r o t)) n next) (sym none.replied.0) (first_starts (is_settling r (is_reply r o t)) h n next settling e);
@@ -47,6 +52,15 @@ loop-next-init g c =
           (greatest_starts (is_reply r o t) h (hears r o.maker t) n next under e);
       words = none.words r;
     }
+
+pub part_known-part-requires : goal.part_known-part-requires
+part_known-part-requires g c = c.loop-next.invariant.known
+
+pub with_one-requires : goal.with_one-requires
+with_one-requires g c =
+    let room = rw c.in-Some.is at c.loop-next.invariant.sent in
+    let end = c.entry_count-end.ensures.count ∙ ap (λ (r : PlainRecording). length r.entries) c.log.ensures in
+    omega (arith, room, end, c.entry_count-end.type_inv)
 
 pub with_copy-requires : goal.with_copy-requires
 with_copy-requires g c =
@@ -75,14 +89,18 @@ loop-next-preserved g c =
     let settling = is_settling r reply in
     let changing = is_changing_reply r o t in
     let was = c.loop-next.gathered in
-    let found : Option Reply = c.part_at-part.result.reply in
+    let found : Option Reply = c.part_known-part.result.reply in
+    let sent = sends_order r t o.request in
+    let sending = send_has r o t c.args.key c.requires in
     let copies = copy_has r o t c.args.key c.requires in
     let under = reply_has r o t c.args.key c.requires in
     let settling_under : (i : ℕ) → settling i ≡ true → h i ≡ true = λ i q. under i (and_parts (reply i) _ q).0 in
     let changing_under : (i : ℕ) → changing i ≡ true → h i ≡ true = λ i q. under i (and_parts (reply i) _ q).0 in
-    let is : IsFoundAt r o t j found = (c.part_at-part.ensures.reply, c.part_at-part.ensures.bytes) in
+    let is : IsFoundAt r o t j found = (c.part_known-part.ensures.reply, c.part_known-part.ensures.bytes) in
     let at = rw c.in-Some.is at c.loop-next.invariant.on in
     let room = rw c.in-Some.is at c.loop-next.invariant.room in
+    let sends_room = rw c.in-Some.is at c.loop-next.invariant.sent in
+    let sends : IsCountOn sent n (Some j) was.sends = rw c.in-Some.is at c.loop-next.invariant.sends in
     let count : IsCountOn copied n (Some j) was.copies.count = rw c.in-Some.is at c.loop-next.invariant.count in
     let first : IsFirstOn copied n (Some j) was.copies.first = rw c.in-Some.is at c.loop-next.invariant.first in
     let settled : IsFirstOn settling n (Some j) was.replied.settled.entry = rw c.in-Some.is at c.loop-next.invariant.settled in
@@ -91,18 +109,25 @@ loop-next-preserved g c =
     let heard : IsLeast settling (hears r o.maker t) n (suc j) was.news.settled.entry = rw c.in-Some.is at c.loop-next.invariant.heard in
     let news : IsGreatest reply (hears r o.maker t) n (suc j) was.news.last.entry = rw c.in-Some.is at c.loop-next.invariant.news in
     let less = lower h j next e in
-    let one = c.with_copy.ensures.count ∙ ap (λ (b : Bool). (if b then 1 else 0) + was.copies.count) c.part_at-part.ensures.copy in
+    let one = c.with_copy.ensures.count ∙ ap (λ (b : Bool). (if b then 1 else 0) + was.copies.count) c.part_known-part.ensures.copy in
     let counted = count_on copied h n j was.copies.count next copies e count in
-    let most = at_most_one c.part_at-part.result.is_copy in
+    let most = at_most_one c.part_known-part.result.is_copy in
+    let one_sent = c.with_one.ensures ∙ ap (λ (b : Bool). (if b then 1 else 0) + was.sends) c.part_known-part.ensures.send in
+    let sends_counted = count_on sent h n j was.sends next sending e sends in
+    let most_sent = at_most_one c.part_known-part.result.is_send in
     record {
       on = on_last h n j next e (omega (arith, at.0));
       room = omega (arith, less, room, c.with_copy.ensures.count, most);
       count = omega (arith, counted, one);
+      sends = omega (arith, sends_counted, one_sent);
+      sent = omega (arith, less, sends_room, c.with_one.ensures, most_sent);
+      known = subst (λ (k : Option ℕ). IfSome k (λ i. copied i ≡ true)) (sym c.known_by-known.ensures)
+          (known_on (λ i. copied i ≡ true) found c.loop-next.known c.part_known-part.ensures.taken c.loop-next.invariant.known);
       first = subst (IsFirstOn copied n next)
-          (sym (c.with_copy.ensures.first ∙ ap (λ (b : Bool). option_or (if b then Some j else None) was.copies.first) c.part_at-part.ensures.copy))
+          (sym (c.with_copy.ensures.first ∙ ap (λ (b : Bool). option_or (if b then Some j else None) was.copies.first) c.part_known-part.ensures.copy))
           (first_on copied h n j next was.copies.first copies e first);
       settled = subst (IsFirstOn settling n next)
-          (sym (c.with_reply.ensures.settled ∙ ap (λ (b : Bool). option_or (if b then Some j else None) was.replied.settled.entry) c.part_at-part.ensures.settles))
+          (sym (c.with_reply.ensures.settled ∙ ap (λ (b : Bool). option_or (if b then Some j else None) was.replied.settled.entry) c.part_known-part.ensures.settles))
           (first_on settling h n j next was.replied.settled.entry settling_under e settled);
       last = subst (IsLatestOn reply n next)
           (sym (c.with_reply.ensures.last ∙ ap (λ (b : Bool). option_or was.replied.last.entry (if b then Some j else None)) is.0))
@@ -112,7 +137,7 @@ loop-next-preserved g c =
           (first_on changing h n j next was.replied.change changing_under e change);
       heard = subst (IsLeast settling (hears r o.maker t) n (past next))
           (sym (c.with_news.ensures.settled
-          ∙ ap (λ (b : Bool). if b then earlier was.news.settled.entry (first_news r o.maker found) else was.news.settled.entry) c.part_at-part.ensures.settles))
+          ∙ ap (λ (b : Bool). if b then earlier was.news.settled.entry (first_news r o.maker found) else was.news.settled.entry) c.part_known-part.ensures.settles))
           (least_on settling h (hears r o.maker t) n j next was.news.settled.entry (first_news r o.maker found) settling_under e at.0
           (λ settles. first_is_news r o t j o.maker found (and_parts (reply j) _ settles).0 is) heard);
       news = subst (IsGreatest reply (hears r o.maker t) n (past next)) (sym c.with_news.ensures.last)
@@ -126,59 +151,37 @@ loop-next-preserved g c =
       };
     }
   where
+    known_on : (P : ℕ → Type 0) (reply : Option Reply) (known : Option ℕ) → IfSome reply (λ (x : Reply). P x.copy) → IfSome known P
+        → IfSome (option_map_or (λ (x : Reply). Some x.copy) reply known) P
+    known_on P None known taken was = was
+    known_on P (Some x) known taken was = taken
+
     at_most_one : (b : Bool) → (if b then 1 else 0) ≤ 1
     at_most_one true = omega arith
     at_most_one false = omega arith
 
-pub returns-clause-count : goal.returns-clause-count
-returns-clause-count g c =
-    let r : PlainRecording = c.args.replies.now.findings.now in
-    count_ends (is_copy r (order_of c.args.replies.now.order.now) c.args.replies.now.station) (length r.entries) c.loop-next.gathered.copies.count
-    (rw c.in_default.is at c.loop-next.invariant.count)
-
-pub returns-clause-first : goal.returns-clause-first
-unfolding first_copy
-returns-clause-first g c =
-    let r : PlainRecording = c.args.replies.now.findings.now in
-    first_ends (is_copy r (order_of c.args.replies.now.order.now) c.args.replies.now.station) (length r.entries) c.loop-next.gathered.copies.first
-    (rw c.in_default.is at c.loop-next.invariant.first)
-
-pub returns-clause-settled : goal.returns-clause-settled
-unfolding first_settling
-returns-clause-settled g c =
-    let r : PlainRecording = c.args.replies.now.findings.now in
-    first_ends (is_settling r (is_reply r (order_of c.args.replies.now.order.now) c.args.replies.now.station)) (length r.entries) c.loop-next.gathered.replied.settled.entry
-    (rw c.in_default.is at c.loop-next.invariant.settled)
-
-pub returns-clause-last : goal.returns-clause-last
-returns-clause-last g c =
-    let r : PlainRecording = c.args.replies.now.findings.now in
-    latest_ends (is_reply r (order_of c.args.replies.now.order.now) c.args.replies.now.station) (length r.entries) c.loop-next.gathered.replied.last.entry
-    (rw c.in_default.is at c.loop-next.invariant.last)
-
-pub returns-clause-change : goal.returns-clause-change
-unfolding change_of_order
-returns-clause-change g c =
-    let r : PlainRecording = c.args.replies.now.findings.now in
-    first_ends (is_changing_reply r (order_of c.args.replies.now.order.now) c.args.replies.now.station) (length r.entries) c.loop-next.gathered.replied.change
-    (rw c.in_default.is at c.loop-next.invariant.change)
-
-pub returns-clause-heard : goal.returns-clause-heard
-unfolding first_settling
-returns-clause-heard g c =
+pub returns : goal.returns
+unfolding first_copy first_settling change_of_order
+returns g c =
     let r : PlainRecording = c.args.replies.now.findings.now in
     let o : OrderData = order_of c.args.replies.now.order.now in
     let t : ℕ = c.args.replies.now.station in
-    least_ends (is_settling r (is_reply r o t)) (hears r o.maker t) (length r.entries) c.loop-next.gathered.news.settled.entry (is_settling r (is_news r o t))
-    (settled_news r o t) (rw c.in_default.is at c.loop-next.invariant.heard)
-
-pub returns-clause-news : goal.returns-clause-news
-returns-clause-news g c =
-    let r : PlainRecording = c.args.replies.now.findings.now in
-    let o : OrderData = order_of c.args.replies.now.order.now in
-    let t : ℕ = c.args.replies.now.station in
-    greatest_ends (is_reply r o t) (hears r o.maker t) (length r.entries) c.loop-next.gathered.news.last.entry (is_news r o t)
-    (all_news r o t) (rw c.in_default.is at c.loop-next.invariant.news)
+    let n : ℕ = length r.entries in
+    let x = c.loop-next.gathered in
+    let was = c.loop-next.invariant in
+    let reply = is_reply r o t in
+    record {
+      sends = count_ends (sends_order r t o.request) n x.sends (rw c.in_default.is at was.sends);
+      count = count_ends (is_copy r o t) n x.copies.count (rw c.in_default.is at was.count);
+      first = first_ends (is_copy r o t) n x.copies.first (rw c.in_default.is at was.first);
+      settled = first_ends (is_settling r reply) n x.replied.settled.entry (rw c.in_default.is at was.settled);
+      last = latest_ends reply n x.replied.last.entry (rw c.in_default.is at was.last);
+      change = first_ends (is_changing_reply r o t) n x.replied.change (rw c.in_default.is at was.change);
+      heard = least_ends (is_settling r reply) (hears r o.maker t) n x.news.settled.entry (is_settling r (is_news r o t))
+          (settled_news r o t) (rw c.in_default.is at was.heard);
+      news = greatest_ends reply (hears r o.maker t) n x.news.last.entry (is_news r o t) (all_news r o t) (rw c.in_default.is at was.news);
+      words = was.words;
+    }
 
 pub with_reply-requires-clause-settled : goal.with_reply-requires-clause-settled
 with_reply-requires-clause-settled g c = c.loop-next.invariant.words.settled
@@ -188,8 +191,8 @@ with_reply-requires-clause-last g c = c.loop-next.invariant.words.last
 
 pub with_reply-requires-clause-word : goal.with_reply-requires-clause-word
 with_reply-requires-clause-word g c =
-    spoken_there c.args.replies.now.findings.now c.args.replies.now.station c.in-Some.entry c.part_at-part.result.reply
-    c.part_at-part.ensures.bytes c.part_at-part.ensures.word
+    spoken_there c.args.replies.now.findings.now c.args.replies.now.station c.in-Some.entry c.part_known-part.result.reply
+    c.part_known-part.ensures.bytes c.part_known-part.ensures.word
 
 pub with_news-requires-clause-settled : goal.with_news-requires-clause-settled
 with_news-requires-clause-settled g c = c.loop-next.invariant.words.heard

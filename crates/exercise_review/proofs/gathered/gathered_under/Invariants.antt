@@ -1,6 +1,7 @@
-use Rattle.std.proofs.Common.{◌≤◌, ◌+◌, length}
+use Rattle.std.proofs.Common.{◌≡◌, ◌≤◌, ◌+◌, length, true}
+use Rattle.std.specs.Prelude.{IfSome}
 use Rattle.exercise_review.specs.Gathered.{AreSpoken}
-use Rattle.exercise_review.specs.Order.{order_of}
+use Rattle.exercise_review.specs.Order.{order_of, sends_order}
 use Rattle.exercise_review.specs.Party.{is_copy}
 use Rattle.exercise_review.specs.Register.{has_key}
 use Rattle.exercise_review.specs.Reply.{is_reply, is_changing_reply}
@@ -14,6 +15,9 @@ abbrev pub invariant-loop-next : goal.invariant-loop-next
 invariant-loop-next g l = record {
   on : IsOn (has_key l.replies.findings.now l.key) (length l.replies.findings.now.entries) l.next;
   room : past l.next + l.gathered.copies.count ≤ length l.replies.findings.now.entries;
+  known : IfSome l.known (λ i. is_copy l.replies.findings.now (order_of l.replies.order.now) l.replies.station i ≡ true);
+  sends : IsCountOn (sends_order l.replies.findings.now l.replies.station (order_of l.replies.order.now).request) (length l.replies.findings.now.entries) l.next l.gathered.sends;
+  sent : past l.next + l.gathered.sends ≤ length l.replies.findings.now.entries;
   count : IsCountOn (is_copy l.replies.findings.now (order_of l.replies.order.now) l.replies.station) (length l.replies.findings.now.entries) l.next l.gathered.copies.count;
   first : IsFirstOn (is_copy l.replies.findings.now (order_of l.replies.order.now) l.replies.station) (length l.replies.findings.now.entries) l.next l.gathered.copies.first;
   settled : IsFirstOn (is_settling l.replies.findings.now (is_reply l.replies.findings.now (order_of l.replies.order.now) l.replies.station)) (length l.replies.findings.now.entries) l.next l.gathered.replied.settled.entry;

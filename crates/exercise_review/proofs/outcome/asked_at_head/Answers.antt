@@ -6,6 +6,9 @@ use Rattle.exercise_review.proofs.outcome.asked_at_head.Goals as goal
 pub is_last-requires : goal.is_last-requires
 is_last-requires g c = among_entries c.args.findings.now c.args.order.now.head (order_of c.args.order.now) c.requires
 
-pub returns-in-Some-clause-sends : goal.returns-in-Some-clause-sends
-returns-in-Some-clause-sends g c =
-    sent_once c.args.findings.now (order_of c.args.order.now) c.in-Some._maker c.requires c.in-Some.is (c.is_last.ensures c.if-is_last.true)
+pub returns-in-Some : goal.returns-in-Some
+returns-in-Some g c = record {
+  digest = c.request_digest.ensures;
+  sends = sent_once c.args.findings.now (order_of c.args.order.now) c.in-Some._maker c.requires c.in-Some.is (c.is_last.ensures c.if-is_last.true);
+  own = tt;
+}

@@ -1,0 +1,14 @@
+-- What is asked of an order at each of its parties alike, so that it is found once (profile).
+use Rattle.std.specs.Prelude.{◌≡◌}
+use Rattle.exercise_model.specs.Recording.{PlainRecording}
+use Rattle.exercise_review.specs.declared.outcome.Asked.{Asked}
+use Rattle.exercise_review.specs.Gathered.{IsOwn}
+use Rattle.exercise_review.specs.Order.{OrderData}
+use Rattle.exercise_review.specs.Outcome.{sends_told}
+use Rattle.exercise_review.specs.Register.{request_digest}
+
+-- the digest of its request, how often it was sent, and what was gathered of it at its maker, if that was done
+pub record IsAsked (r : PlainRecording) (o : OrderData) (x : Asked) : Type 0 where
+  pub digest : x.digest ≡ request_digest o.request
+  pub sends : x.sends ≡ sends_told r o
+  pub own : IsOwn r o x.own

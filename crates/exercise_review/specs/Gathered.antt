@@ -16,7 +16,7 @@ use Rattle.exercise_review.specs.Order.{OrderData, sends_order}
 use Rattle.exercise_review.specs.Outcome.{receipts_of}
 use Rattle.exercise_review.specs.Party.{first_copy}
 use Rattle.exercise_review.specs.Reply.{is_reply, is_news, change_of_order}
-use Rattle.exercise_review.specs.Word.{word_of, word_at, is_settling, first_settling}
+use Rattle.exercise_review.specs.Word.{word_of, word_at, first_settling}
 
 -- there is a reply, and it settles
 abbrev pub settles_in : Option Reply → Bool

@@ -55,12 +55,16 @@ datagram_fields x b = meant_fields b (meaning x b)
 abbrev pub done_fields : List ℕ → ℕ → ℕ → List Field
 done_fields did s stamp = Bare (codes "did") (Word did) ∷ Bare (codes "station") (Number s) ∷ Called (codes "stamp") (codes "clock") (Clock stamp) ∷ []
 
+-- what is told: told INDEX ENTITY STATE
+abbrev pub told_fields : ℕ → ℕ → EntityState → List Field
+told_fields s e y =
+    Bare (codes "did") (Word (codes "told")) ∷ Bare (codes "station") (Number s) ∷ Bare (codes "entity") (Number e) ∷ Bare (codes "state") (Word (state_text y)) ∷ []
+
 -- sent INDEX stamp=N HEAD, received INDEX stamp=N HEAD or told INDEX ENTITY STATE
 abbrev pub entry_fields : ℕ → Entry → List Field
 entry_fields x (Sent s stamp b) = done_fields (codes "sent") s stamp ++ datagram_fields x b
 entry_fields x (Received s stamp b) = done_fields (codes "received") s stamp ++ datagram_fields x b
-entry_fields x (Told s e y) =
-    Bare (codes "did") (Word (codes "told")) ∷ Bare (codes "station") (Number s) ∷ Bare (codes "entity") (Number e) ∷ Bare (codes "state") (Word (state_text y)) ∷ []
+entry_fields x (Told s e y) = told_fields s e y
 
 -- the line of an entry, that begins with its number
 abbrev pub entry_line : ℕ → ℕ → Entry → Line

@@ -13,7 +13,9 @@
 mod count_line;
 mod counts;
 mod entry_lines;
+mod entry_text;
 mod head;
+mod head_text;
 mod keys;
 mod numbers;
 mod plain;

@@ -2,4 +2,3 @@ mod Kept
 mod LineParts
 mod Keyed
 mod CarriedLines
-pub mod Digits

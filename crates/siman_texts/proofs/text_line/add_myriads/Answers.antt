@@ -1,7 +1,7 @@
 -- All digits but the last two, and behind them these.
 use Rattle.std.proofs.Common.{arith}
-use Rattle.siman_reviews.proofs.Digits.{pair_behind}
-use Rattle.siman_reviews.proofs.text_line.add_myriads.Goals as goal
+use Rattle.siman_texts.proofs.Digits.{pair_behind}
+use Rattle.siman_texts.proofs.text_line.add_myriads.Goals as goal
 
 pub returns-clause-bytes : goal.returns-clause-bytes
 returns-clause-bytes c =

@@ -19,6 +19,7 @@ mod Ends
 mod Registered
 mod KnownKeys
 mod Under
+mod Paired
 mod FirstOnes
 mod Receiving
 mod Replied

@@ -111,7 +111,7 @@ unfolding sent_key
 asked_key r s i q asks =
     ap (λ b. if b then order_key s q else option_and_then (order_key s) (option_and_then (got_by r s) (pair_of r i))) asks
 
-answer_key : (r : PlainRecording) (s i : ℕ) (q : Pdu) → is_request_body q.body ≡ false
+pub answer_key : (r : PlainRecording) (s i : ℕ) (q : Pdu) → is_request_body q.body ≡ false
     → sent_key r s i q ≡ option_and_then (order_key s) (option_and_then (got_by r s) (pair_of r i))
 unfolding sent_key
 answer_key r s i q answers =

@@ -1,9 +1,10 @@
 //! The keys by which entries are looked up.
 
-ghost use Rattle.std.specs.Prelude.{◌≡◌, ◌<◌, ◌≤◌, length, option_map, option_and_then, IfOk, IfSome};
+ghost use Rattle.std.specs.Prelude.{◌≡◌, ◌<◌, ◌≤◌, Some, length, option_map, option_and_then, IfOk, IfSome};
 ghost use Rattle.siman_pdus.specs.Reading.{pdu_of};
 ghost use Rattle.exercise_model.specs.Entry.{Entry};
-ghost use Rattle.exercise_review.specs.Entries.{got_by};
+ghost use Rattle.exercise_model.specs.Meaning.{meaning};
+ghost use Rattle.exercise_review.specs.Entries.{bytes_sent, got_by};
 ghost use Rattle.siman_pdus.specs.declared.pdu.Pdu.{Pdu};
 ghost use Rattle.exercise_review.specs.Register.{request_digest, order_key, id_key, sent_key, got_key, key_at, second_at, AreKeys};
 
@@ -124,24 +125,25 @@ fn taken_key<L: ExerciseLog>(
 }
 
 /// The key of what a station sends at an entry, where these are the keys of those before: of the order
-/// that it makes or, for an answer, of the one that it takes up.
-#[tactic(auto, unfolding(crate::specs::Register::sent_key))]
+/// that it makes or, for an answer, of the one that it takes up. What takes up a request is not read.
+#[tactic(auto, using(crate::proofs::Paired::answer_kept, crate::proofs::Paired::alone_kept))]
 fn sent_key<L: ExerciseLog>(
     findings: &Findings<'_, L>,
     keys: &[Option<u64>],
     station: u16,
     entry: usize,
-    pdu: &PduView<'_>,
+    bytes: &[u8],
 ) -> Option<u64>
     requires known { AreKeys findings.now (length keys.now) keys.now }
     requires within { length keys.now ≤ length findings.now.entries }
-    ensures { result ≡ sent_key findings.now station entry (pdu_of pdu.now) }
+    requires sent { bytes_sent findings.now station entry ≡ Some bytes.now }
+    ensures { let r = findings.now in result ≡ option_and_then (sent_key r station entry) (meaning r.setting.exercise bytes.now) }
 {
-    if is_request(pdu) {
-        return order_key(station, pdu);
+    if let Some(taken) = findings.pair(entry) {
+        return taken_key(findings, keys, station, taken as usize);
     }
-    match findings.pair(entry) {
-        Some(taken) => taken_key(findings, keys, station, taken as usize),
+    match meaning_view(findings.log().exercise(), bytes) {
+        Some(pdu) => order_key(station, &pdu),
         None => None,
     }
 }
@@ -162,7 +164,7 @@ fn got_key(form: Form, station: u16, pdu: &PduView<'_>) -> Option<u64>
 }
 
 /// The key of an entry, where these are the keys of those before.
-#[tactic(auto, unfolding(crate::specs::Register::key_at))]
+#[tactic(auto, unfolding(crate::specs::Register::key_at, crate::specs::Entries::bytes_sent))]
 fn key_at<L: ExerciseLog>(
     findings: &Findings<'_, L>,
     keys: &[Option<u64>],
@@ -175,10 +177,7 @@ fn key_at<L: ExerciseLog>(
 {
     let log = findings.log();
     match log.entry(entry) {
-        EntryView::Sent { station, bytes, .. } => match meaning_view(log.exercise(), bytes) {
-            Some(pdu) => sent_key(findings, keys, station, entry, &pdu),
-            None => None,
-        },
+        EntryView::Sent { station, bytes, .. } => sent_key(findings, keys, station, entry, bytes),
         EntryView::Received { station, bytes, .. } => match meaning_view(log.exercise(), bytes) {
             Some(pdu) => got_key(log.form(), station, &pdu),
             None => None,

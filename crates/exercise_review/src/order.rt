@@ -214,8 +214,9 @@ fn is_head_got<L: ExerciseLog>(findings: &Register<'_, L>, pdu: &PduView<'_>, en
     findings.is_first_by_second(&gets, entry)
 }
 
-/// The order that a station makes by what it sends at an entry, if that is the head of it.
-#[tactic(auto, unfolding(crate::specs::Entries::sent_by))]
+/// The order that a station makes by what it sends at an entry, if that is the head of it. What takes
+/// up a request makes none.
+#[tactic(auto, unfolding(crate::specs::Entries::sent_by), using(crate::proofs::Paired::no_head))]
 fn order_sent<'a, L: ExerciseLog>(
     findings: &Register<'a, L>,
     station: u16,
@@ -227,6 +228,9 @@ fn order_sent<'a, L: ExerciseLog>(
     ensures { let p = meaning findings.now.setting.exercise bytes.now in
         option_map order_of result ≡ (if same_id (option_and_then (head_sent findings.now station) p) (Some entry) then option_map (made_by entry (Some station)) p else None) }
 {
+    if findings.pair(entry).is_some() {
+        return None;
+    }
     let request = meant(findings, bytes)?;
     if !is_head_sent(findings, station, &request, entry) {
         return None;

@@ -12,6 +12,7 @@ ghost use Rattle.exercise_findings.specs.Source.{source_at, first_source};
 ghost use Rattle.exercise_findings.specs.Senders.{same_datagram, AreSenders};
 ghost use borrow.Author.Rules.{rules};
 
+use crate::hint::Hint;
 use crate::table::{Table, keep_first};
 use exercise_model::ExerciseLog;
 use std::alloc::{AllocError, Global};
@@ -112,18 +113,6 @@ pub(crate) fn latest_source(senders: &Senders<'_>, datagram: &[u8]) -> Option<u3
     }
 }
 
-/// Where the next datagram of a sender is looked for first. What is found is the same whatever stands
-/// here.
-#[derive(Clone, Copy)]
-pub(crate) struct Hint {
-    /// Where the last one was found.
-    pub place: usize,
-    /// How far from there the next is looked for.
-    pub step: usize,
-    /// How far the last one was from the one before it.
-    pub way: usize,
-}
-
 /// The hints, under so many of the sender's address.
 pub(crate) type Hints = Vec<Hint>;
 
@@ -132,12 +121,7 @@ const HINTS: usize = 256;
 
 /// Nothing was found so far.
 pub(crate) fn no_hints(alloc: Global) -> Result<Hints, AllocError> {
-    let nothing = Hint {
-        place: 0,
-        step: 1,
-        way: 1,
-    };
-    vec![in alloc; nothing; HINTS]
+    vec![in alloc; Hint::new(); HINTS]
 }
 
 /// The number of the hint for a datagram, by where it says that it comes from.
@@ -153,23 +137,15 @@ fn hint_of(datagram: &[u8]) -> usize {
 /// The place where a hint leads.
 fn place_of(hints: &Hints, number: usize) -> usize {
     match hints.get(number) {
-        Some(hint) => hint.place.wrapping_add(hint.step),
+        Some(hint) => hint.next(),
         None => 0,
     }
-}
-
-/// What is kept once a datagram was found at a place: the next is looked for as far from there as this
-/// one and the one before it were from those before them, where both were as far.
-fn moved(hint: Hint, place: usize) -> Hint {
-    let way = place.wrapping_sub(hint.place);
-    let step = if way == hint.way { way } else { hint.step };
-    Hint { place, step, way }
 }
 
 /// Keeps that a datagram of this hint was found at a place.
 fn keep_hint(hints: &mut Hints, number: usize, place: usize) {
     if number < hints.len() {
-        hints[number] = moved(hints[number], place);
+        hints[number].found(place);
     }
 }
 

@@ -6,6 +6,7 @@ ghost use Rattle.exercise_review.specs.Gathered.{IsGathered};
 ghost use Rattle.exercise_review.specs.Fate.{fate_heard, fate_by, traces_of, fate_of, fate_text};
 
 use crate::gathered::{Gathered, gathered_of};
+use crate::hints::Hints;
 use crate::order::Order;
 use crate::party::Party;
 use crate::register::Register;
@@ -144,7 +145,7 @@ pub fn traces_of<L: ExerciseLog>(
         order,
         station,
     };
-    let gathered = gathered_of(&replies, replies.key());
+    let gathered = gathered_of(&replies, replies.key(), &mut Hints::new());
     traces_by(&replies, gathered)
 }
 

@@ -19,6 +19,7 @@ ghost use Rattle.exercise_review.specs.Word.{is_settling, first_settling};
 
 use crate::answered::{Replied, with_reply};
 use crate::entries::{entry_at, meant};
+use crate::hints::Hints;
 use crate::news::{HeardNews, with_news};
 use crate::order::{Gets, Sends};
 use crate::reply::{News, Replies, Reply, change_of_order};
@@ -242,7 +243,7 @@ fn nothing_gathered() -> Gathered
 }
 
 /// What the logs say of an order at a station, by the entries under its key there.
-fn gathered_under<L: ExerciseLog>(replies: &Replies<'_, L>, key: u64) -> Gathered
+fn gathered_under<L: ExerciseLog>(replies: &Replies<'_, L>, key: u64, hints: &mut Hints) -> Gathered
     requires { order_key replies.now.station (order_of replies.now.order.now).request ≡ Some key }
     ensures { let q = replies.now in IsGathered q.findings.now (order_of q.order.now) q.station result }
 {
@@ -251,7 +252,7 @@ fn gathered_under<L: ExerciseLog>(replies: &Replies<'_, L>, key: u64) -> Gathere
     let _end = findings.log().entry_count();
     let mut gathered = nothing_gathered();
     let mut known = None;
-    let mut next = findings.last_under(key);
+    let mut next = findings.last_near(key, &mut hints.keys);
     while let Some(entry) = next {
         let part = part_known(replies, entry, known);
         known = known_by(known, part.reply);
@@ -259,7 +260,13 @@ fn gathered_under<L: ExerciseLog>(replies: &Replies<'_, L>, key: u64) -> Gathere
             sends: with_one(gathered.sends, part.is_send),
             copies: with_copy(gathered.copies, entry, part.is_copy),
             replied: with_reply(findings, gathered.replied, entry, part.reply),
-            news: with_news(findings, maker, gathered.news, part.reply),
+            news: with_news(
+                findings,
+                maker,
+                gathered.news,
+                part.reply,
+                &mut hints.receipts,
+            ),
         };
         next = findings.before(key, entry);
     }
@@ -326,12 +333,16 @@ fn gathered_anywhere<L: ExerciseLog>(replies: &Replies<'_, L>) -> Gathered
 }
 
 /// What the logs say of an order at a station, where this is its key there.
-pub(crate) fn gathered_of<L: ExerciseLog>(replies: &Replies<'_, L>, key: Option<u64>) -> Gathered
+pub(crate) fn gathered_of<L: ExerciseLog>(
+    replies: &Replies<'_, L>,
+    key: Option<u64>,
+    hints: &mut Hints,
+) -> Gathered
     requires { key ≡ order_key replies.now.station (order_of replies.now.order.now).request }
     ensures { let q = replies.now in IsGathered q.findings.now (order_of q.order.now) q.station result }
 {
     match key {
-        Some(key) => gathered_under(replies, key),
+        Some(key) => gathered_under(replies, key, hints),
         None => gathered_anywhere(replies),
     }
 }

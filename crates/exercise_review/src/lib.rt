@@ -32,6 +32,7 @@ mod fate;
 mod fault;
 mod filter;
 mod gathered;
+mod hints;
 mod keys;
 mod laws;
 mod life;

@@ -10,6 +10,7 @@ use crate::receipt::Receipts;
 use crate::register::Register;
 use crate::reply::Reply;
 use crate::word::{Spoken, Word};
+use exercise_findings::Hint;
 use exercise_model::ExerciseLog;
 
 /// What the maker of an order heard of the replies of a station.
@@ -79,6 +80,7 @@ fn receipts_of<L: ExerciseLog>(
     findings: &Register<'_, L>,
     maker: Option<u16>,
     reply: Reply<'_>,
+    hint: &mut Hint,
 ) -> (Option<usize>, Option<usize>)
     requires word { reply.word ≡ word_in findings.now reply.bytes.now }
     requires answers { asks_in findings.now reply.bytes.now ≡ false }
@@ -89,7 +91,7 @@ fn receipts_of<L: ExerciseLog>(
     let Some(maker) = maker else {
         return (None, None);
     };
-    match findings.receipts(maker, reply.bytes) {
+    match findings.receipts(maker, reply.bytes, hint) {
         Some(Receipts { first, last }) => (Some(first), Some(last)),
         None => (None, None),
     }
@@ -102,6 +104,7 @@ pub(crate) fn with_news<L: ExerciseLog>(
     maker: Option<u16>,
     behind: HeardNews,
     reply: Option<Reply<'_>>,
+    hint: &mut Hint,
 ) -> HeardNews
     requires settled { IsSpoken findings.now behind.settled }
     requires last { IsSpoken findings.now behind.last }
@@ -114,7 +117,7 @@ pub(crate) fn with_news<L: ExerciseLog>(
     let Some(reply) = reply else {
         return behind;
     };
-    let (first, last) = receipts_of(findings, maker, reply);
+    let (first, last) = receipts_of(findings, maker, reply, hint);
     let settled = if reply.settles {
         earlier(findings, behind.settled, first, reply.word)
     } else {

@@ -9,6 +9,7 @@ ghost use Rattle.exercise_review.specs.Outcome.{stamp_at, took_between, took, se
 use crate::entries::entry_at;
 use crate::fate::{Fate, fate_of, traces_by};
 use crate::gathered::{Gathered, gathered_of};
+use crate::hints::Hints;
 use crate::keys::{key_under, request_digest};
 use crate::order::Order;
 use crate::parties::parties_by;
@@ -100,7 +101,11 @@ pub(crate) struct Asked {
 
 /// What is asked of an order at each of its parties alike.
 #[tactic(auto, unfolding(crate::specs::Order::sends_of))]
-pub(crate) fn asked_of<L: ExerciseLog>(findings: &Register<'_, L>, order: &Order<'_>) -> Asked
+pub(crate) fn asked_of<L: ExerciseLog>(
+    findings: &Register<'_, L>,
+    order: &Order<'_>,
+    hints: &mut Hints,
+) -> Asked
     ensures { IsAsked findings.now (order_of order.now) result }
 {
     let digest = request_digest(&order.request);
@@ -116,7 +121,7 @@ pub(crate) fn asked_of<L: ExerciseLog>(findings: &Register<'_, L>, order: &Order
         order,
         station,
     };
-    let gathered = gathered_of(&replies, key_under(station, digest));
+    let gathered = gathered_of(&replies, key_under(station, digest), hints);
     Asked {
         digest,
         sends: Some(gathered.sends),
@@ -126,7 +131,11 @@ pub(crate) fn asked_of<L: ExerciseLog>(findings: &Register<'_, L>, order: &Order
 
 /// The same of an order that stands at its head: where nothing stands under its key behind that, it
 /// was sent once.
-pub(crate) fn asked_at_head<L: ExerciseLog>(findings: &Register<'_, L>, order: &Order<'_>) -> Asked
+pub(crate) fn asked_at_head<L: ExerciseLog>(
+    findings: &Register<'_, L>,
+    order: &Order<'_>,
+    hints: &mut Hints,
+) -> Asked
     requires { order_at findings.now order.now.head ≡ Some (order_of order.now) }
     ensures { IsAsked findings.now (order_of order.now) result }
 {
@@ -136,7 +145,7 @@ pub(crate) fn asked_at_head<L: ExerciseLog>(findings: &Register<'_, L>, order: &
             sends: Some(1),
             own: None,
         },
-        _ => asked_of(findings, order),
+        _ => asked_of(findings, order, hints),
     }
 }
 
@@ -147,6 +156,7 @@ fn gathered_at<L: ExerciseLog>(
     order: &Order<'_>,
     asked: Asked,
     station: u16,
+    hints: &mut Hints,
 ) -> Gathered
     requires { IsAsked findings.now (order_of order.now) asked }
     ensures { IsGathered findings.now (order_of order.now) station result }
@@ -159,7 +169,7 @@ fn gathered_at<L: ExerciseLog>(
                 order,
                 station,
             };
-            gathered_of(&replies, key_under(station, asked.digest))
+            gathered_of(&replies, key_under(station, asked.digest), hints)
         }
     }
 }
@@ -171,6 +181,7 @@ fn outcome_here<L: ExerciseLog>(
     order: &Order<'_>,
     asked: Asked,
     station: u16,
+    hints: &mut Hints,
 ) -> Outcome
     requires { IsAsked findings.now (order_of order.now) asked }
     ensures { result ≡ outcome_here findings.now (order_of order.now) station }
@@ -180,7 +191,7 @@ fn outcome_here<L: ExerciseLog>(
         order,
         station,
     };
-    let gathered = gathered_at(findings, order, asked, station);
+    let gathered = gathered_at(findings, order, asked, station, hints);
     let said = gathered.replied.settled.or(gathered.replied.last);
     let heard = gathered.news.settled.or(gathered.news.last);
     Outcome {
@@ -262,12 +273,13 @@ pub(crate) fn outcome_at<L: ExerciseLog>(
     order: &Order<'_>,
     asked: Asked,
     party: Party,
+    hints: &mut Hints,
 ) -> Outcome
     requires { IsAsked findings.now (order_of order.now) asked }
     ensures { result ≡ outcome_at findings.now (order_of order.now) party }
 {
     match party {
-        Party::Station(station) => outcome_here(findings, order, asked, station),
+        Party::Station(station) => outcome_here(findings, order, asked, station, hints),
         Party::Outside(address) => outcome_outside(findings, order, asked.sends, address),
     }
 }
@@ -284,8 +296,9 @@ fn outcomes_at<L: ExerciseLog>(
     ensures { IfOk result (λ outcomes. outcomes.items ≡ map (outcome_at findings.now (order_of order.now)) parties.now) }
 {
     let mut outcomes = Vec::with_capacity(alloc, parties.len())?;
+    let mut hints = Hints::new();
     for party in parties {
-        outcomes.push(outcome_at(findings, order, asked, *party))?;
+        outcomes.push(outcome_at(findings, order, asked, *party, &mut hints))?;
     }
     Ok(outcomes)
 }
@@ -300,7 +313,7 @@ pub fn outcomes_of<L: ExerciseLog>(
 ) -> Result<Vec<Outcome>, AllocError>
     ensures { IfOk result (λ outcomes. outcomes.items ≡ outcomes_of findings.now (order_of order.now)) }
 {
-    let asked = asked_of(findings, order);
+    let asked = asked_of(findings, order, &mut Hints::new());
     let parties = parties_by(alloc, findings, order, asked.own)?;
     if parties.is_empty() {
         let mut outcomes = Vec::new(alloc);

@@ -1,6 +1,6 @@
 //! Where each station received each datagram first and last, kept in a table under its bytes.
 
-ghost use Rattle.std.specs.Prelude.{◌≡◌, ◌<◌, ◌+◌, ◌==◌, ◌&&◌, length, None, IfOk, OnOk, bytes_eq, Some, if◌then◌else◌};
+ghost use Rattle.std.specs.Prelude.{◌≡◌, ◌<◌, ◌+◌, ◌==◌, ◌&&◌, length, None, IfOk, OnOk, IfSome, bytes_eq, Some, if◌then◌else◌};
 ghost use Rattle.std.specs.Cmp.Rules.{comparing, hashing};
 ghost use Rattle.indexmap.specs.IndexMap.{get};
 ghost use Rattle.exercise_review.specs.declared.receipt.Receipt.{Receipt};
@@ -8,6 +8,7 @@ ghost use Rattle.exercise_review.specs.Heard.{same_receipt, receipt_fed, receipt
 ghost use Rattle.exercise_review.specs.Register.{AreKeys};
 ghost use borrow.Author.Rules.{rules};
 
+use exercise_findings::Hint;
 use exercise_model::{EntryView, ExerciseLog, Form};
 use indexmap::IndexMap;
 use std::alloc::{AllocError, Global};
@@ -121,4 +122,37 @@ pub(crate) fn heard_in<'a, L: ExerciseLog>(
         note_receipt(&mut heard, log, keys, entry)?;
     }
     Ok(heard)
+}
+
+/// The receipts of a datagram, if these stand at a place of the table.
+fn receipts_at(heard: &Heard<'_>, place: usize, receipt: Receipt<'_>) -> Option<Receipts>
+    ensures { IfSome result (λ x. get same_receipt heard.now receipt.entry ≡ Some x) }
+{
+    match heard.get_index(place) {
+        Some((kept, receipts)) if *kept == receipt => Some(*receipts),
+        _ => None,
+    }
+}
+
+/// The receipts of a datagram at a station, if it was received there, looked for where a hint leads
+/// first: mostly one looks for what was heard in the order in which it was.
+pub(crate) fn receipts_near(
+    heard: &Heard<'_>,
+    receipt: Receipt<'_>,
+    hint: &mut Hint,
+) -> Option<Receipts>
+    ensures { result ≡ get same_receipt heard.now receipt.entry }
+{
+    let place = hint.next();
+    if let Some(receipts) = receipts_at(heard, place, receipt) {
+        hint.found(place);
+        return Some(receipts);
+    }
+    match heard.get_full(&receipt) {
+        Some((place, _, receipts)) => {
+            hint.found(place);
+            Some(*receipts)
+        }
+        None => None,
+    }
 }

@@ -14,6 +14,7 @@ ghost use Rattle.exercise_review.specs.Room.{AddsWithin};
 use crate::counting::count_one;
 use crate::entries::entry_count;
 use crate::fault::ReviewFault;
+use crate::hints::Hints;
 use crate::order::{Order, order_in};
 use crate::outcome::{Asked, Outcome, asked_at_head, outcome_at, outcome_nowhere};
 use crate::parties::parties_by;
@@ -95,13 +96,14 @@ fn push_parties<L: ExerciseLog>(
     order: &Order<'_>,
     asked: Asked,
     parties: &[Party],
+    hints: &mut Hints,
 ) -> Result<(), ReviewFault>
     requires room { length told.old.items ≤ most }
     requires asked { IsAsked findings.now (order_of order.now) asked }
     ensures { let o = order_of order.now in AddsWithin most told.old.items (map (λ party. order_told findings.now o (outcome_at findings.now o party)) parties.now) result told.new.items }
 {
     for party in parties {
-        let outcome = outcome_at(findings, order, asked, *party);
+        let outcome = outcome_at(findings, order, asked, *party, hints);
         push_told(told, most, order_told(findings, order, outcome))?;
     }
     Ok(())
@@ -115,18 +117,19 @@ fn push_order<L: ExerciseLog>(
     most: usize,
     findings: &Register<'_, L>,
     order: &Order<'_>,
+    hints: &mut Hints,
 ) -> Result<(), ReviewFault>
     requires room { length told.old.items ≤ most }
     requires head { order_at findings.now order.now.head ≡ Some (order_of order.now) }
     ensures { AddsWithin most told.old.items (order_at_parties findings.now (order_of order.now)) result told.new.items }
 {
-    let asked = asked_at_head(findings, order);
+    let asked = asked_at_head(findings, order, hints);
     let parties = parties_by(alloc, findings, order, asked.own)?;
     if parties.is_empty() {
         let outcome = outcome_nowhere(findings, order, asked.sends);
         return push_told(told, most, order_told(findings, order, outcome));
     }
-    push_parties(told, most, findings, order, asked, &parties)
+    push_parties(told, most, findings, order, asked, &parties, hints)
 }
 
 /// What is told of the entries so far.
@@ -165,6 +168,7 @@ fn push_entry<L: ExerciseLog>(
     most: usize,
     findings: &Register<'_, L>,
     entry: usize,
+    hints: &mut Hints,
 ) -> Result<(), ReviewFault>
     requires within { entry < length findings.now.entries }
     requires room { length told.old.orders.items ≤ most }
@@ -177,7 +181,7 @@ fn push_entry<L: ExerciseLog>(
     match order_in(findings, view, entry) {
         Some(order) => {
             told.makers.push(order.maker)?;
-            push_order(alloc, &mut told.orders, most, findings, &order)
+            push_order(alloc, &mut told.orders, most, findings, &order, hints)
         }
         None => Ok(()),
     }
@@ -196,8 +200,9 @@ pub(crate) fn told_within<L: ExerciseLog>(
         makers: Vec::new(alloc),
         orders: Vec::new(alloc),
     };
+    let mut hints = Hints::new();
     for entry in 0..entry_count(findings) {
-        push_entry(alloc, &mut told, most, findings, entry)?;
+        push_entry(alloc, &mut told, most, findings, entry, &mut hints)?;
     }
     Ok(told)
 }

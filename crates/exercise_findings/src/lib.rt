@@ -6,7 +6,8 @@
 //! joined by equal bytes alone: it knows neither certificates nor an order between stations, so no
 //! certificate can change what it says. Its tables lie over the bytes of the log, under keys that
 //! strangers may have chosen. [`Missing`] names a send that a log lacks, for the crates above, which look
-//! for it; [`replace`] is an inner door to them, since they keep columns of their own.
+//! for it; [`replace`] and [`Hint`] are inner doors to them, since they keep columns of their own, and
+//! look up in turn what came in turn.
 #![tactic(auto)]
 
 mod account;

@@ -10,8 +10,8 @@ use Rattle.exercise_review.proofs.register.Register.is_last.Goals as goal
 pub returns : goal.returns
 returns g c marked k has =
     let r : PlainRecording = c.self.inside.findings in
-    let ways : List (Option ℕ) = c.self.inside.orders.before.items in
-    let marks : List Bool = c.self.inside.ends.items in
+    let ways : List (Option ℕ) = c.self.inside.kept.orders.before.items in
+    let marks : List Bool = c.self.inside.kept.ends.items in
     let n : ℕ = c.args.entry in
     let same : r ≡ c.args.self.now = c.self.view_is in
     let within : n < length r.entries = subst (λ (x : PlainRecording). n < length x.entries) (sym same) c.requires in

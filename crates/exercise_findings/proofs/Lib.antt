@@ -4,6 +4,8 @@ mod Ables
 mod Recorded
 mod Changed
 mod EntityStates
+mod Standing
+mod Kept
 mod Tied
 mod Reported
 mod Reused

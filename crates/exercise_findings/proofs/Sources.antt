@@ -1,13 +1,10 @@
 -- Where a datagram was sent first by the station that it comes from.
-use Rattle.std.proofs.Common.{◌≡◌, ℕ, zero, suc, ◌+◌, ◌<◌, List, [], ◌∷◌, length, cond, Bool, Option, Some, None, true, false, refl, sym, ap, ◌∙◌, arith}
-use Rattle.std.specs.Prelude.{◌≤◌, ◌-◌, slice_get, nat_eq, nat_lt, bytes_eq, option_and_then, unwrap_or, IfSome, if◌then◌else◌}
-use Rattle.std.specs.Option.{option_map_or, option_or}
+use Rattle.std.proofs.Common.{◌≡◌, ℕ, zero, suc, ◌+◌, ◌<◌, List, [], ◌∷◌, ◌++◌, length, cond, Bool, Option, Some, None, true, false, refl, sym, ap, ◌∙◌, subst, ⊎_elim, arith}
+use Rattle.std.specs.Prelude.{◌≤◌, ◌-◌, ◌⊎◌, slice_get, nat_eq, nat_lt, bytes_eq, option_and_then, IfSome, IfNone}
+use Rattle.std.specs.Option.{option_map_or}
 use Rattle.std.specs.Cmp.Lexicographic.{bytes_decides}
-use Rattle.std.proofs.Math.Numerals.{add-one}
-use Rattle.std.proofs.lemmas.Bool.{eqb-true, eq-eqb}
-use Rattle.std.proofs.lemmas.Option.{cond_some}
-use Rattle.std.proofs.lemmas.Bool.Decides.{Decides-like, same_from_decides}
-use Rattle.indexmap.specs.IndexMap.{get}
+use Rattle.std.proofs.lemmas.Bool.{eqb-true, eq-eqb, cases_eq}
+use Rattle.std.proofs.lemmas.Option.{cond_some, same_Some, slice_get_within}
 use Rattle.siman_pdus.specs.declared.pdu.Pdu.{Pdu}
 use Rattle.exercise_model.specs.Entry.{Entry, Sent, Received, Told}
 use Rattle.exercise_model.specs.Recording.{PlainRecording, IsRecording}
@@ -18,12 +15,17 @@ use Rattle.exercise_model.specs.Cause.{sends}
 use Rattle.exercise_model.specs.Place.{event_at, own_event, first_below}
 use Rattle.exercise_model.specs.Account.{sender_of}
 use Rattle.exercise_model.proofs.Offered.{first_found, sender_found}
-use Rattle.exercise_findings.specs.declared.senders.Datagram.{Datagram}
+use Rattle.exercise_findings.specs.declared.senders.Senders.{Senders}
+use Rattle.exercise_findings.specs.Hashed.{datagram_hash}
+use Rattle.exercise_findings.specs.Slots.{IsReached, Stands}
 use Rattle.exercise_findings.specs.Firsts.{before_entry}
 use Rattle.exercise_findings.proofs.Keyed.{first_before}
-use Rattle.exercise_findings.specs.Senders.{Senders, same_datagram, AreSenders}
+use Rattle.exercise_findings.specs.Senders.{sends_at, AreSenders}
 use Rattle.exercise_findings.specs.Source.{sends_here, first_send, source_of_pdu, source_of_bytes, source_of_entry, source_of, is_source, first_source, source_by, source_at}
 use Rattle.exercise_findings.proofs.Keyed.{no_first, first_earlier}
+use Rattle.exercise_findings.proofs.Standing.{stands_none, reached_stands}
+use Rattle.exercise_findings.proofs.Kept.{first_none, first_still, first_later, first_kept, none_here, looked_up}
+use Rattle.exercise_findings.proofs.Tied.{get-pushed_here, get-pushed_other}
 
 -- the entry of a place
 pub entry_within : (entries : List Entry) (i : ℕ) → i < length entries → (e : Entry) × (slice_get entries i ≡ Some e)
@@ -118,52 +120,104 @@ never_source r j e at off b = of_entry e at (sym (ap (λ o. option_map_or (sourc
 
 -- ---- the table, entry by entry
 
-source_on : (r : PlainRecording) (b : List ℕ) (n : ℕ) → first_source r b (n + 1) ≡ option_or (first_source r b n) (if is_source r b n then Some n else None)
-unfolding first_source first_below
-source_on r b n = ap (first_below (is_source r b)) (add-one n)
-
-or_none : (o : Option ℕ) → o ≡ option_or o None
-or_none None = refl
-or_none (Some x) = refl
-
-or_some : (o : Option ℕ) (n : ℕ) → Some (unwrap_or o n) ≡ option_or o (Some n)
-or_some None n = refl
-or_some (Some m) n = refl
-
-pub no_senders : (r : PlainRecording) (senders : Senders) → ((d : Datagram) → get same_datagram senders d ≡ None) → AreSenders r 0 senders
-unfolding first_source first_below
-no_senders r senders none d = none d
+pub no_senders : (r : PlainRecording) (senders : Senders) → length senders.kept.slots.items ≡ 0 → length senders.order.items ≡ 0 → AreSenders r 0 senders
+no_senders r senders none empty = record {
+  kept = first_none (is_source r) datagram_hash senders.kept.slots.items none;
+  sources = λ e stands. stands_none senders.kept.slots.items e none stands (source_at r e ≡ true);
+  order = λ i e at. absurd (omega (arith, empty, slice_get_within senders.order.items i e at));
+}
 
 pub senders_still : (r : PlainRecording) (n : ℕ) (senders : Senders) → ((b : List ℕ) → is_source r b n ≡ false)
     → AreSenders r n senders → AreSenders r (n + 1) senders
-senders_still r n senders none tied d =
-    tied d ∙ or_none _ ∙ ap (λ q. option_or (first_source r d.bytes.now n) (if q then Some n else None)) (sym (none d.bytes.now))
-    ∙ sym (source_on r d.bytes.now n)
+senders_still r n senders none tied = record {
+  kept = first_still (is_source r) datagram_hash n senders.kept.slots.items tied.kept (λ b. none_here (is_source r b) n (none b));
+  sources = tied.sources;
+  order = tied.order;
+}
 
-bytes_eq-comm : (xs ys : List ℕ) → bytes_eq xs ys ≡ bytes_eq ys xs
-bytes_eq-comm xs ys = same_from_decides _ _ (bytes_decides xs ys) (Decides-like (bytes_eq ys xs) sym sym (bytes_decides ys xs))
-
-pub senders_more : (r : PlainRecording) (n s stamp : ℕ) (sent : Datagram) (old new : Senders)
-    → slice_get r.entries n ≡ Some (Sent s stamp sent.bytes.now) → source_at r n ≡ true
-    → ((d : Datagram) → get same_datagram new d
-    ≡ (if same_datagram sent d then Some (unwrap_or (get same_datagram old sent) n) else get same_datagram old d))
-    → AreSenders r n old → AreSenders r (n + 1) new
-unfolding source_at
-senders_more r n s stamp sent old new at source is tied d =
-    let b : List ℕ = d.bytes.now in
-    let c : List ℕ = sent.bytes.now in
-    let own : is_source r c n ≡ true = sym (ap (λ o. option_map_or (source_by r n) o false) at) ∙ source in
-    is d
-    ∙ elim (bytes_eq c b) as (λ q. bytes_eq c b ≡ q → cond q (Some (unwrap_or (get same_datagram old sent) n)) (get same_datagram old d)
-    ≡ option_or (first_source r b n) (if is_source r b n then Some n else None)) [
-      | false ↦ λ apart. tied d ∙ or_none _
-          ∙ ap (λ q. option_or (first_source r b n) (if q then Some n else None)) (sym (other_bytes r n s stamp c b at (bytes_eq-comm b c ∙ apart)))
-      | true ↦ λ same.
-          let equal : c ≡ b = (bytes_decides c b).0 same in
-          ap (λ m. Some (unwrap_or m n)) (tied sent ∙ ap (λ x. first_source r x n) equal) ∙ or_some (first_source r b n) n
-          ∙ ap (λ q. option_or (first_source r b n) (if q then Some n else None)) (sym own ∙ ap (λ x. is_source r x n) equal)
+-- an entry is a source of nothing but what it sends
+source_own : (r : PlainRecording) (n s stamp : ℕ) (c : List ℕ) → slice_get r.entries n ≡ Some (Sent s stamp c) → (b : List ℕ) → is_source r b n ≡ true → b ≡ c
+source_own r n s stamp c at b is =
+    elim (bytes_eq b c) as (λ q. bytes_eq b c ≡ q → b ≡ c) [
+      | true ↦ λ same. (bytes_decides b c).0 same
+      | false ↦ λ apart. absurd (cc (sym is ∙ other_bytes r n s stamp c b at apart))
     ] refl
-    ∙ sym (source_on r b n)
+
+source_is : (r : PlainRecording) (n s stamp : ℕ) (c : List ℕ) → slice_get r.entries n ≡ Some (Sent s stamp c) → source_at r n ≡ true → is_source r c n ≡ true
+unfolding source_at
+source_is r n s stamp c at source = sym (ap (λ o. option_map_or (source_by r n) o false) at) ∙ source
+
+-- a source of what another one sent before
+pub senders_later : (r : PlainRecording) (n s stamp m : ℕ) (c : List ℕ) (senders : Senders) → slice_get r.entries n ≡ Some (Sent s stamp c)
+    → first_source r c n ≡ Some m → AreSenders r n senders → AreSenders r (n + 1) senders
+unfolding first_source
+senders_later r n s stamp m c senders at first tied = record {
+  kept = first_later (is_source r) datagram_hash n m senders.kept.slots.items c tied.kept (source_own r n s stamp c at) first;
+  sources = tied.sources;
+  order = tied.order;
+}
+
+-- the first source of what it sends
+pub senders_kept : (r : PlainRecording) (n s stamp : ℕ) (c : List ℕ) (old new : Senders) → slice_get r.entries n ≡ Some (Sent s stamp c)
+    → source_at r n ≡ true → first_source r c n ≡ None → IsReached new.kept.slots.items (datagram_hash c) n
+    → ((h e : ℕ) → IsReached old.kept.slots.items h e → IsReached new.kept.slots.items h e)
+    → ((e : ℕ) → Stands new.kept.slots.items e → Stands old.kept.slots.items e ⊎ (e ≡ n))
+    → new.order.items ≡ old.order.items ++ n ∷ [] → AreSenders r n old → AreSenders r (n + 1) new
+unfolding first_source
+senders_kept r n s stamp c old new at source none reached kept only pushed tied = record {
+  kept = first_kept (is_source r) datagram_hash n old.kept.slots.items new.kept.slots.items c tied.kept (source_own r n s stamp c at)
+      (source_is r n s stamp c at source) none reached kept only;
+  sources = λ e stands. ⊎_elim (λ (stood : Stands old.kept.slots.items e). tied.sources e stood)
+      (λ (same : e ≡ n). subst (λ j. source_at r j ≡ true) (sym same) source) (only e stands);
+  order = λ i e here.
+      let placed : slice_get (old.order.items ++ n ∷ []) i ≡ Some e = ap (λ xs. slice_get xs i) (sym pushed) ∙ here in
+      ⊎_elim
+      (λ (last : i ≡ length old.order.items).
+      let same : n ≡ e = same_Some n e (sym (ap (slice_get (old.order.items ++ n ∷ [])) last ∙ get-pushed_here old.order.items n) ∙ placed) in
+      (datagram_hash c, subst (IsReached new.kept.slots.items (datagram_hash c)) same reached))
+      (λ apart.
+      let was = tied.order i e (sym (get-pushed_other old.order.items n i apart) ∙ placed) in
+      (was.0, kept was.0 e was.1))
+      (cases_eq i (length old.order.items));
+}
+
+-- ---- what is looked up
+
+-- among sources, those of the bytes of a datagram are the entries that send them
+sends_source : (r : PlainRecording) (b : List ℕ) (j : ℕ) → source_at r j ≡ true → sends_at r b j ≡ is_source r b j
+unfolding source_at
+sends_source r b j source = of_entry (slice_get r.entries j) refl
+  where
+    by : (o : Option Entry) → slice_get r.entries j ≡ o → option_map_or (source_by r j) o false ≡ true
+    by o at = sym (ap (λ o. option_map_or (source_by r j) o false) at) ∙ source
+
+    of_sent : (s stamp : ℕ) (c : List ℕ) → slice_get r.entries j ≡ Some (Sent s stamp c) → (q : Bool) → bytes_eq b c ≡ q → q ≡ is_source r b j
+    of_sent s stamp c at true same = sym (ap (λ x. is_source r x j) ((bytes_decides b c).0 same) ∙ by (Some (Sent s stamp c)) at)
+    of_sent s stamp c at false apart = sym (other_bytes r j s stamp c b at apart)
+
+    of_entry : (o : Option Entry) → slice_get r.entries j ≡ o → sends_at r b j ≡ is_source r b j
+    of_entry None at = absurd (cc (by None at))
+    of_entry (Some (Sent s stamp c)) at =
+        ap (λ o. option_map_or (λ e. sends b (event_of e)) o false) at ∙ of_sent s stamp c at (bytes_eq b c) refl
+    of_entry (Some (Received s stamp c)) at = absurd (cc (by (Some (Received s stamp c)) at))
+    of_entry (Some (Told s e y)) at = absurd (cc (by (Some (Told s e y)) at))
+
+pub senders_looked_up : (r : PlainRecording) (n : ℕ) (senders : Senders) (b : List ℕ) (o : Option ℕ) → AreSenders r n senders
+    → IfSome o (λ e. Stands senders.kept.slots.items e × (sends_at r b e ≡ true))
+    → IfNone o ((e : ℕ) → IsReached senders.kept.slots.items (datagram_hash b) e → sends_at r b e ≡ false) → o ≡ first_source r b n
+unfolding first_source
+senders_looked_up r n senders b o tied found absent =
+    looked_up (is_source r) datagram_hash n senders.kept.slots.items b (sends_at r b) tied.kept
+    (λ e stands. sends_source r b e (tied.sources e stands)) o found absent
+
+-- an entry that was kept is the first source of what it sends
+pub kept_found : (r : PlainRecording) (n : ℕ) (senders : Senders) (b : List ℕ) (i e : ℕ) → AreSenders r n senders
+    → slice_get senders.order.items i ≡ Some e → sends_at r b e ≡ true → first_source r b n ≡ Some e
+unfolding first_source
+kept_found r n senders b i e tied at sends =
+    let reached = tied.order i e at in
+    let stands = reached_stands senders.kept.slots.items reached.0 e reached.1 in
+    tied.kept.only b e stands (sym (sends_source r b e (tied.sources e stands)) ∙ sends)
 
 -- ---- what the whole table says
 

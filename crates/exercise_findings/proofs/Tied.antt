@@ -94,11 +94,11 @@ on_both (Err e) f p q = tt
 
 -- ---- one station more
 
-get-pushed_here : {X : Type 0} (xs : List X) (x : X) → slice_get (xs ++ x ∷ []) (length xs) ≡ Some x
+pub get-pushed_here : {X : Type 0} (xs : List X) (x : X) → slice_get (xs ++ x ∷ []) (length xs) ≡ Some x
 get-pushed_here [] x = refl
 get-pushed_here (y ∷ ys) x = get-pushed_here ys x
 
-get-pushed_other : {X : Type 0} (xs : List X) (x : X) (k : ℕ) → k ≢ length xs → slice_get (xs ++ x ∷ []) k ≡ slice_get xs k
+pub get-pushed_other : {X : Type 0} (xs : List X) (x : X) (k : ℕ) → k ≢ length xs → slice_get (xs ++ x ∷ []) k ≡ slice_get xs k
 get-pushed_other [] x zero apart = absurd (apart refl)
 get-pushed_other [] x (suc k) apart = refl
 get-pushed_other (y ∷ ys) x zero apart = refl

@@ -1,6 +1,8 @@
--- What a hasher is fed of a key and of an identifier: whole words of 64 bits, since it takes a word at a time and else byte after byte; of a key neither its role nor its response, in which three keys differ at most (profile).
-use Rattle.std.specs.Prelude.{ℕ, ◌+◌, ◌*◌, ◌++◌}
+-- Hashes, and what a hasher is fed of a key and of an identifier: whole words of 64 bits, since it takes a word at a time and else byte after byte; of a key neither its role nor its response, in which three keys differ at most (profile).
+use Rattle.std.specs.Prelude.{ℕ, List, [], ◌∷◌, ◌+◌, ◌*◌, ◌^◌, ◌%◌, ◌++◌}
 use Rattle.std.specs.Hash.{HashWrites, u64}
+use Rattle.std.specs.Hash.DefaultHasher as sip
+use Rattle.std.specs.List.{fold}
 use Rattle.exercise_findings.specs.declared.key.Key.{Key}
 use Rattle.exercise_findings.specs.declared.requests.Identifier.{Identifier}
 
@@ -13,3 +15,11 @@ key_fed k = u64 (word k.request k.site k.application) ++ u64 (word k.flag k.enti
 
 abbrev pub identifier_fed : Identifier → HashWrites
 identifier_fed k = u64 (word k.request k.station 0)
+
+-- the hash of what a hasher is fed: the lower half of its answer
+abbrev pub hash_fed : HashWrites → ℕ
+hash_fed writes = sip.finish (fold sip.write sip.initial writes) % 2 ^ 32
+
+-- the hash of a datagram
+abbrev pub datagram_hash : List ℕ → ℕ
+datagram_hash bytes = hash_fed (bytes ∷ [])

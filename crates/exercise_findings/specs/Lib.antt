@@ -1,12 +1,13 @@
 pub mod Number
 pub mod Column
 pub mod Sent
+pub mod Slots
+pub mod Hashed
 pub mod Firsts
 pub mod Behind
 pub mod TakenUp
 pub mod Requests
 pub mod Decided
-pub mod Hashed
 pub mod Source
 pub mod Missing
 pub mod Senders

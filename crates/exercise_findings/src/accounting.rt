@@ -37,7 +37,7 @@ pub(crate) fn states<L: ExerciseLog>(
 fn states_and_changes<L: ExerciseLog>(
     alloc: Global,
     log: &L,
-    found: &Passed<'_>,
+    found: &Passed,
 ) -> Result<(Vec<Vec<(u16, EntityState)>>, Vec<u32>), AllocError>
     requires { AreFound (L.recording log.now) found.now }
     ensures states { let r = L.recording log.now in IfOk result (λ told. map (λ v. v.items) told.0.items ≡ values_below (entities_of r) (length r.setting.stations)) }
@@ -52,7 +52,7 @@ fn states_and_changes<L: ExerciseLog>(
 pub(crate) fn account<L: ExerciseLog>(
     alloc: Global,
     log: &L,
-    found: Passed<'_>,
+    found: Passed,
 ) -> Result<Account, AllocError>
     requires { AreFound (L.recording log.now) found }
     ensures { IfOk result (λ checked. TellsAccount (L.recording log.now) checked) }

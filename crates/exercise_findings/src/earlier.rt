@@ -2,7 +2,7 @@
 //! it takes up, what was received to its source.
 
 ghost use Rattle.std.specs.Prelude.{◌≡◌, ◌≢◌, ◌<◌, ◌+◌, ℕ, length, slice_index_or, IfSome, IfNone, Some, None, is_some, true, unwrap_or, option_map};
-ghost use Rattle.exercise_model.specs.Recording.{PlainRecording, IsRecording};
+ghost use Rattle.exercise_model.specs.Recording.{IsRecording};
 ghost use Rattle.exercise_findings.specs.Column.{IsColumn};
 ghost use Rattle.exercise_findings.specs.Earlier.{request_in, source_in, IsEarlierAt, IsSoFarAt};
 ghost use Rattle.exercise_findings.specs.Senders.{AreSenders};
@@ -81,17 +81,18 @@ fn is_looked_for(looks: &Looks, entry: usize) -> bool {
 }
 
 /// Where a datagram was sent first so far by the station that it comes from, if that is looked for.
-fn source_so_far(
-    senders: &Senders<'_>,
+fn source_so_far<L: ExerciseLog>(
+    senders: &Senders,
     looks: &mut Looks,
+    log: &L,
     datagram: &[u8],
     entry: usize,
 ) -> Option<u32>
-    ensures source { (r : PlainRecording) (n : ℕ) → AreSenders r n senders.now → IfSome result (λ source. first_source r datagram.now n ≡ Some source) }
+    ensures source { let r = L.recording log.now in (n : ℕ) → AreSenders r n senders.now → IfSome result (λ source. first_source r datagram.now n ≡ Some source) }
     ensures later { looks.new.later ≡ 0 → (looks.old.later ≡ 0) × (is_some result ≡ true) }
 {
     if is_looked_for(looks, entry) {
-        let source = latest_source(senders, datagram);
+        let source = latest_source(senders, log, datagram);
         if source.is_some() {
             looks.misses = 0;
             return source;
@@ -104,7 +105,7 @@ fn source_so_far(
 
 /// The number of the source of what the next entry receives, as far as that is found.
 pub(crate) fn earlier_so_far<L: ExerciseLog>(
-    senders: &Senders<'_>,
+    senders: &Senders,
     looks: &mut Looks,
     log: &L,
     entry: usize,
@@ -117,7 +118,7 @@ pub(crate) fn earlier_so_far<L: ExerciseLog>(
     ensures so_far { IsSoFarAt (L.recording log.now) entry result }
     ensures later { looks.new.later ≡ 0 → (looks.old.later ≡ 0) × IsEarlierAt (L.recording log.now) entry result }
 {
-    source_number(source_so_far(senders, looks, datagram, entry), LATER)
+    source_number(source_so_far(senders, looks, log, datagram, entry), LATER)
 }
 
 /// What an entry receives.
@@ -133,20 +134,20 @@ fn received_at<L: ExerciseLog>(log: &L, entry: usize) -> Option<&[u8]>
 }
 
 /// The source of an entry, looked up once all are known.
-fn source_at<L: ExerciseLog>(senders: &Senders<'_>, log: &L, entry: usize) -> Option<u32>
+fn source_at<L: ExerciseLog>(senders: &Senders, log: &L, entry: usize) -> Option<u32>
     requires within { entry < length (L.recording log.now).entries }
     requires senders { let r = L.recording log.now in AreSenders r (length r.entries) senders.now }
     ensures { result ≡ source_of (L.recording log.now) entry }
 {
     match received_at(log, entry) {
-        Some(bytes) => first_source(senders, bytes),
+        Some(bytes) => first_source(senders, log, bytes),
         None => None,
     }
 }
 
 /// The same, looked for where the hints lead first.
 fn source_by_hint<L: ExerciseLog>(
-    senders: &Senders<'_>,
+    senders: &Senders,
     hints: &mut Hints,
     log: &L,
     entry: usize,
@@ -156,7 +157,7 @@ fn source_by_hint<L: ExerciseLog>(
     ensures { result ≡ source_of (L.recording log.now) entry }
 {
     match received_at(log, entry) {
-        Some(bytes) => next_source(senders, hints, bytes),
+        Some(bytes) => next_source(senders, hints, log, bytes),
         None => None,
     }
 }
@@ -164,7 +165,7 @@ fn source_by_hint<L: ExerciseLog>(
 /// The source of an entry of which this number is kept, and where each datagram was sent first, if
 /// sources are yet to be found.
 pub(crate) fn source_kept<L: ExerciseLog>(
-    senders: &Option<Senders<'_>>,
+    senders: &Option<Senders>,
     log: &L,
     entry: usize,
     earlier: u32,
@@ -184,7 +185,7 @@ pub(crate) fn source_kept<L: ExerciseLog>(
 /// Finds the source of an entry, where it is yet to be found.
 fn find_source<L: ExerciseLog>(
     column: &mut Vec<u32>,
-    senders: &Senders<'_>,
+    senders: &Senders,
     hints: &mut Hints,
     log: &L,
     entry: usize,
@@ -206,7 +207,7 @@ fn find_source<L: ExerciseLog>(
 /// Finds the source of an entry, where it is yet to be found and it is kept where each datagram was
 /// sent first.
 pub(crate) fn settle_source<L: ExerciseLog>(
-    senders: &Option<Senders<'_>>,
+    senders: &Option<Senders>,
     hints: &mut Hints,
     column: &mut Vec<u32>,
     log: &L,
@@ -227,7 +228,7 @@ pub(crate) fn settle_source<L: ExerciseLog>(
 /// The number of what each entry goes back to, of which this was found while the log was passed, with
 /// so many sources that are yet to be found.
 pub(crate) fn all_earlier<L: ExerciseLog>(
-    senders: &Senders<'_>,
+    senders: &Senders,
     hints: &mut Hints,
     log: &L,
     so_far: Vec<u32>,

@@ -25,7 +25,7 @@ use std::marker::Model;
 #[derive(Drop)]
 pub struct Findings<'a, L: ExerciseLog> {
     log: &'a L,
-    found: Passed<'a>,
+    found: Passed,
 }
 
 impl<'a, L: ExerciseLog> Model for Findings<'a, L> {

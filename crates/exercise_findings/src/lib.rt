@@ -31,6 +31,7 @@ mod pass;
 mod requests;
 mod sender;
 mod senders;
+mod slots;
 mod state;
 mod states;
 mod table;

@@ -25,7 +25,7 @@ const MANY: usize = 16;
 
 /// What a pass found so far.
 #[derive(Drop)]
-pub(crate) struct Pass<'a> {
+pub(crate) struct Pass {
     /// Where the stations stand.
     pub places: Places,
     /// What is kept of the entries.
@@ -42,14 +42,14 @@ pub(crate) struct Pass<'a> {
     /// What the changes behind the Ables that were received are looked up by.
     pub ables: Vec<Able>,
     /// The entry by which each datagram was sent first by the station that it comes from.
-    pub senders: Senders<'a>,
+    pub senders: Senders,
     /// How many datagrams are "other".
     pub others: u32,
 }
 
 /// What all entries were found to be.
 #[derive(Drop)]
-pub(crate) struct Passed<'a> {
+pub(crate) struct Passed {
     /// What is kept of the entries.
     pub tables: Tables,
     /// The first cause that its station's log has against each entry.
@@ -61,7 +61,7 @@ pub(crate) struct Passed<'a> {
     pub earlier: Vec<u32>,
     /// The entry by which each datagram was sent first by the station that it comes from, if it is
     /// kept.
-    pub senders: Option<Senders<'a>>,
+    pub senders: Option<Senders>,
     /// Where sources are looked for first.
     pub hints: Hints,
     /// What the changes behind the Ables that were received are looked up by.
@@ -71,7 +71,7 @@ pub(crate) struct Passed<'a> {
 }
 
 /// What was found before the first entry, with room in the columns for all.
-fn nothing_found<'a, L: ExerciseLog>(alloc: Global, log: &'a L) -> Result<Pass<'a>, AllocError>
+fn nothing_found<L: ExerciseLog>(alloc: Global, log: &L) -> Result<Pass, AllocError>
     ensures { IfOk result (λ found. IsPass (L.recording log.now) 0 found) }
 {
     let entries = log.entry_count();
@@ -92,7 +92,7 @@ fn nothing_found<'a, L: ExerciseLog>(alloc: Global, log: &'a L) -> Result<Pass<'
             most: (entries / MANY) as u32,
         },
         ables: Vec::new(alloc),
-        senders: no_senders(alloc),
+        senders: no_senders(alloc, entries),
         others: 0,
     })
 }
@@ -105,13 +105,13 @@ fn one_if(so: bool) -> u32
 }
 
 /// Keeps what the next entry is found to be, by which a station sends a datagram.
-fn keep_sent<'a, L: ExerciseLog>(
-    found: &mut Pass<'a>,
+fn keep_sent<L: ExerciseLog>(
+    found: &mut Pass,
     requests: &mut Requests,
     log: &L,
     entry: usize,
     station: u16,
-    bytes: &'a [u8],
+    bytes: &[u8],
 ) -> Result<(), AllocError>
     requires limits { IsRecording (L.recording log.now) }
     requires at { station < length (L.recording log.now).setting.stations }
@@ -134,7 +134,7 @@ fn keep_sent<'a, L: ExerciseLog>(
 
 /// Keeps what the next entry is found to be, by which a station receives a datagram.
 fn keep_received<L: ExerciseLog>(
-    found: &mut Pass<'_>,
+    found: &mut Pass,
     log: &L,
     entry: usize,
     station: u16,
@@ -161,7 +161,7 @@ fn keep_received<L: ExerciseLog>(
 /// Keeps what the next entry is found to be, by which a station tells a state: the first cause against
 /// it alone.
 fn keep_told<L: ExerciseLog>(
-    found: &mut Pass<'_>,
+    found: &mut Pass,
     log: &L,
     entry: usize,
     station: u16,
@@ -183,10 +183,10 @@ fn keep_told<L: ExerciseLog>(
 }
 
 /// Finds what the next entry is.
-fn find_entry<'a, L: ExerciseLog>(
-    found: &mut Pass<'a>,
+fn find_entry<L: ExerciseLog>(
+    found: &mut Pass,
     requests: &mut Requests,
-    log: &'a L,
+    log: &L,
     entry: usize,
 ) -> Result<(), AllocError>
     requires few { entry < 4294967295 }
@@ -212,7 +212,7 @@ fn find_entry<'a, L: ExerciseLog>(
 }
 
 /// Passes over all entries. What is kept of requests is not asked for after that.
-fn pass_over<'a, L: ExerciseLog>(alloc: Global, log: &'a L) -> Result<Pass<'a>, AllocError>
+fn pass_over<L: ExerciseLog>(alloc: Global, log: &L) -> Result<Pass, AllocError>
     ensures found { let r = L.recording log.now in IfOk result (IsPass r (length r.entries)) }
     ensures limits { OnOk result (IsRecording (L.recording log.now)) }
 {
@@ -226,7 +226,7 @@ fn pass_over<'a, L: ExerciseLog>(alloc: Global, log: &'a L) -> Result<Pass<'a>, 
 
 /// What all entries were found to be, with all sources. It is not asked for any more where a datagram
 /// was sent first.
-fn with_all_sources<'a, L: ExerciseLog>(log: &L, pass: Pass<'_>, hints: Hints) -> Passed<'a>
+fn with_all_sources<L: ExerciseLog>(log: &L, pass: Pass, hints: Hints) -> Passed
     requires limits { IsRecording (L.recording log.now) }
     requires pass { let r = L.recording log.now in IsPass r (length r.entries) pass }
     ensures { AreFound (L.recording log.now) result }
@@ -256,7 +256,7 @@ fn with_all_sources<'a, L: ExerciseLog>(log: &L, pass: Pass<'_>, hints: Hints) -
 }
 
 /// What all entries were found to be, where sources are looked up when they are asked for.
-fn with_senders<'a, L: ExerciseLog>(log: &L, pass: Pass<'a>, hints: Hints) -> Passed<'a>
+fn with_senders<L: ExerciseLog>(log: &L, pass: Pass, hints: Hints) -> Passed
     requires { let r = L.recording log.now in IsPass r (length r.entries) pass }
     ensures { AreFound (L.recording log.now) result }
 {
@@ -285,7 +285,7 @@ fn with_senders<'a, L: ExerciseLog>(log: &L, pass: Pass<'a>, hints: Hints) -> Pa
 /// What all entries are found to be. Where few sources are yet to be found they are looked up at once,
 /// and what that takes is given back; where many are, each is found faster when it is asked for, since
 /// what sent it was asked for right before.
-pub(crate) fn find<'a, L: ExerciseLog>(alloc: Global, log: &'a L) -> Result<Passed<'a>, AllocError>
+pub(crate) fn find<L: ExerciseLog>(alloc: Global, log: &L) -> Result<Passed, AllocError>
     ensures { IfOk result (AreFindings (L.recording log.now)) }
 {
     let pass = pass_over(alloc, log)?;
@@ -298,7 +298,7 @@ pub(crate) fn find<'a, L: ExerciseLog>(alloc: Global, log: &'a L) -> Result<Pass
 }
 
 /// Finds the source of an entry, where it is yet to be found.
-pub(crate) fn settle<L: ExerciseLog>(found: &mut Passed<'_>, log: &L, entry: usize)
+pub(crate) fn settle<L: ExerciseLog>(found: &mut Passed, log: &L, entry: usize)
     requires limits { IsRecording (L.recording log.now) }
     requires within { entry < length (L.recording log.now).entries }
     requires found { AreFound (L.recording log.now) found.old }

@@ -21,7 +21,7 @@ returns g c =
       earlier = subst (λ (xs : List ℕ). IsColumn 0 (IsSoFarAt r) 0 xs) (sym c.in_ok-earlier.ensures.items) (column_none 0 (IsSoFarAt r));
       later = λ _. subst (λ (xs : List ℕ). IsColumn 0 (IsEarlierAt r) 0 xs) (sym c.in_ok-earlier.ensures.items) (column_none 0 (IsEarlierAt r));
       ables = subst (λ (xs : List Able). AreBehind r 0 xs) (sym c.new.ensures.items) (behind_none r);
-      senders = no_senders r c.no_senders.result c.no_senders.ensures;
+      senders = no_senders r c.no_senders.result c.no_senders.ensures.kept c.no_senders.ensures.order;
       others = refl;
       few = omega arith;
     }

@@ -1,0 +1,50 @@
+-- Entries under hashes, kept in slots: an entry stands in the first slot that was free, from the home of its hash on (profile).
+use Rattle.std.specs.Prelude.{◌≡◌, ◌≢◌, ◌<◌, ◌+◌, ◌-◌, ◌==◌, ℕ, zero, suc, Bool, true, List, length, Some, slice_get, if◌then◌else◌, bit_and}
+use Rattle.exercise_model.specs.Place.{first_below}
+use Rattle.exercise_findings.specs.declared.slots.Slot.{Slot}
+
+-- among n slots, the home of a hash, and the slot behind slot i
+abbrev pub home : ℕ → ℕ → ℕ
+home n hash = bit_and hash (n - 1)
+
+abbrev pub slot_behind : ℕ → ℕ → ℕ
+slot_behind n i = if (i + 1) == n then 0 else i + 1
+
+-- the slot d behind the home of a hash
+unfoldable pub slot_on : ℕ → ℕ → ℕ → ℕ
+slot_on n hash zero = home n hash
+slot_on n hash (suc d) = slot_behind n (slot_on n hash d)
+
+-- Slot i has this entry, under this hash.
+pub record HasEntry (slots : List Slot) (i hash entry : ℕ) : Type 0 where
+  pub at : slice_get slots i ≡ Some (record { hash = hash; entry = entry })
+  pub some : entry ≢ 0xFFFFFFFF
+
+-- the slots before the d-th one from the home of a hash on are taken
+abbrev pub AreTaken : List Slot → ℕ → ℕ → Type 0
+AreTaken slots hash d = (c : ℕ) → c < d → (h : ℕ) × (e : ℕ) × HasEntry slots (slot_on (length slots) hash c) h e
+
+-- Slot i is the first from the home of a hash on that is free.
+pub record IsFirstFree (slots : List Slot) (hash i : ℕ) : Type 0 where
+  pub steps : ℕ
+  pub near : steps < length slots
+  pub at : i ≡ slot_on (length slots) hash steps
+  pub within : i < length slots
+  pub free : (h e : ℕ) → slice_get slots i ≡ Some (record { hash = h; entry = e }) → e ≡ 0xFFFFFFFF
+  pub taken : AreTaken slots hash steps
+
+-- An entry is found under a hash: the slots from the home of the hash to its own are taken.
+pub record IsReached (slots : List Slot) (hash entry : ℕ) : Type 0 where
+  pub steps : ℕ
+  pub near : steps < length slots
+  pub here : HasEntry slots (slot_on (length slots) hash steps) hash entry
+  pub taken : AreTaken slots hash steps
+
+-- an entry stands in a slot
+abbrev pub Stands : List Slot → ℕ → Type 0
+Stands slots entry = (i : ℕ) × (hash : ℕ) × HasEntry slots i hash entry
+
+-- THE TIE: of the entries that stand in slots, that under a key is the first below n that has the key, and it is found under the hash of the key
+pub record AreFirst {K : Type 0} (has : K → ℕ → Bool) (hash : K → ℕ) (n : ℕ) (slots : List Slot) : Type 0 where
+  pub only : (k : K) (e : ℕ) → Stands slots e → has k e ≡ true → first_below (has k) n ≡ Some e
+  pub all : (k : K) (e : ℕ) → first_below (has k) n ≡ Some e → IsReached slots (hash k) e

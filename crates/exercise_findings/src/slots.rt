@@ -1,0 +1,203 @@
+//! Entries under hashes, in slots: an entry stands in the first slot that was free, from the home of
+//! its hash on. What it is looked for by is read from the log, so a slot keeps a hash and a number.
+
+ghost use Rattle.std.specs.Prelude.{◌≡◌, ◌≢◌, ◌<◌, ◌⊎◌, ℕ, Bool, false, true, length, IfSome, IfNone, IfOk, OnOk};
+ghost use Rattle.exercise_findings.specs.Slots.{home, slot_behind, IsFirstFree, IsReached, Stands};
+
+use crate::number::NO_ENTRY;
+use std::alloc::{AllocError, Global};
+
+/// A slot: an entry, and the hash that it is kept under.
+#[derive(Clone, Copy)]
+pub(crate) struct Slot {
+    /// The hash.
+    pub hash: u32,
+    /// The entry; [`NO_ENTRY`] where the slot is free.
+    pub entry: u32,
+}
+
+/// The slots, with how many have an entry.
+#[derive(Drop)]
+pub(crate) struct Slots {
+    alloc: Global,
+    /// The slots: none, or a power of two.
+    pub slots: Vec<Slot>,
+    /// How many have an entry. What is found is the same whatever stands here, and in the next line.
+    used: usize,
+    /// How many slots there are once one is needed.
+    least: usize,
+}
+
+/// A slot that is free.
+const FREE: Slot = Slot {
+    hash: 0,
+    entry: NO_ENTRY,
+};
+
+/// What an entry is looked for by, among those under one hash.
+pub(crate) trait Sought {
+    // What it answers.
+    ghost is_sought: { Self → ℕ → Bool };
+
+    /// Whether it is this entry.
+    fn is_sought(&self, entry: u32) -> bool
+        ensures { result ≡ is_sought self.now entry };
+}
+
+/// No entries, of so many that there may be. It takes no memory.
+pub(crate) fn no_slots(alloc: Global, entries: usize) -> Slots
+    ensures { length result.slots.items ≡ 0 }
+{
+    Slots {
+        alloc,
+        slots: Vec::new(alloc),
+        used: 0,
+        least: least_slots(entries),
+    }
+}
+
+/// How often the least number of slots is doubled at most.
+const DOUBLED: usize = 15;
+
+/// How many slots there are once one is needed: a power of two, half as many as there may be entries
+/// or fewer.
+fn least_slots(entries: usize) -> usize {
+    let mut least: usize = 16;
+    for _ in 0..DOUBLED {
+        if least <= entries / 4 {
+            least = least.saturating_mul(2);
+        }
+    }
+    least
+}
+
+/// The slot where a hash is looked for first.
+fn home(hash: u32, count: usize) -> usize
+    requires { 0 < count }
+    ensures value { result ≡ home count hash }
+    ensures within { result < count }
+{
+    hash as usize & (count - 1)
+}
+
+/// The slot behind one. Behind the last is the first.
+fn slot_behind(place: usize, count: usize) -> usize
+    requires { place < count }
+    ensures value { result ≡ slot_behind count place }
+    ensures within { result < count }
+{
+    if place + 1 == count { 0 } else { place + 1 }
+}
+
+/// The entry under a hash that is the one that is looked for.
+pub(crate) fn find<S: Sought>(slots: &Slots, hash: u32, sought: &S) -> Option<u32>
+    ensures found { IfSome result (λ e. Stands slots.now.slots.items e × (S.is_sought sought.now e ≡ true)) }
+    ensures absent { IfNone result ((e : ℕ) → IsReached slots.now.slots.items hash e → S.is_sought sought.now e ≡ false) }
+{
+    let count = slots.slots.len();
+    if count == 0 {
+        return None;
+    }
+    let mut place = home(hash, count);
+    for _step in 0..count {
+        let slot = slots.slots[place];
+        if slot.entry == NO_ENTRY {
+            return None;
+        }
+        if slot.hash == hash && sought.is_sought(slot.entry) {
+            return Some(slot.entry);
+        }
+        place = slot_behind(place, count);
+    }
+    None
+}
+
+/// The first slot that is free, from the home of a hash on.
+fn first_free(slots: &Vec<Slot>, hash: u32) -> Option<usize>
+    ensures { IfSome result (IsFirstFree slots.now.items hash) }
+{
+    let count = slots.len();
+    if count == 0 {
+        return None;
+    }
+    let mut place = home(hash, count);
+    for _step in 0..count {
+        if slots[place].entry == NO_ENTRY {
+            return Some(place);
+        }
+        place = slot_behind(place, count);
+    }
+    None
+}
+
+/// Puts an entry into the first slot that is free, from the home of its hash on. Where none is free
+/// there is no room; [`make_room`] leaves a quarter of them free.
+fn put(slots: &mut Vec<Slot>, hash: u32, entry: u32) -> Result<(), AllocError>
+    requires some { entry ≢ 4294967295 }
+    ensures reached { OnOk result (IsReached slots.new.items hash entry) }
+    ensures kept { OnOk result ((h e : ℕ) → IsReached slots.old.items h e → IsReached slots.new.items h e) }
+    ensures only { OnOk result ((e : ℕ) → Stands slots.new.items e → Stands slots.old.items e ⊎ (e ≡ entry)) }
+{
+    match first_free(slots, hash) {
+        Some(place) => {
+            slots[place] = Slot { hash, entry };
+            Ok(())
+        }
+        None => Err(AllocError),
+    }
+}
+
+/// Puts what stands in a slot into others, if it is an entry.
+fn put_slot(slots: &mut Vec<Slot>, slot: Slot) -> Result<(), AllocError>
+    ensures reached { OnOk result (slot.entry ≢ 4294967295 → IsReached slots.new.items slot.hash slot.entry) }
+    ensures kept { OnOk result ((h e : ℕ) → IsReached slots.old.items h e → IsReached slots.new.items h e) }
+    ensures only { OnOk result ((e : ℕ) → Stands slots.new.items e → Stands slots.old.items e ⊎ ((e ≡ slot.entry) × (e ≢ 4294967295))) }
+{
+    if slot.entry == NO_ENTRY {
+        Ok(())
+    } else {
+        put(slots, slot.hash, slot.entry)
+    }
+}
+
+/// So many slots, with what stands in these.
+fn spread(alloc: Global, from: &Vec<Slot>, count: usize) -> Result<Vec<Slot>, AllocError>
+    ensures kept { IfOk result (λ to. (h e : ℕ) → IsReached from.now.items h e → IsReached to.items h e) }
+    ensures only { IfOk result (λ to. (e : ℕ) → Stands to.items e → Stands from.now.items e) }
+{
+    let mut to = vec![in alloc; FREE; count]?;
+    for place in 0..from.len() {
+        put_slot(&mut to, from[place])?;
+    }
+    Ok(to)
+}
+
+/// Makes twice as many slots where less than a quarter are free.
+fn make_room(slots: &mut Slots) -> Result<(), AllocError>
+    ensures kept { OnOk result ((h e : ℕ) → IsReached slots.old.slots.items h e → IsReached slots.new.slots.items h e) }
+    ensures only { OnOk result ((e : ℕ) → Stands slots.new.slots.items e → Stands slots.old.slots.items e) }
+{
+    let count = slots.slots.len();
+    if slots.used < count - count / 4 {
+        return Ok(());
+    }
+    slots.slots = spread(
+        slots.alloc,
+        &slots.slots,
+        count.saturating_mul(2).max(slots.least),
+    )?;
+    Ok(())
+}
+
+/// Keeps an entry under a hash.
+pub(crate) fn keep(slots: &mut Slots, hash: u32, entry: u32) -> Result<(), AllocError>
+    requires some { entry ≢ 4294967295 }
+    ensures reached { OnOk result (IsReached slots.new.slots.items hash entry) }
+    ensures kept { OnOk result ((h e : ℕ) → IsReached slots.old.slots.items h e → IsReached slots.new.slots.items h e) }
+    ensures only { OnOk result ((e : ℕ) → Stands slots.new.slots.items e → Stands slots.old.slots.items e ⊎ (e ≡ entry)) }
+{
+    make_room(slots)?;
+    put(&mut slots.slots, hash, entry)?;
+    slots.used = slots.used.saturating_add(1);
+    Ok(())
+}

@@ -21,12 +21,20 @@ pub enum FetchFault {
 }
 
 impl From<AllocError> for FetchFault {
+    ghost use Rattle.byte_files.specs.declared.fetching.FetchFault.TheVariants.{Memory};
+
+    ghost from_gives = { λ _ e. e ≡ Memory };
+
     fn from(_e: AllocError) -> FetchFault {
         FetchFault::Memory
     }
 }
 
 impl From<ReadFailed> for FetchFault {
+    ghost use Rattle.byte_files.specs.declared.fetching.FetchFault.TheVariants.{Read};
+
+    ghost from_gives = { λ _ e. e ≡ Read };
+
     fn from(_e: ReadFailed) -> FetchFault {
         FetchFault::Read
     }

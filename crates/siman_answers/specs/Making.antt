@@ -29,6 +29,11 @@ PutsBoth first second (Ok status) file out =
     (status ≡ 0) × Appends file.old file.new first × Appends out.old out.new second
 PutsBoth first second (Err fault) file out = (fault ≡ Output) × WritesShort first second file out
 
+-- WHAT IS WRITTEN WHERE THERE IS NOTHING TO MAKE: a text that says why, as the blocked list, with status 1, or a prefix of it
+abbrev pub PutsBlocked : (list : List ℕ) → Result ℕ Fault → (out : Stream) → Type 0
+PutsBlocked list (Ok status) out = (status ≡ 1) × Appends out.old out.new list
+PutsBlocked list (Err fault) out = (fault ≡ Output) × WritesPart out.old out.new list
+
 -- that the file to be written was not made or not saved is told as a failed write, or as want of memory
 abbrev pub TellsUnmade : ErrorKind → Answered → Stream → Type 0
 TellsUnmade kind answered out = Keeps out.old out.new × ((fault : Fault) × IsToldAs kind Output fault × (answered ≡ Err fault))

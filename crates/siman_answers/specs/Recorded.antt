@@ -1,14 +1,15 @@
--- What reading a recording and its certificate gives, and how it is told that none was read, or that one is explained.
-use Rattle.std.specs.Prelude.{◌≡◌, ◌⊎◌, ℕ, List, codes, Result, Err}
+-- What reading a recording and its certificate gives, and how it is told that none was read, that nothing was judged, or that one is explained.
+use Rattle.std.specs.Prelude.{◌≡◌, ◌⊎◌, ℕ, List, codes, Result, Ok, Err}
 use Rattle.exercise_model.specs.Recording.{PlainRecording}
 use Rattle.exercise_recording.specs.declared.format_fault.FormatFault.{FormatFault}
 use Rattle.exercise_recording.specs.declared.format_fault.RecordingFault.TheVariants as recordings
 use Rattle.exercise_check.specs.declared.certificate.Step.{Step}
 use Rattle.exercise_check.specs.declared.certificate_fault.CertificateFormatFault.{CertificateFormatFault}
+use Rattle.exercise_check.specs.declared.certificate_fault.CertificateFault.TheVariants as certificates
 use Rattle.siman_texts.specs.Spelled.{line_text}
 use Rattle.siman_reports.specs.CountLine.{counted}
 use Rattle.siman_answers.specs.declared.fault.Fault.{Fault}
-use Rattle.siman_answers.specs.declared.fault.Fault.TheVariants.{Recording, Memory}
+use Rattle.siman_answers.specs.declared.fault.Fault.TheVariants.{Recording, Certificate, Memory}
 
 -- what reading a recording gives, and what reading a certificate gives: its steps
 abbrev pub Recorded : Type 0
@@ -23,6 +24,17 @@ IsUnsearched recorded fault =
     ((bad : FormatFault) × (recorded ≡ Err bad) × (fault ≡ Recording (recordings.Format bad)))
     ⊎ (fault ≡ Recording recordings.Read)
     ⊎ (fault ≡ Memory)
+
+-- a certificate could not be had: the file has a bad field, a read failed, or memory ran out
+abbrev pub IsUncertified : Certified → Fault → Type 0
+IsUncertified certified fault =
+    ((bad : CertificateFormatFault) × (certified ≡ Err bad) × (fault ≡ Certificate (certificates.Format bad)))
+    ⊎ (fault ≡ Certificate certificates.Read)
+    ⊎ (fault ≡ Memory)
+
+-- NOTHING WAS JUDGED: the recording could not be had, which is judged first; or it could, and the certificate could not
+abbrev pub IsUnjudged : Recorded → Certified → Fault → Type 0
+IsUnjudged recorded certified fault = IsUnsearched recorded fault ⊎ (((r : PlainRecording) × (recorded ≡ Ok r)) × IsUncertified certified fault)
 
 -- explained steps=N
 abbrev pub explained_text : ℕ → List ℕ

@@ -31,7 +31,7 @@ pub use files_fault::FilesFault;
 pub use input::{InputFault, Unread, read_text};
 pub use join_limit::JoinLimit;
 pub use limits::{LARGEST_CERTIFICATE, LARGEST_RECORDING};
-pub use making::{Making, make_file, settle_and_say};
+pub use making::{Making, make_file, put_stuck, settle_and_say};
 pub use opening::{open_apart, open_both, unopened};
 pub use outside::Outside;
 pub use passing::{HELD, pass_on, status_of};

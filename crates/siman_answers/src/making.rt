@@ -4,7 +4,7 @@ ghost use Rattle.std.specs.Prelude.{◌≡◌, ◌∷◌, [], ℕ, List, Option,
 ghost use Rattle.std.specs.List.{All};
 ghost use Rattle.siman_answers.specs.declared.fault.Fault.{Fault};
 ghost use Rattle.siman_answers.specs.Outside.{Deed, Found, Adds, WasHeld, Stream};
-ghost use Rattle.siman_answers.specs.Making.{SaysSettled, IsSaved, MakesFile};
+ghost use Rattle.siman_answers.specs.Making.{SaysSettled, PutsBlocked, IsSaved, MakesFile};
 
 use crate::fault::{Fault, of_error};
 use crate::outside::Outside;
@@ -45,6 +45,17 @@ pub fn settle_and_say<F: Write, W: Write>(
     }
     match put(out, line.as_bytes()) {
         Ok(()) => Ok(()),
+        Err(_) => Err(Fault::Output),
+    }
+}
+
+/// Writes what tells of a no, as a blocked list, and gives the status.
+pub fn put_stuck<W: Write>(list: &str, out: &mut W) -> Result<u8, Fault<'static>>
+    ensures { let out : Stream = record { old = W.contents out.old; new = W.contents out.new } in
+        PutsBlocked list.now result out }
+{
+    match put(out, list.as_bytes()) {
+        Ok(()) => Ok(1),
         Err(_) => Err(Fault::Output),
     }
 }

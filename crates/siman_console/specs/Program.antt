@@ -16,7 +16,7 @@ use Rattle.siman_answers.specs.declared.fault.Fault.{Fault}
 use Rattle.siman_answers.specs.declared.fault.Fault.TheVariants.{Words, Output, Memory}
 use Rattle.siman_files.specs.Answer.{said_of_hex, IsSaid}
 use Rattle.siman_views.specs.Audit.{SearchesFile, MakesFinding}
-use Rattle.siman_views.specs.Chart.{ChartsNamed}
+use Rattle.siman_charts.specs.Chart.{ChartsNamed}
 use Rattle.siman_files.specs.Check.{ChecksFiles}
 use Rattle.siman_files.specs.Convert.{CarriesFile, MakesConverted}
 use Rattle.siman_answers.specs.Ending.{Ends, IsToldAs}

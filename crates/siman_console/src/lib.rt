@@ -8,9 +8,9 @@
 //! recording, [`review_command`] and [`log_command`] for views of a recording, [`why_command`] and
 //! [`why_not_command`] for what contradicts what, [`world_command`] for a script and the recording of
 //! its world, and [`trial`] for a script and the report of its world. The commands themselves stand in
-//! `siman_files`, `siman_views` and `siman_plays`, what they share in `siman_answers`; here is what
-//! leads from words to them. The contracts of the commands give the status and the bytes on the writer
-//! of the answer; the writer of faults gets bytes only where the status is 2 or 3.
+//! `siman_files`, `siman_views`, `siman_charts` and `siman_plays`, what they share in `siman_answers`;
+//! here is what leads from words to them. The contracts of the commands give the status and the bytes
+//! on the writer of the answer; the writer of faults gets bytes only where the status is 2 or 3.
 #![tactic(auto)]
 
 mod laws;

@@ -12,12 +12,13 @@ use crate::usage::end_usage;
 use siman_answers::{
     Ended, Fault, OfFile, Outside, end, make_of_file, of_error, say_of_file, say_of_files,
 };
+use siman_charts::chart_named;
 use siman_files::{
     Carried, CheckCommand, MendedFile, ShowCommand, end_lines, join_pieces, tell_word, word_of,
 };
 use siman_plays::{TrialCommand, WorldFile, end_live, end_station};
 use siman_texts::Spelling;
-use siman_views::{Finding, chart_named, log_named, review_named, why_named};
+use siman_views::{Finding, log_named, review_named, why_named};
 use siman_words::{NoWord, OneWord, Task, TwoWords, ViewWord, asks_help, read_words};
 use std::alloc::Global;
 use std::io;

@@ -3,4 +3,3 @@ mod Reviewed
 mod Logged
 mod Reasons
 mod Said
-mod Pictured

@@ -1,20 +1,19 @@
 -- What `why` says of files that could be read, and of those that could not.
-use Rattle.std.proofs.Common.{◌≡◌, Result, Ok, Err, inl, inr, refl}
+use Rattle.std.proofs.Common.{◌≡◌, Result, Ok, Err, inl, inr}
 use Rattle.std.specs.Result.{IsErrAnd}
 use Rattle.exercise_model.specs.Recording.{PlainRecording}
 use Rattle.exercise_recording.specs.declared.format_fault.RecordingFault.{RecordingFault}
 use Rattle.exercise_recording.specs.Reading as reading
 use Rattle.byte_files.specs.Fields.{Fails}
 use Rattle.exercise_check.specs.declared.certificate_fault.CertificateFault.{CertificateFault}
-use Rattle.exercise_check.specs.declared.certificate_fault.CertificateFault.TheVariants as certificates
 use Rattle.exercise_check.specs.Certificate as certificate
 use Rattle.siman_texts.specs.declared.spelling.Spelling.{Spelling}
 use Rattle.siman_answers.specs.declared.fault.Fault.{Fault}
 use Rattle.siman_views.specs.declared.why.WhyText.{WhyText}
 use Rattle.siman_answers.specs.Ending.{of_recording, of_certificate}
 use Rattle.siman_answers.specs.Recorded.{Recorded, Certified}
-use Rattle.siman_views.specs.Why.{Whys, WhysNot, IsUncertified}
-use Rattle.siman_answers.proofs.Offered.{unsearched}
+use Rattle.siman_views.specs.Why.{Whys, WhysNot}
+use Rattle.siman_answers.proofs.Offered.{unsearched, uncertified}
 
 -- a recording that could not be read
 pub unsaid : (spelling : Spelling) (recorded : Recorded) (fault : RecordingFault) (result : Result WhyText Fault)
@@ -28,11 +27,6 @@ unjudged spelling recorded certified fault (Ok told) passed why = absurd passed
 unjudged spelling recorded certified fault (Err e) passed why = rw passed (inl (unsearched recorded fault why))
 
 -- a certificate that could not be read
-pub uncertified : (certified : Certified) (fault : CertificateFault) → Fails (certificate.format_of fault) certified → IsUncertified certified (of_certificate fault)
-uncertified certified (certificates.Format f) why = inl (f, why, refl)
-uncertified certified certificates.Read why = inr (inl refl)
-uncertified certified certificates.Memory why = inr (inr refl)
-
 pub refused_after : (spelling : Spelling) (recorded : Recorded) (certified : Certified) (r : PlainRecording) (fault : CertificateFault) (result : Result WhyText Fault)
     → IsErrAnd result (λ e. e ≡ of_certificate fault) → recorded ≡ Ok r → Fails (certificate.format_of fault) certified → WhysNot spelling recorded certified result
 refused_after spelling recorded certified r fault (Ok told) passed read why = absurd passed

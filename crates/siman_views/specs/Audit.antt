@@ -18,7 +18,7 @@ use Rattle.siman_views.specs.declared.audit.Finding.TheVariants.{Order, Stuck}
 use Rattle.siman_answers.specs.Recorded.{Recorded, IsUnsearched, explained_text}
 use Rattle.siman_answers.specs.Ending.{EndsWith}
 use Rattle.siman_answers.specs.Outside.{Has, Stream, Deed}
-use Rattle.siman_answers.specs.Making.{MakesFile, PutsBoth}
+use Rattle.siman_answers.specs.Making.{MakesFile, PutsBoth, PutsBlocked}
 use Rattle.siman_answers.specs.declared.limits.TheConstants.{LARGEST_RECORDING}
 use Rattle.exercise_recording.specs.Reading.{recording_at}
 use Rattle.siman_texts.specs.Spelled.{lines_text}
@@ -73,11 +73,6 @@ Searches recorded (Ok finding) = Finds recorded finding
 Searches recorded (Err fault) = IsUnsearched recorded fault
 
 -- ---- what is written
-
--- WHAT IS WRITTEN WHERE THERE IS NONE: the blocked list, with status 1, or a prefix of it
-abbrev pub PutsBlocked : (list : List ℕ) → Result ℕ Fault → (out : Stream) → Type 0
-PutsBlocked list (Ok status) out = (status ≡ 1) × Appends out.old out.new list
-PutsBlocked list (Err fault) out = (fault ≡ Output) × WritesPart out.old out.new list
 
 -- WHAT IS WRITTEN OF A FINDING: of an order its texts, and of none the blocked list
 abbrev pub PutsFinding : Finding → Result ℕ Fault → (file out : Stream) → Type 0

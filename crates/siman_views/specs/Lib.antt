@@ -1,7 +1,5 @@
 pub mod FilterWords
-pub mod ChartWords
 pub mod Audit
 pub mod Review
 pub mod Log
 pub mod Why
-pub mod Chart

@@ -27,7 +27,7 @@ use Rattle.siman_views.specs.declared.why.WhyText.{WhyText}
 use Rattle.siman_answers.specs.Ending.{EndsWith}
 use Rattle.siman_answers.specs.Making.{Answered}
 use Rattle.siman_answers.specs.Outside.{Has, Stream, Deed}
-use Rattle.siman_answers.specs.Recorded.{IsUnsearched, Recorded, Certified}
+use Rattle.siman_answers.specs.Recorded.{IsUnsearched, IsUnjudged, Recorded, Certified}
 use Rattle.siman_answers.specs.Saying.{SaysOfFile, SaysOfFiles}
 
 -- ---- a recording alone
@@ -97,17 +97,6 @@ pub record SaysRefusal (spelling : Spelling) (recorded : Recorded) (certified : 
 abbrev pub SaysWhyNot : Spelling → Recorded → Certified → (text : List ℕ) → (status : ℕ) → Type 0
 SaysWhyNot spelling recorded certified text status =
     (SaysGood spelling recorded certified text × (status ≡ 0)) ⊎ (SaysRefusal spelling recorded certified text × (status ≡ 1))
-
--- a certificate could not be had: the file has a bad field, a read failed, or memory ran out
-abbrev pub IsUncertified : Certified → Fault → Type 0
-IsUncertified certified fault =
-    ((bad : CertificateFormatFault) × (certified ≡ Err bad) × (fault ≡ Certificate (certificates.Format bad)))
-    ⊎ (fault ≡ Certificate certificates.Read)
-    ⊎ (fault ≡ Memory)
-
--- NOTHING WAS JUDGED: the recording could not be had, which is judged first; or it could, and the certificate could not
-abbrev pub IsUnjudged : Recorded → Certified → Fault → Type 0
-IsUnjudged recorded certified fault = IsUnsearched recorded fault ⊎ (((r : PlainRecording) × (recorded ≡ Ok r)) × IsUncertified certified fault)
 
 abbrev pub WhysNot : Spelling → Recorded → Certified → Result WhyText Fault → Type 0
 WhysNot spelling recorded certified (Ok told) = SaysWhyNot spelling recorded certified (string_bytes told.text) told.status

@@ -8,7 +8,7 @@ ghost use Rattle.exercise_check.specs.Goodness.{IsGood};
 ghost use Rattle.exercise_audit.specs.Audit.{IsBlocked};
 ghost use Rattle.siman_answers.specs.declared.limits.TheConstants.{LARGEST_RECORDING};
 ghost use Rattle.siman_answers.specs.Outside.{Has, Stream, Deed, Found, Adds, WasHeld};
-ghost use Rattle.siman_views.specs.Audit.{Finds, Searches, PutsBlocked, PutsFinding, TellsAudit, EndsAudit, MakesFinding};
+ghost use Rattle.siman_views.specs.Audit.{Finds, Searches, PutsFinding, TellsAudit, EndsAudit, MakesFinding};
 
 use byte_files::put;
 use exercise_audit::{Audit, Block, audit};
@@ -16,7 +16,7 @@ use exercise_check::{Certificate, good_steps_have_no_cause, write_certificate};
 use exercise_model::{ExerciseLog, entries_stand, what_explains_holds};
 use exercise_recording::{RecordingView, fetch_recording};
 use siman_answers::{
-    Fault, LARGEST_RECORDING, Making, Outside, Product, end, make_file, settle_and_say,
+    Fault, LARGEST_RECORDING, Making, Outside, Product, end, make_file, put_stuck, settle_and_say,
 };
 use siman_conflicts::put_blocked;
 use siman_reports::counted;
@@ -227,16 +227,5 @@ fn make_found<O: Outside, W: Write>(
     match finding {
         Finding::Order(order) => make_file(alloc, order, name, outside, out),
         Finding::Stuck(list) => put_stuck(list, out),
-    }
-}
-
-/// Writes what tells of a no, as a blocked list, and gives the status.
-pub(crate) fn put_stuck<W: Write>(list: &str, out: &mut W) -> Result<u8, Fault<'static>>
-    ensures { let out : Stream = record { old = W.contents out.old; new = W.contents out.new } in
-        PutsBlocked list.now result out }
-{
-    match put(out, list.as_bytes()) {
-        Ok(()) => Ok(1),
-        Err(_) => Err(Fault::Output),
     }
 }

@@ -1,8 +1,8 @@
 -- What is shown passes a limit, or a picture was drawn.
 use Rattle.std.proofs.Common.{Ok, Err, refl, map, string_bytes}
-use Rattle.siman_views.specs.Chart.{IsCertified}
-use Rattle.siman_views.proofs.Pictured.{uncharted}
-use Rattle.siman_views.proofs.chart.shown.Goals as goal
+use Rattle.siman_charts.specs.Chart.{IsCertified}
+use Rattle.siman_charts.proofs.Pictured.{uncharted}
+use Rattle.siman_charts.proofs.chart.shown.Goals as goal
 
 pub returns-in-Err : goal.returns-in-Err
 returns-in-Err g c =

@@ -10,12 +10,11 @@ ghost use Rattle.exercise_check.specs.Goodness.{IsGood};
 ghost use Rattle.exercise_check.specs.Order.{order_of};
 ghost use Rattle.siman_texts.specs.Spelled.{line_text};
 ghost use Rattle.siman_answers.specs.declared.limits.TheConstants.{LARGEST_CERTIFICATE, LARGEST_RECORDING};
-ghost use Rattle.siman_views.specs.ChartWords.{window_of, past_of};
+ghost use Rattle.siman_charts.specs.ChartWords.{window_of, past_of};
 ghost use Rattle.siman_answers.specs.Opening.{WorksOnBoth};
 ghost use Rattle.siman_answers.specs.Outside.{Has, Stream, Deed, Reads, Found, Adds, WasHeld};
-ghost use Rattle.siman_views.specs.Chart.{of_chart, chart_line, Pictures, Charts, ChartsFiles, MakesChart, ChartsNamed};
+ghost use Rattle.siman_charts.specs.Chart.{of_chart, chart_line, Pictures, Charts, ChartsFiles, MakesChart, ChartsNamed};
 
-use crate::audit::put_stuck;
 use crate::chart_words::{Window, past_of, rows_in, window_of};
 use byte_files::put;
 use exercise_chart::{ChartFault, MOST_ROWS, Rows, pictures_are_runs};
@@ -26,7 +25,7 @@ use exercise_recording::{RecordingView, fetch_recording};
 use exercise_review::Register;
 use siman_answers::{
     Fault, LARGEST_CERTIFICATE, LARGEST_RECORDING, Making, Outside, make_file, open_both,
-    settle_and_say,
+    put_stuck, settle_and_say,
 };
 use siman_pictures::draw;
 use siman_reports::no_line;

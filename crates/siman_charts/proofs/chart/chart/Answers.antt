@@ -3,12 +3,12 @@ use Rattle.std.proofs.Common.{ℕ, List, Result, subst, map, string_bytes, inl}
 use Rattle.exercise_check.specs.Certificate.{certificate_at}
 use Rattle.exercise_recording.specs.Reading.{recording_at}
 use Rattle.siman_answers.specs.declared.fault.Fault.{Fault}
-use Rattle.siman_views.specs.declared.chart.Charted.{Charted}
+use Rattle.siman_charts.specs.declared.chart.Charted.{Charted}
 use Rattle.siman_answers.specs.declared.limits.TheConstants.{LARGEST_CERTIFICATE, LARGEST_RECORDING}
-use Rattle.siman_views.specs.Chart.{Charts}
+use Rattle.siman_charts.specs.Chart.{Charts}
 use Rattle.siman_answers.specs.Recorded.{Recorded}
 use Rattle.siman_answers.proofs.Offered.{Said, of_recording, of_any, unfetched_recording, at_fault, unsearched}
-use Rattle.siman_views.proofs.chart.chart.Goals as goal
+use Rattle.siman_charts.proofs.chart.chart.Goals as goal
 
 pub returns-in_err-bytes : goal.returns-in_err-bytes
 returns-in_err-bytes g c =

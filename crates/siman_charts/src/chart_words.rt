@@ -1,7 +1,7 @@
 //! The words that say which steps a picture shows.
 
 ghost use Rattle.std.specs.Prelude.{◌≡◌, ◌≤◌, Ok, Err, IfOk, IfErr, map, option_map, string_bytes};
-ghost use Rattle.siman_views.specs.ChartWords.{edge_by, edge_of, is_turned, narrowed, with_word, window_of, step_of, is_past, past_of, AreShown};
+ghost use Rattle.siman_charts.specs.ChartWords.{edge_by, edge_of, is_turned, narrowed, with_word, window_of, step_of, is_past, past_of, AreShown};
 
 use exercise_chart::Rows;
 use siman_scripts::{number_32, split_once};

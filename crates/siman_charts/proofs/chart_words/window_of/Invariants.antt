@@ -1,7 +1,7 @@
 -- The words that are left say behind what was said what all words say.
 use Rattle.std.proofs.Common.{◌≡◌, length, map, string_bytes}
-use Rattle.siman_views.specs.ChartWords.{window_by, window_of}
-use Rattle.siman_views.proofs.chart_words.window_of.Given as goal
+use Rattle.siman_charts.specs.ChartWords.{window_by, window_of}
+use Rattle.siman_charts.proofs.chart_words.window_of.Given as goal
 
 abbrev pub invariant-loop-others : goal.invariant-loop-others
 invariant-loop-others l = window_by l.window (map string_bytes l.others) ≡ window_of (map string_bytes l.words)

@@ -3,10 +3,9 @@ use Rattle.std.proofs.Common.{map, string_bytes, inl, inr}
 use Rattle.exercise_check.specs.Certificate.{certificate_at}
 use Rattle.exercise_recording.specs.Reading.{recording_at}
 use Rattle.siman_answers.specs.declared.limits.TheConstants.{LARGEST_CERTIFICATE, LARGEST_RECORDING}
-use Rattle.siman_views.specs.Chart.{Charts}
-use Rattle.siman_answers.proofs.Offered.{of_any, at_fault, unsearched}
-use Rattle.siman_views.proofs.Reasons.{uncertified}
-use Rattle.siman_views.proofs.chart.chart_bytes.Goals as goal
+use Rattle.siman_charts.specs.Chart.{Charts}
+use Rattle.siman_answers.proofs.Offered.{of_any, at_fault, unsearched, uncertified}
+use Rattle.siman_charts.proofs.chart.chart_bytes.Goals as goal
 
 pub returns-in_err-log : goal.returns-in_err-log
 returns-in_err-log g c =

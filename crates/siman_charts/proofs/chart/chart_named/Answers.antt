@@ -5,7 +5,7 @@ use Rattle.std.proofs.lemmas.List.Elements.{All-nil}
 use Rattle.siman_answers.specs.declared.fault.Fault.TheVariants.{Filter}
 use Rattle.siman_answers.specs.Outside.{WasHeld}
 use Rattle.siman_answers.proofs.Offered.{adds_none}
-use Rattle.siman_views.proofs.chart.chart_named.Goals as goal
+use Rattle.siman_charts.proofs.chart.chart_named.Goals as goal
 
 pub returns-in-Err : goal.returns-in-Err
 returns-in-Err g c = (

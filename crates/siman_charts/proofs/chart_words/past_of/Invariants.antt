@@ -1,7 +1,7 @@
 -- The first such word of all is that of those that are left.
 use Rattle.std.proofs.Common.{◌≡◌, length, map, string_bytes}
-use Rattle.siman_views.specs.ChartWords.{past_of}
-use Rattle.siman_views.proofs.chart_words.past_of.Given as goal
+use Rattle.siman_charts.specs.ChartWords.{past_of}
+use Rattle.siman_charts.proofs.chart_words.past_of.Given as goal
 
 abbrev pub invariant-loop-others : goal.invariant-loop-others
 invariant-loop-others l = past_of l.steps (map string_bytes l.others) ≡ past_of l.steps (map string_bytes l.words)

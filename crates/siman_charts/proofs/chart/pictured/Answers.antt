@@ -3,10 +3,10 @@ use Rattle.std.proofs.Common.{Err, subst, ◌∙◌}
 use Rattle.exercise_model.specs.Recording.{PlainRecording}
 use Rattle.siman_pictures.specs.Picture.{Draws}
 use Rattle.exercise_chart.specs.declared.fault.ChartFault.TheVariants.{Memory}
-use Rattle.siman_views.specs.Chart.{Pictures}
+use Rattle.siman_charts.specs.Chart.{Pictures}
 use Rattle.siman_answers.proofs.Offered.{at_fault}
-use Rattle.siman_views.proofs.Pictured.{undrawn}
-use Rattle.siman_views.proofs.chart.pictured.Goals as goal
+use Rattle.siman_charts.proofs.Pictured.{undrawn}
+use Rattle.siman_charts.proofs.chart.pictured.Goals as goal
 
 pub returns-in_err-picture-clause-picture : goal.returns-in_err-picture-clause-picture
 returns-in_err-picture-clause-picture g c =

@@ -1,7 +1,7 @@
 -- A word says a step past the last one.
 use Rattle.std.proofs.Common.{◌++◌, Ok, codes, refl, sym, inl, inr, append-nil}
-use Rattle.siman_views.specs.Chart.{IsCertified}
-use Rattle.siman_views.proofs.chart.drawn.Goals as goal
+use Rattle.siman_charts.specs.Chart.{IsCertified}
+use Rattle.siman_charts.proofs.chart.drawn.Goals as goal
 
 pub returns-in-Some : goal.returns-in-Some
 returns-in-Some g c =

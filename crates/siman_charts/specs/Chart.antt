@@ -22,21 +22,21 @@ use Rattle.siman_pictures.specs.Picture.{picture_text}
 use Rattle.siman_reports.specs.Report.{no_text}
 use Rattle.siman_texts.specs.Line.{Line, Number, Keyed, named_line}
 use Rattle.siman_texts.specs.Spelled.{line_text}
-use Rattle.siman_views.specs.declared.chart_words.Window.{Window}
+use Rattle.siman_charts.specs.declared.chart_words.Window.{Window}
 use Rattle.siman_answers.specs.declared.fault.Fault.{Fault}
 use Rattle.siman_answers.specs.declared.fault.Fault.TheVariants.{ChartOverLimit, Memory}
-use Rattle.siman_views.specs.declared.chart.Charted.{Charted}
-use Rattle.siman_views.specs.declared.chart.Charted.TheVariants.{Drawn, Refused}
-use Rattle.siman_views.specs.declared.chart.PictureTexts.{PictureTexts}
+use Rattle.siman_charts.specs.declared.chart.Charted.{Charted}
+use Rattle.siman_charts.specs.declared.chart.Charted.TheVariants.{Drawn, Refused}
+use Rattle.siman_charts.specs.declared.chart.PictureTexts.{PictureTexts}
 use Rattle.siman_answers.specs.declared.limits.TheConstants.{LARGEST_CERTIFICATE, LARGEST_RECORDING}
-use Rattle.siman_views.specs.ChartWords.{window_of, past_of, AreShown}
+use Rattle.siman_charts.specs.ChartWords.{window_of, past_of, AreShown}
 use Rattle.siman_answers.specs.Ending.{fault_text}
 use Rattle.siman_answers.specs.Making.{Answered, MakesFile, PutsBoth}
 use Rattle.siman_answers.specs.Opening.{WorksOnBoth}
 use Rattle.siman_answers.specs.Outside.{Has, Stream, Deed}
-use Rattle.siman_views.specs.Audit.{PutsBlocked}
+use Rattle.siman_answers.specs.Making.{PutsBlocked}
 use Rattle.siman_answers.specs.Recorded.{Recorded, Certified}
-use Rattle.siman_views.specs.Why.{IsUnjudged}
+use Rattle.siman_answers.specs.Recorded.{IsUnjudged}
 
 -- ---- a picture
 

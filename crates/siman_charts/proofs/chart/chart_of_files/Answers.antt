@@ -4,9 +4,9 @@ use Rattle.std.proofs.KnownBytes.{Keeps-refl}
 use Rattle.std.proofs.lemmas.List.Elements.{All-append}
 use Rattle.siman_answers.specs.Opening.{WorksOnBoth}
 use Rattle.siman_answers.specs.Outside.{Deed, Reads, Stream, WasHeld}
-use Rattle.siman_views.specs.Chart.{ChartsFiles, MakesChart}
+use Rattle.siman_charts.specs.Chart.{ChartsFiles, MakesChart}
 use Rattle.siman_answers.proofs.Offered.{at_fault, adds_then, all_two}
-use Rattle.siman_views.proofs.chart.chart_of_files.Goals as goal
+use Rattle.siman_charts.proofs.chart.chart_of_files.Goals as goal
 use Rattle.std.proofs.Common.{map, string_bytes}
 
 pub returns : goal.returns

@@ -2,7 +2,7 @@
 use Rattle.std.proofs.Common.{[], ◌∷◌}
 use Rattle.siman_answers.specs.Outside.{Reads}
 use Rattle.siman_answers.proofs.Offered.{adds_then}
-use Rattle.siman_views.proofs.chart.chart_opened.Goals as goal
+use Rattle.siman_charts.proofs.chart.chart_opened.Goals as goal
 
 pub returns-clause-done : goal.returns-clause-done
 returns-clause-done g c =

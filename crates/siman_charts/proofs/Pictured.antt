@@ -6,13 +6,13 @@ use Rattle.exercise_check.specs.declared.certificate.Step.{Step}
 use Rattle.exercise_chart.specs.declared.fault.ChartFault.{ChartFault}
 use Rattle.exercise_chart.specs.declared.fault.ChartFault.TheVariants as charts
 use Rattle.exercise_chart.specs.declared.point.Rows.{Rows}
-use Rattle.siman_views.specs.declared.chart_words.Window.{Window}
+use Rattle.siman_charts.specs.declared.chart_words.Window.{Window}
 use Rattle.siman_answers.specs.declared.fault.Fault.{Fault}
-use Rattle.siman_views.specs.declared.chart.Charted.{Charted}
-use Rattle.siman_views.specs.declared.chart.PictureTexts.{PictureTexts}
+use Rattle.siman_charts.specs.declared.chart.Charted.{Charted}
+use Rattle.siman_charts.specs.declared.chart.PictureTexts.{PictureTexts}
 use Rattle.siman_pictures.specs.Picture.{Draws}
-use Rattle.siman_views.specs.ChartWords.{past_of, AreShown}
-use Rattle.siman_views.specs.Chart.{Pictures, IsCertified, Charts, of_chart}
+use Rattle.siman_charts.specs.ChartWords.{past_of, AreShown}
+use Rattle.siman_charts.specs.Chart.{Pictures, IsCertified, Charts, of_chart}
 use Rattle.siman_answers.proofs.Offered.{at_fault}
 
 -- the limit that it passes, or want of memory

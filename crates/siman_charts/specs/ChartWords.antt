@@ -5,9 +5,9 @@ use Rattle.std.specs.Str.{bytes_eq}
 use Rattle.exercise_chart.specs.declared.point.Rows.{Rows}
 use Rattle.siman_scripts.specs.Text.{cut_at, number_to}
 use Rattle.siman_scripts.specs.Statement.{◌>>=◌}
-use Rattle.siman_views.specs.declared.chart_words.Edge.{Edge}
-use Rattle.siman_views.specs.declared.chart_words.Edge.TheVariants.{From, To}
-use Rattle.siman_views.specs.declared.chart_words.Window.{Window}
+use Rattle.siman_charts.specs.declared.chart_words.Edge.{Edge}
+use Rattle.siman_charts.specs.declared.chart_words.Edge.TheVariants.{From, To}
+use Rattle.siman_charts.specs.declared.chart_words.Window.{Window}
 
 -- ---- one word
 

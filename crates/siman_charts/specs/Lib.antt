@@ -1,0 +1,2 @@
+pub mod ChartWords
+pub mod Chart

@@ -8,7 +8,7 @@ ghost use Rattle.siman_conflicts.specs.Blocked.{explained_line, blocked_line, bl
 use crate::rule::put_rule;
 use exercise_audit::Block;
 use exercise_model::{Cause, ExerciseLog};
-use siman_texts::{Field, Line, Spelling, Value, put_line};
+use siman_texts::{Field, Spelling, Value, put_named};
 use std::alloc::{AllocError, Global};
 
 /// All causes, by their numbers.
@@ -33,7 +33,7 @@ pub fn put_explained(text: &mut String, spelling: Spelling, steps: usize) -> Res
     ensures { OnOk result (string_bytes text.new ≡ string_bytes text.old ++ line_spelled spelling (explained_line steps)) }
 {
     let fields = [Field::Keyed("steps", Value::Number(steps as u64))];
-    put_line(text, spelling, &Line::named("explained", &fields))
+    put_named(text, spelling, "explained", &fields)
 }
 
 /// `blocked stations=N`.
@@ -41,7 +41,7 @@ fn put_count(text: &mut String, spelling: Spelling, count: usize) -> Result<(), 
     ensures { OnOk result (string_bytes text.new ≡ string_bytes text.old ++ line_spelled spelling (blocked_line count)) }
 {
     let fields = [Field::Keyed("stations", Value::Number(count as u64))];
-    put_line(text, spelling, &Line::named("blocked", &fields))
+    put_named(text, spelling, "blocked", &fields)
 }
 
 /// `blocked ADDRESS record=N cause=N NAME`.
@@ -66,7 +66,7 @@ fn put_block<L: ExerciseLog>(
         Field::Keyed("cause", Value::Number(u64::from(cause.number()))),
         Field::Bare("name", Value::Word(&name)),
     ];
-    put_line(text, spelling, &Line::named("blocked", &fields))
+    put_named(text, spelling, "blocked", &fields)
 }
 
 fn put_blocks<L: ExerciseLog>(

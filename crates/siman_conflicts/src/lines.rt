@@ -8,7 +8,7 @@ ghost use Rattle.siman_conflicts.specs.Lines.{entry_value, final_line, wait_line
 use dis_records::Address;
 use exercise_conflict::{Fault, Lack, Repair, Wait};
 use exercise_model::{Cause, ExerciseLog};
-use siman_texts::{Field, Line, Spelling, Value, put_line};
+use siman_texts::{Field, Spelling, Value, put_named};
 use std::alloc::{AllocError, Global};
 
 /// An entry, or none.
@@ -39,7 +39,7 @@ pub fn put_wait<L: ExerciseLog>(
         Field::Keyed("on", Value::Address(log.station(wait.on).address())),
         Field::Keyed("next", Value::Number(wait.next as u64)),
     ];
-    put_line(text, spelling, &Line::named("waits", &fields))
+    put_named(text, spelling, "waits", &fields)
 }
 
 /// `final ENTRY`.
@@ -47,7 +47,7 @@ pub fn put_final(text: &mut String, spelling: Spelling, entry: usize) -> Result<
     ensures { OnOk result (string_bytes text.new ≡ string_bytes text.old ++ line_spelled spelling (final_line entry)) }
 {
     let fields = [Field::Bare("entry", Value::Number(entry as u64))];
-    put_line(text, spelling, &Line::named("final", &fields))
+    put_named(text, spelling, "final", &fields)
 }
 
 /// `also ENTRY at=ADDRESS cause=N NAME`.
@@ -73,7 +73,7 @@ pub fn put_also<L: ExerciseLog>(
         Field::Keyed("cause", Value::Number(u64::from(cause.number()))),
         Field::Bare("name", Value::Word(&name)),
     ];
-    put_line(text, spelling, &Line::named("also", &fields))
+    put_named(text, spelling, "also", &fields)
 }
 
 /// `missing ENTRY at=ADDRESS after=ENTRY`.
@@ -92,7 +92,7 @@ pub fn put_missing<L: ExerciseLog>(
         Field::Keyed("at", Value::Address(log.station(sender).address())),
         Field::Keyed("after", entry_value(lack.missing.after)),
     ];
-    put_line(text, spelling, &Line::named("missing", &fields))
+    put_named(text, spelling, "missing", &fields)
 }
 
 /// Whose fault it is, in one word.
@@ -110,7 +110,7 @@ pub fn put_fault(text: &mut String, spelling: Spelling, fault: Fault) -> Result<
     ensures { OnOk result (string_bytes text.new ≡ string_bytes text.old ++ line_spelled spelling (fault_line fault)) }
 {
     let fields = [Field::Bare("of", Value::Word(fault_word(fault)))];
-    put_line(text, spelling, &Line::named("fault", &fields))
+    put_named(text, spelling, "fault", &fields)
 }
 
 /// The addresses of stations.
@@ -142,7 +142,7 @@ pub fn put_cycle<L: ExerciseLog>(
 {
     let addresses = addresses_of(alloc, log, stations)?;
     let fields = [Field::Bare("ring", Value::Ring(&addresses))];
-    put_line(text, spelling, &Line::named("cycle", &fields))
+    put_named(text, spelling, "cycle", &fields)
 }
 
 /// `repair sends=N enough=WORD`.
@@ -153,5 +153,5 @@ pub fn put_repair(text: &mut String, spelling: Spelling, repair: Repair) -> Resu
         Field::Keyed("sends", Value::Number(repair.sends as u64)),
         Field::Keyed("enough", Value::Word(repair.enough.name())),
     ];
-    put_line(text, spelling, &Line::named("repair", &fields))
+    put_named(text, spelling, "repair", &fields)
 }

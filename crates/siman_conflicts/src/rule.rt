@@ -6,7 +6,7 @@ ghost use Rattle.siman_conflicts.specs.Rule.{rule_text};
 ghost use Rattle.siman_conflicts.specs.Lines.{rule_line};
 
 use exercise_model::Cause;
-use siman_texts::{Field, Line, Spelling, Value, put_line};
+use siman_texts::{Field, Spelling, Value, put_named};
 use std::alloc::AllocError;
 
 /// What holds of every run, and not where the cause holds.
@@ -38,5 +38,5 @@ pub fn put_rule(text: &mut String, spelling: Spelling, cause: Cause) -> Result<(
         Field::Bare("cause", Value::Number(u64::from(cause.number()))),
         Field::Bare("text", Value::Phrase(rule_of(cause))),
     ];
-    put_line(text, spelling, &Line::named("rule", &fields))
+    put_named(text, spelling, "rule", &fields)
 }

@@ -8,7 +8,7 @@ use crate::clash_line::put_clash_fields;
 use crate::lines::entry_value;
 use exercise_conflict::{Clash, StepClash};
 use exercise_model::ExerciseLog;
-use siman_texts::{Field, Line, Spelling, Value, put_end, put_fields, put_line, put_opening};
+use siman_texts::{Field, Spelling, Value, put_end, put_fields, put_named, put_opening};
 use std::alloc::{AllocError, Global};
 
 /// `steps=N records=N`.
@@ -75,7 +75,7 @@ fn put_place(
         Field::Keyed("place", Value::Number(place as u64)),
         Field::Keyed("records", Value::Number(records as u64)),
     ];
-    put_line(text, spelling, &Line::named("clash", &fields))
+    put_named(text, spelling, "clash", &fields)
 }
 
 /// `clash - place=ENTRY taken=STEP next=ENTRY`.
@@ -94,7 +94,7 @@ fn put_order(
         Field::Keyed("taken", entry_value(taken)),
         Field::Keyed("next", entry_value(next)),
     ];
-    put_line(text, spelling, &Line::named("clash", &fields))
+    put_named(text, spelling, "clash", &fields)
 }
 
 /// `clash ENTRY link=N right=ENTRY`.
@@ -112,7 +112,7 @@ fn put_link(
         Field::Keyed("link", entry_value(link)),
         Field::Keyed("right", entry_value(right)),
     ];
-    put_line(text, spelling, &Line::named("clash", &fields))
+    put_named(text, spelling, "clash", &fields)
 }
 
 /// `step=STEP`, of what was sent too late or never.

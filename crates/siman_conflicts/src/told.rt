@@ -17,7 +17,7 @@ use crate::rule::put_rule;
 use crate::step_clash_line::put_step_clash;
 use exercise_conflict::{Also, Conflict, Lack, Refusal, StepClash, Way};
 use exercise_model::{Cause, ExerciseLog};
-use siman_texts::{Field, Line, Spelling, Value, put_line};
+use siman_texts::{Field, Spelling, Value, put_named};
 use std::alloc::{AllocError, Global};
 
 /// `final ENTRY`, where nothing excuses the clash of an entry.
@@ -174,7 +174,7 @@ pub fn put_yes(
         Field::Keyed("records", Value::Number(records as u64)),
         Field::Keyed("others", Value::Number(u64::from(others))),
     ];
-    put_line(text, spelling, &Line::named("yes", &fields))
+    put_named(text, spelling, "yes", &fields)
 }
 
 /// `no step=N cause=N NAME`.
@@ -193,7 +193,7 @@ fn put_no(
         Field::Keyed("cause", Value::Number(u64::from(cause.number()))),
         Field::Bare("name", Value::Word(&name)),
     ];
-    put_line(text, spelling, &Line::named("no", &fields))
+    put_named(text, spelling, "no", &fields)
 }
 
 /// What the first bad step contradicts, where there is something to tell.

@@ -10,7 +10,7 @@ ghost use Rattle.siman_files.specs.Pdus.{told_of_said, told_of_line};
 
 use siman_pdus::{PduFault, spellings_are_apart, view};
 use siman_reports::pdu_lines;
-use siman_texts::{Field, Line, Spelling, Value, put_line};
+use siman_texts::{Field, Spelling, Value, named_line};
 use std::alloc::{AllocError, Global};
 use std::marker::Model;
 
@@ -45,9 +45,7 @@ fn refusal_line(alloc: Global, fault: PduFault) -> Result<String, AllocError>
         Field::Bare("number", Value::Number(fault.number() as u64)),
         Field::Bare("fault", Value::Phrase(&words)),
     ];
-    let mut line = String::new(alloc);
-    put_line(&mut line, Spelling::Text, &Line::named("refused", &fields))?;
-    Ok(line)
+    named_line(alloc, "refused", &fields)
 }
 
 impl Answer {

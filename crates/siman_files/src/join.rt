@@ -10,7 +10,7 @@ use exercise_recording::{FormWord, JoinFault, Joined, Joining, Joint};
 use siman_answers::{
     Fault, JoinLimit, LARGEST_RECORDING, Making, Outside, make_file, open_apart, settle_and_say,
 };
-use siman_texts::{Field, Line, Spelling, Value, put_line};
+use siman_texts::{Field, Value, named_line};
 use siman_words::JoinForm;
 use std::alloc::{AllocError, Global};
 use std::convert::AsStr;
@@ -80,9 +80,7 @@ fn joined_line(alloc: Global, told: Joined) -> Result<String, AllocError>
         Field::Keyed("records", Value::Number(u64::from(told.entries))),
         Field::Keyed("form", Value::Word(form_word(told.form))),
     ];
-    let mut line = String::new(alloc);
-    put_line(&mut line, Spelling::Text, &Line::named("joined", &fields))?;
-    Ok(line)
+    named_line(alloc, "joined", &fields)
 }
 
 /// Opens pieces in the order of their names. None of them may be the file that is to be made.

@@ -10,7 +10,7 @@ ghost use Rattle.siman_texts.specs.Spelled.{line_text};
 use exercise_recording::{FormatFault, Mended, Mending};
 use siman_answers::{Fault, Making, Outside, Product, make_file, settle_and_say};
 use siman_reports::counted;
-use siman_texts::{Field, Line, Spelling, Value, put_line};
+use siman_texts::{Field, Value, named_line};
 use std::alloc::{AllocError, Global};
 use std::io::{Read, Write};
 
@@ -35,9 +35,7 @@ fn torn_line(alloc: Global, told: Mended, fault: FormatFault) -> Result<String, 
         Field::Keyed("kept", Value::Number(told.kept as u64)),
         Field::Bare("fault", Value::Phrase(&words)),
     ];
-    let mut line = String::new(alloc);
-    put_line(&mut line, Spelling::Text, &Line::named("mended", &fields))?;
-    Ok(line)
+    named_line(alloc, "mended", &fields)
 }
 
 /// The line that tells what was mended.

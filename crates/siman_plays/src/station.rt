@@ -156,7 +156,10 @@ fn create_played<O: Outside, R: Read, W: Write, E: Write>(
             outside.close(file);
             Ok(told)
         }
-        Err(error) => Err(uncreated(&error)),
+        Err(error) => {
+            drop(ready);
+            Err(uncreated(&error))
+        }
     }
 }
 
@@ -209,7 +212,10 @@ fn play_placed<O: Outside, R: Read, W: Write, E: Write>(
     } = placed;
     let line = match outside.line_at(alloc, bind, &peers, anyone) {
         Ok(line) => line,
-        Err(error) => return Err(of_error(&error, Fault::LineFailed)),
+        Err(error) => {
+            drop(set_up);
+            return Err(of_error(&error, Fault::LineFailed));
+        }
     };
     play_at_line(
         alloc, set_up, address, line, &mut room, name, outside, input, out, errors,
@@ -233,6 +239,8 @@ fn play_set_up<O: Outside, R: Read, W: Write, E: Write>(
         (deeds : List Deed) × Adds (O.deeds outside.old) (O.deeds outside.new) deeds × ((holds : List ℕ → Option Found) → All (WasHeld holds) deeds) × PlaysSetUp O.Line.strangers set_up placed name.now (R.remaining input.old) deeds result s }
 {
     if outside.is_taken(name) {
+        drop(set_up);
+        drop(placed);
         return Err(Fault::Exists);
     }
     play_placed(alloc, set_up, placed, name, outside, input, out, errors)

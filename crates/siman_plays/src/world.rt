@@ -12,7 +12,7 @@ use crate::recording_file::put_recording;
 use exercise_model::{EntryView, LogEntry, Recording};
 use siman_answers::{Fault, Making, Outside, Product, end, make_file, read_text, settle_and_say};
 use siman_scripts::{LARGEST_SCRIPT, Script, read_script};
-use siman_texts::{Field, Line, Spelling, Value, put_line};
+use siman_texts::{Field, Value, named_line};
 use siman_worlds::run_world;
 use std::alloc::{AllocError, Global};
 use std::io::{Read, Write};
@@ -161,9 +161,7 @@ pub(crate) fn world_line(alloc: Global, recording: &Recording) -> Result<String,
         Field::Keyed("records", Value::Number(entries.len() as u64)),
         Field::Keyed("sent", Value::Number(sent_count(entries) as u64)),
     ];
-    let mut line = String::new(alloc);
-    put_line(&mut line, Spelling::Text, &Line::named("world", &fields))?;
-    Ok(line)
+    named_line(alloc, "world", &fields)
 }
 
 fn is_sent(entry: &LogEntry) -> bool

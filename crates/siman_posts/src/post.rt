@@ -76,11 +76,18 @@ impl<L: Line + Drop> Post<L> {
         ensures begun { IfOk result (IsBegun exercise address node) }
         ensures line { IfOk result (λ post. post.station.line.line ≡ line) }
     {
+        let line = match NotingLine::over(alloc, line) {
+            Ok(line) => line,
+            Err(memory) => {
+                drop(node);
+                return Err(memory);
+            }
+        };
         Ok(Post {
             station: StationAtLine {
                 index: 0,
                 node,
-                line: NotingLine::over(alloc, line)?,
+                line,
                 dropped: 0,
                 busy: false,
             },
@@ -147,7 +154,8 @@ impl<L: Line + Drop> Post<L> {
         ensures { result ≡ self.station.line.line }
     {
         let Post { station, .. } = self;
-        let StationAtLine { line, .. } = station;
+        let StationAtLine { node, line, .. } = station;
+        drop(node);
         line.into_inner()
     }
 

@@ -4,7 +4,7 @@ ghost use Rattle.std.specs.Prelude.{◌≡◌, IfOk, string_bytes};
 ghost use Rattle.siman_texts.specs.Spelled.{line_text};
 ghost use Rattle.siman_reports.specs.CountLine.{counted};
 
-use siman_texts::{Field, Line, Spelling, Value, put_line};
+use siman_texts::{Field, Spelling, Value, put_named};
 use std::alloc::{AllocError, Global};
 
 /// The line of a word that tells how many there are, as `explained steps=16`.
@@ -13,6 +13,6 @@ pub fn counted(alloc: Global, word: &str, key: &str, count: usize) -> Result<Str
 {
     let fields = [Field::Keyed(key, Value::Number(count as u64))];
     let mut line = String::new(alloc);
-    put_line(&mut line, Spelling::Text, &Line::named(word, &fields))?;
+    put_named(&mut line, Spelling::Text, word, &fields)?;
     Ok(line)
 }

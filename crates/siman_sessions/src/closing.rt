@@ -1,8 +1,9 @@
 //! The end of a session: the recording is ended, and its counts are printed.
 
-ghost use Rattle.std.specs.Prelude.{◌≡◌, IfErr, IfOk, string_bytes};
+ghost use Rattle.std.specs.Prelude.{◌≡◌, ◌++◌, IfErr, IfOk, OnOk, string_bytes};
 ghost use Rattle.std.specs.Io.KnownBytes.{Keeps};
-ghost use Rattle.siman_sessions.specs.Closing.{session_text, PrintsCounts, PrintsEnd, Closes};
+ghost use Rattle.siman_texts.specs.Spelled.{line_text};
+ghost use Rattle.siman_sessions.specs.Closing.{session_line, session_text, PrintsCounts, PrintsEnd, Closes};
 
 use byte_files::put;
 use exercise_recording::RecordingWriter;
@@ -12,7 +13,24 @@ use siman_texts::{Field, Line as Said, Spelling, Value, put_line};
 use std::alloc::{AllocError, Global};
 use std::io::Write;
 
-/// The line of a recording with so many entries, and of what its station dropped and passed over.
+/// Adds the line of a recording with so many entries, and of what its station dropped and passed over.
+fn put_session(
+    text: &mut String,
+    records: u32,
+    dropped: u64,
+    strangers: u64,
+) -> Result<(), AllocError>
+    ensures { OnOk result (string_bytes text.new ≡ string_bytes text.old ++ line_text (session_line records dropped strangers)) }
+{
+    let fields = [
+        Field::Keyed("records", Value::Number(u64::from(records))),
+        Field::Keyed("dropped", Value::Number(dropped)),
+        Field::Keyed("strangers", Value::Number(strangers)),
+    ];
+    put_line(text, Spelling::Text, &Said::named("station", &fields))
+}
+
+/// That line alone.
 fn session_line(
     alloc: Global,
     records: u32,
@@ -21,13 +39,8 @@ fn session_line(
 ) -> Result<String, AllocError>
     ensures { IfOk result (λ line. string_bytes line ≡ session_text records dropped strangers) }
 {
-    let fields = [
-        Field::Keyed("records", Value::Number(u64::from(records))),
-        Field::Keyed("dropped", Value::Number(dropped)),
-        Field::Keyed("strangers", Value::Number(strangers)),
-    ];
     let mut line = String::new(alloc);
-    put_line(&mut line, Spelling::Text, &Said::named("station", &fields))?;
+    put_session(&mut line, records, dropped, strangers)?;
     Ok(line)
 }
 

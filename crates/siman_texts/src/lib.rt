@@ -15,7 +15,9 @@ mod text_line;
 mod value;
 
 pub use field::Field;
-pub use line::{Line, put_end, put_field, put_fields, put_line, put_opening};
+pub use line::{
+    Line, named_line, put_end, put_field, put_fields, put_line, put_named, put_opening,
+};
 pub use spelling::Spelling;
 pub use text_line::{
     TextLine, add_entity, add_kind, add_missing, add_number, add_number_behind, add_state, add_time,

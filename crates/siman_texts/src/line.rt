@@ -1,15 +1,15 @@
 //! A line, and its two spellings.
 
-ghost use Rattle.std.specs.Prelude.{◌≡◌, ◌++◌, OnOk, string_bytes, option_map};
+ghost use Rattle.std.specs.Prelude.{◌≡◌, ◌++◌, IfOk, OnOk, string_bytes, option_map};
 ghost use Rattle.siman_texts.specs.Line.{named_line};
-ghost use Rattle.siman_texts.specs.Spelled.{opening_spelled, field_spelled, fields_spelled, end_spelled, line_spelled};
+ghost use Rattle.siman_texts.specs.Spelled.{opening_spelled, field_spelled, fields_spelled, end_spelled, line_spelled, line_text};
 ghost use Rattle.siman_texts.specs.Lent.{field_of, fields_of, line_of};
 
 use crate::field::Field;
 use crate::json::put_member;
 use crate::spelling::Spelling;
 use crate::text::put_as_text;
-use std::alloc::AllocError;
+use std::alloc::{AllocError, Global};
 
 /// A line: a name and fields in their order.
 #[derive(Clone, Copy)]
@@ -105,4 +105,25 @@ pub fn put_line(text: &mut String, spelling: Spelling, line: &Line<'_>) -> Resul
     put_opening(text, spelling, line.name, &line.opening)?;
     put_fields(text, spelling, line.fields)?;
     put_end(text, spelling)
+}
+
+/// The line of a name and the fields behind it in a spelling, with its line end.
+pub fn put_named(
+    text: &mut String,
+    spelling: Spelling,
+    name: &str,
+    fields: &[Field<'_>],
+) -> Result<(), AllocError>
+    ensures { OnOk result (string_bytes text.new ≡ string_bytes text.old ++ line_spelled spelling (named_line name.now (fields_of fields.now))) }
+{
+    put_line(text, spelling, &Line::named(name, fields))
+}
+
+/// The same line alone, as text.
+pub fn named_line(alloc: Global, name: &str, fields: &[Field<'_>]) -> Result<String, AllocError>
+    ensures { IfOk result (λ line. string_bytes line ≡ line_text (named_line name.now (fields_of fields.now))) }
+{
+    let mut line = String::new(alloc);
+    put_named(&mut line, Spelling::Text, name, fields)?;
+    Ok(line)
 }

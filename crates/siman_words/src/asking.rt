@@ -4,7 +4,7 @@ ghost use Rattle.std.specs.Prelude.{◌≡◌, map, option_map};
 ghost use Rattle.siman_words.specs.Words.{asked_by, is_option, takes_of, takes_named, bare_asked, one_asked, two_asked, taken, asked, last_apart, has_option, is_form_word, form_named, form_apart, are_names, pieces_asked, join_asked, anyone_apart, station_named, station_asked, spelling_apart, view_asked, named_why, why_asked, chart_asked};
 
 use crate::commands::{
-    JoinForm, NoWord, OneWord, ROWS, StationWords, Takes, Task, TwoWords, ViewWord,
+    JoinForm, NoWord, OneWord, StationWords, Takes, Task, TwoWords, ViewWord, rows,
 };
 use crate::rows::Row;
 use siman_texts::Spelling;
@@ -32,11 +32,10 @@ fn takes_of(mut table: &[Row], name: &str) -> Option<Takes>
 }
 
 /// What the command of a name takes.
-#[tactic(auto, unfolding(crate::specs::Words::takes_named))]
 pub(crate) fn takes_named(name: &str) -> Option<Takes>
     ensures { result ≡ takes_named name.now }
 {
-    takes_of(&ROWS, name)
+    takes_of(rows(), name)
 }
 
 fn no_word<S: AsStr>(command: NoWord, words: &[S]) -> Option<Task<'_, S>>

@@ -1,5 +1,8 @@
 //! The table of commands, from which the reading of words, usage and help follow.
 
+ghost use Rattle.std.specs.Prelude.{ℕ, List, ◌≡◌, map};
+ghost use Rattle.siman_words.specs.Words.{takes_of, takes_named};
+
 use crate::rows::{Often, Row, Word};
 use siman_texts::Spelling;
 
@@ -394,3 +397,11 @@ pub(crate) const ROWS: [Row; 15] = [
         ],
     },
 ];
+
+/// The rows of that table: what goes over them names no constant of its own.
+#[tactic(auto, unfolding(crate::specs::Words::takes_named))]
+pub(crate) fn rows() -> &'static [Row]
+    ensures { (name : List ℕ) → takes_of (map (λ row. (row.name.now, row.takes)) result.now) name ≡ takes_named name }
+{
+    &ROWS
+}

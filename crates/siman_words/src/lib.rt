@@ -16,7 +16,7 @@ mod rows;
 mod usage;
 
 use crate::asking::task_of;
-use crate::usage::{terminal_usage, usage_of};
+use crate::usage::usage_of;
 use clap::Error;
 pub use commands::{JoinForm, NoWord, OneWord, StationWords, Task, TwoWords, ViewWord};
 pub use helping::asks_help;
@@ -30,8 +30,9 @@ pub fn read_words<S: AsStr>(alloc: Global, words: &[S]) -> Result<Task<'_, S>, E
 {
     match task_of(words) {
         Some(task) => Ok(task),
-        None => match usage_of(alloc, words) {
-            Ok(error) | Err(error) => Err(error),
+        None => match usage_of(alloc, Some(words)) {
+            Ok(error) => Err(error),
+            Err(memory) => Err(Error::from(memory)),
         },
     }
 }
@@ -39,7 +40,8 @@ pub fn read_words<S: AsStr>(alloc: Global, words: &[S]) -> Result<Task<'_, S>, E
 /// How no words break the usage where standard input is a terminal, on which nobody means to write
 /// a script. The layer above asks whether it is one; of [`read_words`] no words are a task.
 pub fn refuse_terminal(alloc: Global) -> Error {
-    match terminal_usage(alloc) {
-        Ok(error) | Err(error) => error,
+    match usage_of::<&str>(alloc, None) {
+        Ok(error) => error,
+        Err(memory) => Error::from(memory),
     }
 }

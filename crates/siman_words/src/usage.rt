@@ -1,6 +1,6 @@
 //! The usage of the program and its help, as `clap` tells them.
 
-use crate::commands::{ROWS, Takes, ViewWord};
+use crate::commands::{Takes, ViewWord, rows};
 use crate::rows::{Often, Row, Word};
 use clap::error::ErrorKind;
 use clap::{Arg, ArgAction, Command, Error};
@@ -25,15 +25,14 @@ Examples:
   siman < exercise.script";
 
 /// An argument that stands where it is named.
-fn argument<'a>(alloc: Global, word: Word) -> Arg<'a> {
-    let argument = Arg::new(alloc, word.name).help(word.about);
+fn argument<'a>(alloc: Global, word: &'static Word) -> Arg<'a> {
+    let required = matches!(word.often, Often::Once | Often::OnceOrMore);
+    let argument = Arg::new(alloc, word.name)
+        .help(word.about)
+        .required(required);
     match word.often {
-        Often::Once => argument.required(true).action(ArgAction::Set),
-        Often::AtMostOnce => argument.action(ArgAction::Set),
-        Often::OnceOrMore => argument
-            .required(true)
-            .action(ArgAction::Append)
-            .num_args(1..),
+        Often::Once | Often::AtMostOnce => argument.action(ArgAction::Set),
+        Often::OnceOrMore => argument.action(ArgAction::Append).num_args(1..),
         Often::AnyTimes => argument.action(ArgAction::Append).num_args(0..),
     }
 }
@@ -46,10 +45,10 @@ fn json<'a>(alloc: Global) -> Arg<'a> {
         .help("As the last word: the lines are told in JSON, one object a line")
 }
 
-fn arguments<'a>(alloc: Global, row: Row) -> Result<Vec<Arg<'a>>, AllocError> {
+fn arguments<'a>(alloc: Global, row: &'static Row) -> Result<Vec<Arg<'a>>, AllocError> {
     let mut arguments = Vec::new(alloc);
     for word in row.words {
-        arguments.push(argument(alloc, *word))?;
+        arguments.push(argument(alloc, word))?;
     }
     if let Takes::View(_) | Takes::PerhapsTwo = row.takes {
         arguments.push(json(alloc))?;
@@ -57,38 +56,38 @@ fn arguments<'a>(alloc: Global, row: Row) -> Result<Vec<Arg<'a>>, AllocError> {
     Ok(arguments)
 }
 
+/// The usage of a command, where its words do not tell it as it is.
+fn usage_told(takes: Takes) -> Option<&'static str> {
+    match takes {
+        Takes::Pieces => Some("siman join <PIECE>... <NEW> [form=open|form=closed]"),
+        Takes::Station => {
+            Some("siman station <SETUP> <ADDRESS> <REC> <BIND> <PEER>... [from=any]")
+        }
+        Takes::View(ViewWord::Review) => Some("siman review <REC> [FILTER]... [--json]"),
+        Takes::View(ViewWord::Log) => Some("siman log <REC> [FILTER]... [--json]"),
+        Takes::PerhapsTwo => Some("siman why <REC> [CERT] [--json]"),
+        Takes::Picture => Some("siman chart <REC> <CERT> <SVG> [from=STEP] [to=STEP]"),
+        Takes::Nothing(_) | Takes::One(_) | Takes::Two(_) => None,
+    }
+}
+
 /// A command of the table, once its arguments are there: nothing half built is alive where memory
 /// may run out.
-fn command<'a>(alloc: Global, row: Row) -> Result<Command<'a>, AllocError> {
+fn command<'a>(alloc: Global, row: &'static Row) -> Result<Command<'a>, AllocError> {
     let arguments = arguments(alloc, row)?;
     let command = Command::new(alloc, row.name)
         .about(row.about)
         .after_help(row.example);
-    let command = match row.takes {
-        Takes::Pieces => command.override_usage(
-            "siman join <PIECE>... <NEW> [form=open|form=closed]",
-        ),
-        Takes::Station => command.override_usage(
-            "siman station <SETUP> <ADDRESS> <REC> <BIND> <PEER>... [from=any]",
-        ),
-        Takes::View(ViewWord::Review) => {
-            command.override_usage("siman review <REC> [FILTER]... [--json]")
-        }
-        Takes::View(ViewWord::Log) => {
-            command.override_usage("siman log <REC> [FILTER]... [--json]")
-        }
-        Takes::PerhapsTwo => command.override_usage("siman why <REC> [CERT] [--json]"),
-        Takes::Picture => command.override_usage(
-            "siman chart <REC> <CERT> <SVG> [from=STEP] [to=STEP]",
-        ),
-        Takes::Nothing(_) | Takes::One(_) | Takes::Two(_) => command,
+    let command = match usage_told(row.takes) {
+        Some(usage) => command.override_usage(usage),
+        None => command,
     };
     command.args(arguments)
 }
 
 fn commands<'a>(alloc: Global) -> Result<Vec<Command<'a>>, AllocError> {
     let mut commands = Vec::new(alloc);
-    for row in ROWS {
+    for row in rows() {
         commands.push(command(alloc, row)?)?;
     }
     Ok(commands)
@@ -98,7 +97,7 @@ fn commands<'a>(alloc: Global) -> Result<Vec<Command<'a>>, AllocError> {
 fn ending(alloc: Global) -> Result<String, AllocError> {
     let mut text = String::new(alloc);
     text.push_str(STATUSES)?;
-    for row in ROWS {
+    for row in rows() {
         if let Some(example) = row.example.strip_prefix("Example:") {
             text.push_str(example)?;
         }
@@ -134,19 +133,25 @@ fn complaint<S: AsStr>(words: &[S]) -> &'static str {
     }
 }
 
-/// How no words break the usage where standard input is a terminal.
-pub(crate) fn terminal_usage(alloc: Global) -> Result<Error, Error> {
-    let ending = ending(alloc)?;
-    let mut command = siman(alloc, &ending)?;
-    Ok(command.error(ErrorKind::MissingSubcommand, AT_TERMINAL)?)
+/// How words break the usage, or the help that they ask for; with no words, how it breaks the usage
+/// that standard input is a terminal.
+fn told<'a, S: AsStr>(
+    siman: &mut Command<'a>,
+    words: Option<&'a [S]>,
+) -> Result<Error, AllocError> {
+    let Some(words) = words else {
+        return siman.error(ErrorKind::MissingSubcommand, AT_TERMINAL);
+    };
+    match siman.try_get_matches_from_mut(words) {
+        Err(error) => Ok(error),
+        Ok(_) => siman.error(ErrorKind::UnknownArgument, complaint(words)),
+    }
 }
 
-/// The help that words ask for, or how they break the usage.
-pub(crate) fn usage_of<S: AsStr>(alloc: Global, words: &[S]) -> Result<Error, Error> {
+/// The help that words ask for, or how they break the usage; with no words, how it is broken where
+/// standard input is a terminal.
+pub(crate) fn usage_of<S: AsStr>(alloc: Global, words: Option<&[S]>) -> Result<Error, AllocError> {
     let ending = ending(alloc)?;
-    let mut command = siman(alloc, &ending)?;
-    match command.try_get_matches_from_mut(words) {
-        Err(error) => Ok(error),
-        Ok(_) => Ok(command.error(ErrorKind::UnknownArgument, complaint(words))?),
-    }
+    let mut siman = siman(alloc, &ending)?;
+    told(&mut siman, words)
 }

@@ -14,7 +14,7 @@ use siman_answers::Fault;
 use siman_lines::{LeftOut, Line, StationAtLine};
 use siman_reports::counted;
 use siman_scripts::Move;
-use siman_texts::{Field, Line as Said, Spelling, Value, put_line};
+use siman_texts::{Field, Value, named_line};
 use std::alloc::{AllocError, Global};
 use std::io::Write;
 
@@ -38,9 +38,7 @@ fn live_line(alloc: Global, entries: u32, left: LeftOut) -> Result<String, Alloc
         Field::Keyed("dropped", Value::Number(left.dropped)),
         Field::Keyed("strangers", Value::Number(left.strangers)),
     ];
-    let mut line = String::new(alloc);
-    put_line(&mut line, Spelling::Text, &Said::named("live", &fields))?;
-    Ok(line)
+    named_line(alloc, "live", &fields)
 }
 
 /// Tells the line of a recording, or why it has no end.

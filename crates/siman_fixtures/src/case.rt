@@ -23,7 +23,6 @@ fn empty(alloc: Global) -> Stream {
 }
 
 /// What the program is given, and what it must leave.
-#[derive(Drop)]
 pub struct Case {
     alloc: Global,
     pub name: String,
@@ -46,6 +45,31 @@ pub struct Case {
     pub half_told: bool,
     pub at_line: StationCase,
     part: Part,
+}
+
+// Not derived: who drops it makes one call, and does not take it apart by himself.
+impl Drop for Case {
+    fn drop(self) {
+        let Case {
+            alloc: _alloc,
+            name: _name,
+            words: _words,
+            unread: _unread,
+            files: _files,
+            input: _input,
+            out: _out,
+            errors: _errors,
+            left: _left,
+            is_left: _is_left,
+            is_discarded: _is_discarded,
+            keep: _keep,
+            asked: _asked,
+            status: _status,
+            half_told: _half_told,
+            at_line: _at_line,
+            part: _part,
+        } = self;
+    }
 }
 
 /// Puts a text and a line end, with a number in the place of each `%`.
@@ -169,6 +193,11 @@ impl Case {
         Ok(())
     }
 
+    fn keep_as(&mut self, name: &str) -> io::Result<()> {
+        self.keep = Some(String::from_str(self.alloc, name)?);
+        Ok(())
+    }
+
     /// Adds the file that was left, if it is to be kept.
     pub fn keep_left(&mut self, left: Option<Vec<u8>>) -> io::Result<()> {
         if let (Some(name), Some(bytes)) = (self.keep.take(), left) {
@@ -221,34 +250,51 @@ impl Case {
         Ok(())
     }
 
-    /// Takes what a line says; false where it can't stand here.
-    pub fn take(&mut self, line: &Line<'_>) -> io::Result<bool> {
+    /// Takes what a line says in one value.
+    fn set(&mut self, line: &Line<'_>) {
         match *line {
-            Line::Nothing => {}
-            Line::Case(name) => self.next(name)?,
-            Line::Words(words) => self.add_words(words)?,
             Line::Unread(kind) => self.unread = Some(kind),
-            Line::File(name) => self.add_file(name, None)?,
-            Line::Shut(name, kind) => self.add_file(name, Some(kind))?,
-            Line::Begin(part) => self.begin(part)?,
-            Line::Text(text) => return Ok(self.add(text.as_bytes())? && self.add(b"\n")?),
-            Line::Piece(text) => return self.add(text.as_bytes()),
-            Line::Times(times, text) => return self.add_times(times, text),
-            Line::Each(first, last, text) => return self.add_each(first, last, text),
-            Line::Hex(text) => return self.add_hex(text),
-            Line::Calls(calls) => return Ok(self.set_calls(calls)),
-            Line::Asked(name) => self.ask(name)?,
-            Line::Keep(name) => self.keep = Some(String::from_str(self.alloc, name)?),
             Line::Status(status) => self.status = status,
             Line::AskedNothing => self.asked = Some(String::new(self.alloc)),
             Line::HalfTold => self.half_told = true,
             Line::Station(station) => self.at_line.station = Some(station),
             Line::LineFails(number) => self.at_line.fails_at = Some(number),
-            Line::Call(call) => self.at_line.calls.push(call)?,
-            Line::Pause => self.at_line.pauses.push(self.at_line.coming.len())?,
             Line::EachCallFails(count) => self.at_line.each_call = count,
             Line::EachByteFails => self.at_line.each_byte = true,
+            _ => {}
         }
-        Ok(true)
+    }
+
+    /// Takes what a line adds to the case, or the next case.
+    fn enter(&mut self, line: &Line<'_>) -> io::Result<()> {
+        match *line {
+            Line::Case(name) => self.next(name),
+            Line::Words(words) => self.add_words(words),
+            Line::File(name) => self.add_file(name, None),
+            Line::Shut(name, kind) => self.add_file(name, Some(kind)),
+            Line::Begin(part) => self.begin(part),
+            Line::Asked(name) => self.ask(name),
+            Line::Keep(name) => self.keep_as(name),
+            Line::Call(call) => Ok(self.at_line.calls.push(call)?),
+            Line::Pause => Ok(self.at_line.pauses.push(self.at_line.coming.len())?),
+            _ => Ok(()),
+        }
+    }
+
+    /// Takes what a line says; false where it can't stand here.
+    pub fn take(&mut self, line: &Line<'_>) -> io::Result<bool> {
+        match *line {
+            Line::Text(text) => Ok(self.add(text.as_bytes())? && self.add(b"\n")?),
+            Line::Piece(text) => self.add(text.as_bytes()),
+            Line::Times(times, text) => self.add_times(times, text),
+            Line::Each(first, last, text) => self.add_each(first, last, text),
+            Line::Hex(text) => self.add_hex(text),
+            Line::Calls(calls) => Ok(self.set_calls(calls)),
+            _ => {
+                self.set(line);
+                self.enter(line)?;
+                Ok(true)
+            }
+        }
     }
 }

@@ -58,20 +58,20 @@ fn read_kind(name: &str) -> Option<Option<ErrorKind>> {
 }
 
 /// How many bytes a call takes, which fails, and how.
-fn read_calls(text: &str) -> Option<Calls> {
+fn read_calls(text: &str) -> Option<Line<'_>> {
     let (most, text) = text.split_once(' ')?;
     let (fails_at, kind) = text.split_once(' ')?;
-    Some(Calls {
+    Some(Line::Calls(Calls {
         most: most.parse::<usize>().ok()?,
         fails_at: fails_at.parse::<u64>().ok()?,
         kind: read_kind(kind)?,
-    })
+    }))
 }
 
-fn read_unread(name: &str) -> Option<ErrorKind> {
+fn read_unread(name: &str) -> Option<Line<'_>> {
     match name {
-        "utf8" => Some(ErrorKind::InvalidData),
-        "memory" => Some(ErrorKind::OutOfMemory),
+        "utf8" => Some(Line::Unread(ErrorKind::InvalidData)),
+        "memory" => Some(Line::Unread(ErrorKind::OutOfMemory)),
         _ => None,
     }
 }
@@ -88,52 +88,93 @@ fn read_each(text: &str) -> Option<Line<'_>> {
     Some(Line::Each(first, last, text))
 }
 
-/// The calls of a station at its line.
-fn read_call(word: &str, rest: &str) -> Option<Call> {
+fn read_serve(text: &str) -> Option<Line<'_>> {
+    let (now, turns) = text.split_once(' ')?;
+    let (now, turns) = (now.parse::<u64>().ok()?, turns.parse::<u32>().ok()?);
+    Some(Line::Call(Call::Serve(now, turns)))
+}
+
+/// What a line of a word and a number of at most 32 bits says.
+fn read_small<'a>(word: &str, number: u32) -> Option<Line<'a>> {
     Some(match word {
-        "serve" => {
-            let (now, turns) = rest.split_once(' ')?;
-            Call::Serve(now.parse::<u64>().ok()?, turns.parse::<u32>().ok()?)
-        }
-        "issue" => Call::Issue(rest.parse::<u64>().ok()?),
-        "nudge" => Call::Nudge(rest.parse::<u64>().ok()?),
-        "order" => Call::Order(rest.parse::<u32>().ok()?),
-        "entity" => Call::Entity(rest.parse::<u16>().ok()?),
-        "datum" => Call::Datum(rest.parse::<u32>().ok()?),
+        "status" => Line::Status(u8::try_from(number).ok()?),
+        "station" => Line::Station(u16::try_from(number).ok()?),
+        "entity" => Line::Call(Call::Entity(u16::try_from(number).ok()?)),
+        "order" => Line::Call(Call::Order(number)),
+        "datum" => Line::Call(Call::Datum(number)),
         _ => return None,
     })
 }
 
-/// What a line says of a station at its line.
-fn read_post<'a>(word: &str, rest: &str) -> Option<Line<'a>> {
+/// What a line of a word and a number says.
+fn read_number<'a>(word: &str, number: u64) -> Option<Line<'a>> {
     Some(match word {
-        "station" => Line::Station(rest.parse::<u16>().ok()?),
-        "line-fails" => Line::LineFails(rest.parse::<u64>().ok()?),
-        "each-call-fails" => Line::EachCallFails(rest.parse::<u64>().ok()?),
-        _ => Line::Call(read_call(word, rest)?),
+        "line-fails" => Line::LineFails(number),
+        "each-call-fails" => Line::EachCallFails(number),
+        "issue" => Line::Call(Call::Issue(number)),
+        "nudge" => Line::Call(Call::Nudge(number)),
+        _ => return read_small(word, u32::try_from(number).ok()?),
     })
 }
+
+/// What a line of a word and a text that has a form says.
+fn read_formed<'a>(word: &str, text: &'a str) -> Option<Line<'a>> {
+    match word {
+        "unread" => read_unread(text),
+        "times" => read_times(text),
+        "each" => read_each(text),
+        "calls" => read_calls(text),
+        "serve" => read_serve(text),
+        _ => read_number(word, text.parse::<u64>().ok()?),
+    }
+}
+
+/// The lines of one word.
+static BARE: [(&str, Line<'static>); 16] = [
+    ("", Line::Nothing),
+    ("word", Line::Begin(Part::Word)),
+    ("input", Line::Begin(Part::Input)),
+    ("out", Line::Begin(Part::Out)),
+    ("errors", Line::Begin(Part::Errors)),
+    ("left", Line::Begin(Part::Left)),
+    ("discarded", Line::Begin(Part::Discarded)),
+    ("comes", Line::Begin(Part::Coming)),
+    ("sent", Line::Begin(Part::Sent)),
+    ("text", Line::Text("")),
+    ("words", Line::Words("")),
+    ("asked-nothing", Line::AskedNothing),
+    ("half-told", Line::HalfTold),
+    ("pause", Line::Pause),
+    ("each-byte-fails", Line::EachByteFails),
+    ("given-up", Line::Call(Call::GivenUp)),
+];
 
 /// What a line of one word says.
-fn read_bare(word: &str) -> Option<Line<'_>> {
+fn read_bare(word: &str) -> Option<Line<'static>> {
+    for (bare, line) in &BARE {
+        if *bare == word {
+            return Some(*line);
+        }
+    }
+    None
+}
+
+/// What a line of a word and a text says.
+fn read_text<'a>(word: &str, text: &'a str) -> Option<Line<'a>> {
     Some(match word {
-        "" => Line::Nothing,
-        "word" => Line::Begin(Part::Word),
-        "input" => Line::Begin(Part::Input),
-        "out" => Line::Begin(Part::Out),
-        "errors" => Line::Begin(Part::Errors),
-        "left" => Line::Begin(Part::Left),
-        "discarded" => Line::Begin(Part::Discarded),
-        "comes" => Line::Begin(Part::Coming),
-        "sent" => Line::Begin(Part::Sent),
-        "text" => Line::Text(""),
-        "words" => Line::Words(""),
-        "asked-nothing" => Line::AskedNothing,
-        "half-told" => Line::HalfTold,
-        "pause" => Line::Pause,
-        "each-byte-fails" => Line::EachByteFails,
-        "given-up" => Line::Call(Call::GivenUp),
-        _ => return None,
+        "case" => Line::Case(text),
+        "words" => Line::Words(text),
+        "file" => Line::File(text),
+        "shut" => Line::Shut(text, ErrorKind::PermissionDenied),
+        "folder" => Line::Shut(text, ErrorKind::IsADirectory),
+        "odd" => Line::Shut(text, ErrorKind::NotADirectory),
+        "full" => Line::Shut(text, ErrorKind::OutOfMemory),
+        "text" => Line::Text(text),
+        "piece" => Line::Piece(text),
+        "hex" => Line::Hex(text),
+        "asked" => Line::Asked(text),
+        "keep" => Line::Keep(text),
+        _ => return read_formed(word, text),
     })
 }
 
@@ -142,27 +183,8 @@ pub fn read_line(line: &str) -> Option<Line<'_>> {
     if line.starts_with('#') {
         return Some(Line::Nothing);
     }
-    let Some((word, rest)) = line.split_once(' ') else {
-        return read_bare(line);
-    };
-    Some(match word {
-        "case" => Line::Case(rest),
-        "words" => Line::Words(rest),
-        "unread" => Line::Unread(read_unread(rest)?),
-        "file" => Line::File(rest),
-        "shut" => Line::Shut(rest, ErrorKind::PermissionDenied),
-        "folder" => Line::Shut(rest, ErrorKind::IsADirectory),
-        "odd" => Line::Shut(rest, ErrorKind::NotADirectory),
-        "full" => Line::Shut(rest, ErrorKind::OutOfMemory),
-        "text" => Line::Text(rest),
-        "piece" => Line::Piece(rest),
-        "times" => read_times(rest)?,
-        "each" => read_each(rest)?,
-        "hex" => Line::Hex(rest),
-        "calls" => Line::Calls(read_calls(rest)?),
-        "asked" => Line::Asked(rest),
-        "keep" => Line::Keep(rest),
-        "status" => Line::Status(rest.parse::<u8>().ok()?),
-        _ => read_post(word, rest)?,
-    })
+    match line.split_once(' ') {
+        Some((word, text)) => read_text(word, text),
+        None => read_bare(line),
+    }
 }

@@ -22,7 +22,6 @@ pub enum Call {
 }
 
 /// A station at a line over memory.
-#[derive(Drop)]
 pub struct StationCase {
     /// Its index in the script. `None`: the case is of the program.
     pub station: Option<u16>,
@@ -39,6 +38,22 @@ pub struct StationCase {
     pub each_call: u64,
     /// Whether each byte is to fail in turn that is written.
     pub each_byte: bool,
+}
+
+// Not derived: who drops it makes one call, and does not take it apart by himself.
+impl Drop for StationCase {
+    fn drop(self) {
+        let StationCase {
+            station: _station,
+            coming: _coming,
+            pauses: _pauses,
+            fails_at: _fails_at,
+            calls: _calls,
+            sent: _sent,
+            each_call: _each_call,
+            each_byte: _each_byte,
+        } = self;
+    }
 }
 
 /// No station stands at a line.

@@ -26,24 +26,34 @@ fn is_named(alloc: Global, name: &str, fields: &[Field<'_>], text: &str, json: &
     is_told(alloc, &Line::named(name, fields), text, json)
 }
 
-/// Whether the line of an entry is told, which begins with its number.
-fn is_entry_told(alloc: Global) -> bool {
+/// Whether the line of an entry is told so, which begins with its number.
+fn is_entry(alloc: Global, fields: &[Field<'_>], text: &str, json: &str) -> bool {
     let line = Line {
         name: "entry",
         opening: Some(Field::Bare("entry", Value::Number(0))),
-        fields: &ENTRY,
+        fields,
     };
-    is_told(alloc, &line, ENTRY_TEXT, ENTRY_JSON)
+    is_told(alloc, &line, text, json)
+}
+
+/// Whether each value and each shape of a field is told.
+fn are_fields_told(alloc: Global) -> bool {
+    is_named(alloc, "line", &VALUES, VALUES_TEXT, VALUES_JSON)
+        && is_named(alloc, "line", &SHAPES, SHAPES_TEXT, SHAPES_JSON)
+}
+
+/// Whether a stretch of a life, a datum and an entry are told.
+fn are_records_told(alloc: Global) -> bool {
+    is_named(alloc, "state", &LIFE, LIFE_TEXT, LIFE_JSON)
+        && is_named(alloc, "variable", &DATUM, DATUM_TEXT, DATUM_JSON)
+        && is_entry(alloc, &ENTRY, ENTRY_TEXT, ENTRY_JSON)
 }
 
 #[test]
 fn lines_have_two_spellings(rt: HostRuntime) {
     let alloc = rt.alloc();
-    assert!(rt; is_named(alloc, "line", &VALUES, VALUES_TEXT, VALUES_JSON));
-    assert!(rt; is_named(alloc, "line", &SHAPES, SHAPES_TEXT, SHAPES_JSON));
-    assert!(rt; is_named(alloc, "state", &LIFE, LIFE_TEXT, LIFE_JSON));
-    assert!(rt; is_named(alloc, "variable", &DATUM, DATUM_TEXT, DATUM_JSON));
-    assert!(rt; is_entry_told(alloc));
+    assert!(rt; are_fields_told(alloc));
+    assert!(rt; are_records_told(alloc));
 }
 
 /// Whether a ring of stations is told.

@@ -3,7 +3,7 @@
 use dis_records::Address;
 use siman_fixtures::{Calls, WELL, read_from, write_to};
 use siman_scripts::read_script;
-use siman_sessions::{LONGEST_LINE, SetUpFault, record_session, set_up, stand};
+use siman_sessions::{LONGEST_LINE, Ready, SetUp, SetUpFault, record_session, set_up, stand};
 use siman_trials::{WireLine, lines_of};
 use std::alloc::Global;
 use std::io::ErrorKind;
@@ -56,22 +56,22 @@ impl Came {
     }
 }
 
-/// Plays a station of the script by a text over a line.
-fn played(
-    alloc: Global,
-    place: (u16, u16),
-    line: WireLine,
-    text: &[u8],
-    going: Going,
-) -> Option<Came> {
-    let address = Address::new(place.0, place.1)?;
+/// A station of the script as it is set up.
+fn begun(alloc: Global, address: Address) -> Option<SetUp> {
     let script = read_script(alloc, SCRIPT).ok()?;
-    let begun = set_up(alloc, script, address).ok()?;
-    let ready = stand(alloc, begun, address, line).ok()?;
-    let mut buffer = vec![in alloc; 0u8; LONGEST_LINE + 1].ok()?;
-    if buffer.len() != LONGEST_LINE + 1 {
-        return None;
-    }
+    set_up(alloc, script, address).ok()
+}
+
+/// A station of the script that stands at a line.
+fn standing(alloc: Global, place: (u16, u16), line: WireLine) -> Option<Ready<WireLine>> {
+    let address = Address::new(place.0, place.1)?;
+    let begun = begun(alloc, address)?;
+    stand(alloc, begun, address, line).ok()
+}
+
+/// What comes of a text by which a station is played.
+fn came_of(alloc: Global, ready: Ready<WireLine>, text: &[u8], going: Going) -> Came {
+    let mut buffer = [0; LONGEST_LINE + 1];
     let mut reader = read_from(text, going.reads);
     let mut out = write_to(alloc, going.prints);
     let mut errors = write_to(alloc, WELL);
@@ -84,12 +84,24 @@ fn played(
         &mut out,
         &mut errors,
     );
-    Some(Came {
+    Came {
         out: out.bytes,
         errors: errors.bytes,
         status: recorded.told.status,
         file: recorded.file.bytes,
-    })
+    }
+}
+
+/// Plays a station of the script by a text over a line.
+fn played(
+    alloc: Global,
+    place: (u16, u16),
+    line: WireLine,
+    text: &[u8],
+    going: Going,
+) -> Option<Came> {
+    let ready = standing(alloc, place, line)?;
+    Some(came_of(alloc, ready, text, going))
 }
 
 /// Plays station 1:1 by a text over a line of which this call fails.

@@ -58,10 +58,6 @@ pub(crate) fn account<L: ExerciseLog>(
     ensures { IfOk result (λ checked. TellsAccount (L.recording log.now) checked) }
 {
     let told = states_and_changes(alloc, log, &found)?;
-    let Passed {
-        earlier,
-        others,
-        ..
-    } = found;
+    let (earlier, others) = found.into_earlier();
     Ok(Account::of(told.0, earlier, told.1, others))
 }

@@ -11,7 +11,8 @@ ghost use Rattle.exercise_findings.specs.Firsts.{AreFirsts};
 ghost use Rattle.exercise_findings.specs.Behind.{key_behind, behind_at, AreBehind};
 
 use crate::column::replace;
-use crate::firsts::{Firsts, first_under};
+use crate::firsts::{Firsts, first_near};
+use crate::hint::Hint;
 use crate::key::{Key, acknowledged_key};
 use crate::number::{NO_ENTRY, entry_number};
 use exercise_model::{ExerciseLog, key_of, responds};
@@ -75,8 +76,9 @@ pub(crate) fn changes_behind<L: ExerciseLog>(
     ensures { let r = L.recording log.now in IfOk result (λ changes. IsColumn 0 (IsNumberOf (change_behind r)) (length r.entries) changes.items) }
 {
     let mut changes = vec![in alloc; NO_ENTRY; log.entry_count()]?;
+    let mut hint = Hint::new();
     for able in ables {
-        let change = entry_number(first_under(firsts, &able.key));
+        let change = entry_number(first_near(firsts, &able.key, &mut hint));
         replace(&mut changes, able.entry as usize, change);
     }
     Ok(changes)

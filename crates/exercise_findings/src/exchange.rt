@@ -9,7 +9,8 @@ ghost use Rattle.exercise_model.specs.Place.{log_before, own_event, entry_taken_
 ghost use Rattle.exercise_findings.specs.TakenUp.{request_of_sent};
 ghost use Rattle.exercise_findings.specs.Firsts.{TellFirsts};
 
-use crate::firsts::{Firsts, first_before};
+use crate::firsts::{Firsts, first_near_before};
+use crate::hint::Hint;
 use crate::key::answered_key;
 use dis_records::Address;
 use exercise_model::{EntryView, ExerciseLog, is_answer, is_asked, meaning_view};
@@ -40,11 +41,13 @@ fn request_brought<'a, L: ExerciseLog>(
     }
 }
 
-/// The entry of the request that an answer takes up: the first under the answer's key.
+/// The entry of the request that an answer takes up: the first under the answer's key, looked for where
+/// the hint leads first, since requests are mostly answered in turn.
 #[tactic(auto, using(crate::proofs::Keyed::key_steps))]
 fn entry_taken_up<L: ExerciseLog>(
     log: &L,
     firsts: &Firsts,
+    hint: &mut Hint,
     station: u16,
     before: usize,
     answer: &PduView<'_>,
@@ -55,7 +58,7 @@ fn entry_taken_up<L: ExerciseLog>(
     ensures earlier { IfSome result (λ e. e < before) }
 {
     match answered_key(station, answer) {
-        Some(key) => first_before(firsts, &key, before),
+        Some(key) => first_near_before(firsts, &key, hint, before),
         None => None,
     }
 }
@@ -64,6 +67,7 @@ fn entry_taken_up<L: ExerciseLog>(
 fn request_taken_up<'a, L: ExerciseLog>(
     log: &'a L,
     firsts: &Firsts,
+    hint: &mut Hint,
     station: u16,
     before: usize,
     answer: &PduView<'_>,
@@ -75,7 +79,7 @@ fn request_taken_up<'a, L: ExerciseLog>(
     ensures entry { let r = L.recording log.now in option_map (λ t. t.0) result ≡ entry_taken_up r station (pdu_of answer.now) before }
     ensures earlier { IfSome result (λ t. t.0 < before) }
 {
-    let Some(entry) = entry_taken_up(log, firsts, station, before, answer) else {
+    let Some(entry) = entry_taken_up(log, firsts, hint, station, before, answer) else {
         return None;
     };
     let address = log.station(usize::from(station)).address();
@@ -90,6 +94,7 @@ fn request_taken_up<'a, L: ExerciseLog>(
 pub(crate) fn taken_up<'a, L: ExerciseLog>(
     log: &'a L,
     firsts: &Firsts,
+    hint: &mut Hint,
     station: u16,
     before: usize,
     pdu: &PduView<'_>,
@@ -101,7 +106,7 @@ pub(crate) fn taken_up<'a, L: ExerciseLog>(
     ensures entry { option_map (λ t. t.0) result ≡ pair_of_sent (L.recording log.now) station before (pdu_of pdu.now) }
 {
     if is_answer(pdu) {
-        request_taken_up(log, firsts, station, before, pdu)
+        request_taken_up(log, firsts, hint, station, before, pdu)
     } else {
         None
     }

@@ -1,10 +1,11 @@
 //! The first entry under each key, kept in a table.
 
-ghost use Rattle.std.specs.Prelude.{◌≡◌, ◌<◌, ◌+◌, length, OnOk, None};
+ghost use Rattle.std.specs.Prelude.{◌≡◌, ◌<◌, ◌+◌, length, OnOk, IfSome, None, Some};
 ghost use Rattle.indexmap.specs.IndexMap.{get};
 ghost use Rattle.exercise_findings.specs.declared.key.Key.{Key};
 ghost use Rattle.exercise_findings.specs.Firsts.{same_key, key_at, before_entry, AreFirsts};
 
+use crate::hint::Hint;
 use crate::key::Key;
 use crate::table::{Table, keep_first};
 use exercise_model::ExerciseLog;
@@ -53,12 +54,46 @@ pub(crate) fn first_before(firsts: &Firsts, key: &Key, before: usize) -> Option<
     }
 }
 
-/// The first entry under a key.
-pub(crate) fn first_under(firsts: &Firsts, key: &Key) -> Option<u32>
+/// The first entry under a key, if that stands at a place of the table.
+fn first_at(firsts: &Firsts, place: usize, key: &Key) -> Option<u32>
+    ensures { IfSome result (λ e. get same_key firsts.now key.now ≡ Some e) }
+{
+    match firsts.get_index(place) {
+        Some((kept, entry)) if *kept == *key => Some(*entry),
+        _ => None,
+    }
+}
+
+/// The first entry under a key, looked for where a hint leads first: keys are mostly looked for in the
+/// order in which they came.
+pub(crate) fn first_near(firsts: &Firsts, key: &Key, hint: &mut Hint) -> Option<u32>
     ensures { result ≡ get same_key firsts.now key.now }
 {
-    match firsts.get(key) {
-        Some(entry) => Some(*entry),
+    let place = hint.next();
+    if let Some(entry) = first_at(firsts, place, key) {
+        hint.found(place);
+        return Some(entry);
+    }
+    match firsts.get_full(key) {
+        Some((place, _, entry)) => {
+            hint.found(place);
+            Some(*entry)
+        }
         None => None,
+    }
+}
+
+/// The first entry under a key, looked for where a hint leads first, where it comes before an entry.
+pub(crate) fn first_near_before(
+    firsts: &Firsts,
+    key: &Key,
+    hint: &mut Hint,
+    before: usize,
+) -> Option<u32>
+    ensures { result ≡ before_entry before (get same_key firsts.now key.now) }
+{
+    match first_near(firsts, key, hint) {
+        Some(entry) if (entry as usize) < before => Some(entry),
+        _ => None,
     }
 }

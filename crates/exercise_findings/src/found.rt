@@ -20,6 +20,7 @@ use crate::behind::key_behind;
 use crate::cause::{judge_sent, judge_unsent};
 use crate::change::is_change;
 use crate::exchange::taken_up;
+use crate::hint::Hint;
 use crate::key::{Key, received_key, sent_key};
 use crate::requests::{Requests, note_request};
 use crate::sender::{Places, sender_of};
@@ -88,6 +89,7 @@ fn pair_of(taken: &Option<(u32, PduView<'_>)>) -> Option<u32>
 fn found_sent<L: ExerciseLog>(
     log: &L,
     tables: &Tables,
+    hint: &mut Hint,
     station: u16,
     entry: usize,
     pdu: &PduView<'_>,
@@ -107,7 +109,7 @@ fn found_sent<L: ExerciseLog>(
 {
     let address = log.station(usize::from(station)).address();
     let from = is_from(address, pdu);
-    let taken = taken_up(log, &tables.firsts, station, entry, pdu);
+    let taken = taken_up(log, &tables.firsts, hint, station, entry, pdu);
     let first = is_change(log, &tables.firsts, station, entry, pdu);
     Found {
         cause: judge_sent(
@@ -152,6 +154,7 @@ pub(crate) fn find_sent<L: ExerciseLog>(
     log: &L,
     tables: &Tables,
     requests: &mut Requests,
+    hint: &mut Hint,
     entry: usize,
     station: u16,
     bytes: &[u8],
@@ -169,7 +172,7 @@ pub(crate) fn find_sent<L: ExerciseLog>(
     match meaning_view(log.exercise(), bytes) {
         Some(pdu) => {
             let reused = note_request(requests, log, station, entry, &pdu)?;
-            Ok(found_sent(log, tables, station, entry, &pdu, reused))
+            Ok(found_sent(log, tables, hint, station, entry, &pdu, reused))
         }
         None => Ok(found_other()),
     }

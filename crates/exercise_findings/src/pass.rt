@@ -11,6 +11,7 @@ use crate::behind::{Able, note_behind};
 use crate::cause::judge_told;
 use crate::earlier::{Looks, all_earlier, earlier_so_far, settle_source};
 use crate::found::{find_received, find_sent};
+use crate::hint::Hint;
 use crate::number::{NO_ENTRY, entry_number};
 use crate::requests::{Requests, no_requests};
 use crate::sender::{Places, places_of};
@@ -30,6 +31,8 @@ pub(crate) struct Pass {
     pub places: Places,
     /// What is kept of the entries.
     pub tables: Tables,
+    /// Where the request that the next answer takes up is looked for first.
+    pub answers: Hint,
     /// The first cause that its station's log has against each entry.
     pub causes: Vec<Option<Cause>>,
     /// What each entry changes at its station.
@@ -48,7 +51,6 @@ pub(crate) struct Pass {
 }
 
 /// What all entries were found to be.
-#[derive(Drop)]
 pub(crate) struct Passed {
     /// What is kept of the entries.
     pub tables: Tables,
@@ -70,6 +72,43 @@ pub(crate) struct Passed {
     pub others: u32,
 }
 
+// Not derived: who drops it makes one call, and does not take it apart by himself.
+impl Drop for Passed {
+    fn drop(self) {
+        let Passed {
+            tables: _tables,
+            causes: _causes,
+            changes: _changes,
+            earlier: _earlier,
+            senders: _senders,
+            hints: _hints,
+            ables: _ables,
+            others: _others,
+        } = self;
+    }
+}
+
+impl Passed {
+    /// The number of what each entry goes back to, and how many datagrams are "other". All else is given
+    /// back.
+    pub(crate) fn into_earlier(self) -> (Vec<u32>, u32)
+        ensures earlier { result.0 ≡ self.earlier }
+        ensures others { result.1 ≡ self.others }
+    {
+        let Passed {
+            tables: _tables,
+            causes: _causes,
+            changes: _changes,
+            earlier,
+            senders: _senders,
+            hints: _hints,
+            ables: _ables,
+            others,
+        } = self;
+        (earlier, others)
+    }
+}
+
 /// What was found before the first entry, with room in the columns for all.
 fn nothing_found<L: ExerciseLog>(alloc: Global, log: &L) -> Result<Pass, AllocError>
     ensures { IfOk result (λ found. IsPass (L.recording log.now) 0 found) }
@@ -80,9 +119,11 @@ fn nothing_found<L: ExerciseLog>(alloc: Global, log: &L) -> Result<Pass, AllocEr
     let earlier = Vec::with_capacity(alloc, entries)?;
     let tables = no_tables(alloc, log)?;
     let places = places_of(alloc, log)?;
+    let answers = Hint::new();
     Ok(Pass {
         places,
         tables,
+        answers,
         causes,
         changes,
         earlier,
@@ -123,7 +164,12 @@ fn keep_sent<L: ExerciseLog>(
     ensures found { OnOk result (IsPass (L.recording log.now) (entry + 1) found.new) }
     ensures requests { OnOk result (AreRequests (L.recording log.now) (entry + 1) requests.new) }
 {
-    let here = find_sent(log, &found.tables, requests, entry, station, bytes)?;
+    let Pass {
+        tables,
+        answers,
+        ..
+    } = found;
+    let here = find_sent(log, tables, requests, answers, entry, station, bytes)?;
     found.causes.push(here.cause)?;
     found.changes.push(here.change)?;
     found.earlier.push(entry_number(here.pair))?;

@@ -12,12 +12,21 @@ use exercise_model::{Change, ExerciseLog};
 use std::alloc::{AllocError, Global};
 
 /// What is kept of the entries so far.
-#[derive(Drop)]
 pub(crate) struct Tables {
     /// The first entry under each key.
     pub firsts: Firsts,
     /// The states of the entities of each station.
     pub states: Vec<States>,
+}
+
+// Not derived: who drops it makes one call, and does not take its table apart by himself.
+impl Drop for Tables {
+    fn drop(self) {
+        let Tables {
+            firsts: _firsts,
+            states: _states,
+        } = self;
+    }
 }
 
 /// What is kept before the first entry.

@@ -22,7 +22,7 @@ loop-able-preserved g c =
     (sym (take_more xs i no_able c.loop-able-test.true))
     (among_more r (length r.entries) (take i xs) x c.entry_number-change.result c.loop-able.changes.items c.replace.new.column.items
     c.entry_count.ensures.limits.count
-    (c.entry_number-change.ensures ∙ ap entry_number (c.first_under.ensures ∙ c.requires.firsts x.key))
+    (c.entry_number-change.ensures ∙ ap entry_number (c.first_near.ensures ∙ c.requires.firsts x.key))
     c.replace.ensures.count c.replace.ensures.each c.loop-able.invariant)
 
 pub returns : goal.returns

@@ -6,5 +6,5 @@ use Rattle.exercise_findings.proofs.exchange.entry_taken_up.Goals as goal
 pub returns-in-Some-clause-earlier : goal.returns-in-Some-clause-earlier
 returns-in-Some-clause-earlier g c =
     let r = g.L.ExerciseLog.recording c.args.log.now in
-    subst (λ o. IfSome o (λ e. e < c.args.before)) (sym (c.first_before.ensures ∙ c.requires.tied c.in-Some.key))
+    subst (λ o. IfSome o (λ e. e < c.args.before)) (sym (c.first_near_before.ensures ∙ c.requires.tied c.in-Some.key))
     (under_earlier r c.in-Some.key c.args.before)

@@ -21,7 +21,6 @@ use std::alloc::Global;
 pub const MOST_ROWS: usize = 2000;
 
 /// The marks of a picture, which are all that is drawn.
-#[derive(Drop)]
 pub struct Marks {
     /// One for each step that is shown, in their order.
     pub rows: Vec<Row>,
@@ -35,6 +34,20 @@ pub struct Marks {
     pub bars: Vec<Bar>,
     /// The first copies of orders that were never answered there, by the heads of the orders.
     pub unanswered: Vec<Point>,
+}
+
+// Not derived: who drops it makes one call, and does not take it apart by himself.
+impl Drop for Marks {
+    fn drop(self) {
+        let Marks {
+            rows: _rows,
+            arrows: _arrows,
+            outside: _outside,
+            losses: _losses,
+            bars: _bars,
+            unanswered: _unanswered,
+        } = self;
+    }
 }
 
 /// The marks of a scene.

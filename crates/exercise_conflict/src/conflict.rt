@@ -15,7 +15,6 @@ use std::alloc::{AllocError, Global};
 
 /// What a recording contradicts that no run explains. Stations are named by their indices in the
 /// recording, entries by their numbers, both from 0.
-#[derive(Drop)]
 pub struct Conflict {
     /// What stands in the way of each station that can't go on.
     pub blocks: Vec<Block>,
@@ -29,6 +28,20 @@ pub struct Conflict {
     pub lacks: Vec<Lack>,
     /// Whether these are enough.
     pub repair: Repair,
+}
+
+// Not derived: who drops it makes one call, and does not take it apart by himself.
+impl Drop for Conflict {
+    fn drop(self) {
+        let Conflict {
+            blocks: _blocks,
+            ways: _ways,
+            cycles: _cycles,
+            also: _also,
+            lacks: _lacks,
+            repair: _repair,
+        } = self;
+    }
 }
 
 /// What is told of a recording alone.

@@ -1,6 +1,9 @@
 //! What is told of a whole recording.
 
+ghost use Rattle.std.specs.Prelude.{◌≡◌, length, Ok, Err, IfOk, IfErr};
+ghost use Rattle.exercise_model.specs.Account.{values_below};
 ghost use Rattle.exercise_review.specs.Review.{Lists, Reviews};
+ghost use Rattle.exercise_review.specs.Tally.{IsTold, fates_of, station_counts};
 
 use crate::fault::ReviewFault;
 use crate::register::Register;
@@ -9,7 +12,7 @@ use crate::tally::{FateCounts, StationCounts, fates_of, stations_counted};
 use crate::told::{OrderAt, Told, told_within};
 use exercise_findings::Findings;
 use exercise_model::ExerciseLog;
-use std::alloc::Global;
+use std::alloc::{AllocError, Global};
 
 /// How many lines a review has at most.
 pub const MOST_LINES: usize = 4_194_304;
@@ -47,6 +50,37 @@ fn lists<L: ExerciseLog>(
     Ok((told, spans))
 }
 
+/// The same, of a recording of which this was found, which is given back: what a register keeps besides
+/// is needed no longer.
+fn listed<'a, L: ExerciseLog>(
+    alloc: Global,
+    findings: Findings<'a, L>,
+) -> Result<(Told, Vec<Span>, Findings<'a, L>), ReviewFault>
+    ensures refused { IfErr result (λ fault. Lists findings.entry (Err fault)) }
+    ensures lists { IfOk result (λ listed. Lists findings.entry (Ok (listed.0, listed.1))) }
+    ensures findings { IfOk result (λ listed. listed.2 ≡ findings.entry) }
+{
+    let register = Register::of(alloc, findings)?;
+    let (told, spans) = lists(alloc, &register)?;
+    Ok((told, spans, register.into_findings()))
+}
+
+/// What is counted of each station, and how many orders at their parties have each fate.
+fn counted<L: ExerciseLog>(
+    alloc: Global,
+    findings: &Findings<'_, L>,
+    told: &Told,
+) -> Result<(Vec<StationCounts>, FateCounts), AllocError>
+    requires { IsTold findings.now (length findings.now.entries) told.now }
+    ensures stations { IfOk result (λ counts. counts.0.items ≡ values_below (station_counts findings.now) (length findings.now.setting.stations)) }
+    ensures fates { IfOk result (λ counts. counts.1 ≡ fates_of told.now.orders.items) }
+{
+    let fates = fates_of(alloc, &told.orders)?;
+    let states = findings.states(alloc)?;
+    let stations = stations_counted(alloc, findings.log(), &states, told)?;
+    Ok((stations, fates))
+}
+
 /// What is told of a recording of which this was found. `OverLimit` says that it would take more
 /// than 4,194,304 lines.
 pub fn review_of<L: ExerciseLog>(
@@ -55,13 +89,8 @@ pub fn review_of<L: ExerciseLog>(
 ) -> Result<Review, ReviewFault>
     ensures { Reviews findings.entry result }
 {
-    let log = findings.log();
-    let register = Register::of(alloc, findings)?;
-    let (told, spans) = lists(alloc, &register)?;
-    let findings = register.into_findings();
-    let states = findings.states(alloc)?;
-    let stations = stations_counted(alloc, log, &states, &told)?;
-    let fates = fates_of(alloc, &told.orders)?;
+    let (told, spans, findings) = listed(alloc, findings)?;
+    let (stations, fates) = counted(alloc, &findings, &told)?;
     let Told { makers, orders, .. } = told;
     Ok(Review {
         orders: makers.len(),

@@ -17,10 +17,19 @@ use std::hash::{BuildHasherDefault, DefaultHasher};
 pub(crate) type LastEntries = IndexMap<u64, usize, BuildHasherDefault<DefaultHasher>>;
 
 /// The last entry under each key, and for each entry the one before it under its key.
-#[derive(Drop)]
 pub(crate) struct Ways {
     pub last: LastEntries,
     pub before: Vec<Option<usize>>,
+}
+
+// Not derived: who drops it makes one call, and does not take its table apart by himself.
+impl Drop for Ways {
+    fn drop(self) {
+        let Ways {
+            last: _last,
+            before: _before,
+        } = self;
+    }
 }
 
 /// The keys of entries. What it means is one function; no call takes memory.

@@ -32,13 +32,25 @@ use std::marker::Model;
 ///
 /// Only [`begin`](Application::begin) and a [`take`](Application::take) that answers anew take
 /// memory.
-#[derive(Drop)]
 pub struct Application {
     alloc: Global,
     outfit: Outfit,
     entities: Entities,
     held: Held,
     kept: KeptTable,
+}
+
+// Not derived: who drops it makes one call, and does not take its tables apart by himself.
+impl Drop for Application {
+    fn drop(self) {
+        let Application {
+            alloc: _alloc,
+            outfit: _outfit,
+            entities: _entities,
+            held: _held,
+            kept: _kept,
+        } = self;
+    }
 }
 
 impl Model for Application {

@@ -28,12 +28,22 @@ use std::marker::Model;
 /// [`status`](Manager::status) look one order up by its identifier. [`tick`](Manager::tick) looks
 /// at orders in blocks of 64, and passes a block in one step until one of its orders is due.
 /// [`given_up`](Manager::given_up) goes through all orders.
-#[derive(Drop)]
 pub struct Manager {
     settings: Settings,
     orders: OrderTable,
     /// Of each block of orders, a time before which none of them is due.
     times: Vec<u64>,
+}
+
+// Not derived: who drops it makes one call, and does not take its tables apart by himself.
+impl Drop for Manager {
+    fn drop(self) {
+        let Manager {
+            settings: _settings,
+            orders: _orders,
+            times: _times,
+        } = self;
+    }
 }
 
 impl Model for Manager {

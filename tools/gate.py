@@ -1,5 +1,5 @@
 #!/usr/bin/env python3
-"""Runs the gate, `rt ci`, and tells where its time goes: by crate, and by kind.
+"""Runs the gate, `tools/gate`, and tells where its time goes: by crate, and by kind.
 
     python3 tools/gate.py [FOLDER]        FOLDER: the repository; this one, if left out
 
@@ -114,7 +114,7 @@ def main(folder="."):
     seen, ended, began = {}, threading.Event(), time.monotonic()
     watcher = threading.Thread(target=watch, args=(seen, ended))
     watcher.start()
-    status = subprocess.run(["rt", "ci"], cwd=folder, stdin=subprocess.DEVNULL).returncode
+    status = subprocess.run([os.path.join(folder, "tools", "gate")], stdin=subprocess.DEVNULL).returncode
     ended.set()
     watcher.join()
     clock, used = time.monotonic() - began, resource.getrusage(resource.RUSAGE_CHILDREN)

@@ -26,6 +26,7 @@ from array import array
 
 NO_LINK = 0xFFFFFFFF
 MOST_ENTRIES = 1_048_576
+MOST_LARGE = 33_000  # entries of 'large' that a file holds
 MULTIPLIER = 0x9E3779B97F4A7C15
 CREATE, REMOVE, START, STOP, ACKNOWLEDGE, DATA_QUERY, SET_DATA, DATA, COMMENT = 11, 12, 13, 14, 15, 18, 19, 20, 22
 ALL = 0xFFFF
@@ -143,7 +144,7 @@ def told(count):
 def large(count):
     run = Run(2)
     value = bytes(8_000 - 40)
-    for number in range(count // 2):
+    for number in range(min(count, MOST_LARGE) // 2):
         body = struct.pack(">IIII", 0, 1, number, 8 * len(value)) + value
         datagram = pdu(COMMENT, (*address(0), 0), (*address(1), 0), body)
         run.receive(1, datagram, run.send(0, datagram))

@@ -6,6 +6,9 @@ use Rattle.exercise_chart.specs.Scene.{SceneData}
 use Rattle.exercise_chart.proofs.Lists.{list_added, list_kept}
 use Rattle.exercise_chart.proofs.arrow.arrows_of.Goals.{in-Some+in_ok-push, in_default}
 use Rattle.exercise_chart.proofs.arrow.arrows_of.Goals as goal
+use Rattle.exercise_chart.proofs.Lists.{list_steps}
+use Rattle.exercise_chart.specs.Arrow.{arrows_of}
+use Rattle.std.proofs.Common.{arith}
 
 pub loop-entry-preserved : goal.loop-entry-preserved
 loop-entry-preserved g c =
@@ -19,3 +22,7 @@ loop-entry-preserved g c =
           list_kept (arrows_to d) k [] c.loop-entry.arrows.items c.match-arrow_to.arrows.items
           (ap option_to_list (sym c.arrow_to.ensures ∙ w.in_default.is)) c.loop-entry.invariant (ap (λ v. v.items) w.arrows-is)
     ]
+
+pub loop-entry-init : goal.loop-entry-init
+unfolding arrows_of
+loop-entry-init g c = grind (arith, list_steps)

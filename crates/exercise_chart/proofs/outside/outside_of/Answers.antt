@@ -7,6 +7,9 @@ use Rattle.exercise_chart.specs.Scene.{SceneData}
 use Rattle.exercise_chart.proofs.Lists.{list_added, list_kept}
 use Rattle.exercise_chart.proofs.outside.outside_of.Goals.{in-Some+in_ok-push, in_default}
 use Rattle.exercise_chart.proofs.outside.outside_of.Goals as goal
+use Rattle.exercise_chart.proofs.Lists.{list_steps}
+use Rattle.exercise_chart.specs.Outside.{outside_of}
+use Rattle.std.proofs.Common.{arith}
 
 pub loop-number-preserved : goal.loop-number-preserved
 loop-number-preserved g c =
@@ -21,3 +24,7 @@ loop-number-preserved g c =
           list_kept (outside_shown d) k [] c.loop-number.found.items c.match-outside_at.found.items
           (ap option_to_list (sym here ∙ w.in_default.is)) c.loop-number.invariant (ap (λ v. v.items) w.found-is)
     ]
+
+pub loop-number-init : goal.loop-number-init
+unfolding outside_of
+loop-number-init g c = grind (arith, list_steps)

@@ -7,6 +7,9 @@ use Rattle.exercise_chart.specs.Scene.{SceneData}
 use Rattle.exercise_chart.proofs.Lists.{list_added, list_kept}
 use Rattle.exercise_chart.proofs.row.rows_of.Goals.{in-Some+in_ok-push, in_default}
 use Rattle.exercise_chart.proofs.row.rows_of.Goals as goal
+use Rattle.exercise_chart.proofs.Lists.{list_steps}
+use Rattle.exercise_chart.specs.Row.{rows_of}
+use Rattle.std.proofs.Common.{arith}
 
 pub loop-number-preserved : goal.loop-number-preserved
 loop-number-preserved g c =
@@ -21,3 +24,7 @@ loop-number-preserved g c =
           list_kept (row_shown d) k [] c.loop-number.rows.items c.match-row_at.rows.items
           (ap option_to_list (sym here ∙ w.in_default.is)) c.loop-number.invariant (ap (λ v. v.items) w.rows-is)
     ]
+
+pub loop-number-init : goal.loop-number-init
+unfolding rows_of
+loop-number-init g c = grind (arith, list_steps)

@@ -6,6 +6,8 @@ use Rattle.exercise_model.specs.History.{station_at}
 use Rattle.exercise_model.specs.Setting.{is_from}
 use Rattle.exercise_conflict.proofs.Asking.{sender_here}
 use Rattle.exercise_conflict.proofs.near.sender_of.Goals as goal
+use Rattle.exercise_conflict.proofs.Steps.{question_steps}
+use Rattle.exercise_model.specs.Account.{sender_of}
 
 pub returns-then-is_from : goal.returns-then-is_from
 returns-then-is_from g c =
@@ -22,3 +24,11 @@ returns-then-is_from g c =
       c.loop-station.auto.station-end,
       ap (λ (x : PlainRecording). length x.setting.stations) c.log.ensures,
     )))
+
+pub loop-station-init : goal.loop-station-init
+unfolding sender_of
+loop-station-init g c = grind (arith, question_steps)
+
+pub loop-station-preserved : goal.loop-station-preserved
+unfolding sender_of
+loop-station-preserved g c = grind (arith, question_steps)

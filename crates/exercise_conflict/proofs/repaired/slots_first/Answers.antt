@@ -5,3 +5,6 @@ use Rattle.exercise_conflict.proofs.repaired.slots_first.Goals as goal
 
 pub loop-lack-preserved : goal.loop-lack-preserved
 loop-lack-preserved c = grind (arith, common_steps, made_more)
+
+pub returns : goal.returns
+returns c = grind (arith, common_steps)

@@ -4,6 +4,7 @@ use Rattle.std.proofs.lemmas.List.{get_or-replicate, length-replicate}
 use Rattle.exercise_check.specs.Goodness.{no_step}
 use Rattle.exercise_conflict.proofs.Counted.{one_taken, room}
 use Rattle.exercise_conflict.proofs.taking.times_taken.Goals as goal
+use Rattle.std.proofs.lemmas.Grind.{common_steps}
 
 pub loop-step-init : goal.loop-step-init
 loop-step-init c =
@@ -27,3 +28,6 @@ loop-step-preserved c =
           ∙ ap {B = ℕ} (λ n. n + cond (nat_eq (get_or c.args.steps.now c.loop-step.step-index no_step).place i) 1 0) (c.loop-step.invariant.each i below)
           ∙ sym (one_taken c.args.steps.now c.loop-step.step-index i c.loop-step-test.true);
     }
+
+pub returns-clause-each : goal.returns-clause-each
+returns-clause-each c = grind (arith, common_steps)

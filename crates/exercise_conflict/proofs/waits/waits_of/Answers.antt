@@ -5,3 +5,6 @@ use Rattle.exercise_conflict.proofs.waits.waits_of.Goals as goal
 
 pub loop-block-preserved : goal.loop-block-preserved
 loop-block-preserved g c = grind (arith, common_steps, filter_map-append)
+
+pub returns : goal.returns
+returns g c = grind (arith, common_steps)

@@ -5,6 +5,7 @@ use Rattle.exercise_findings.specs.Column.{IsColumn}
 use Rattle.exercise_findings.specs.Number.{entry_number, IsNumberOf}
 use Rattle.exercise_findings.proofs.Ables.{no_able, change_among, kept_within, among_more, among_all}
 use Rattle.exercise_findings.proofs.behind.changes_behind.Goals as goal
+use Rattle.std.proofs.lemmas.Grind.{common_steps}
 
 pub replace-requires : goal.replace-requires
 replace-requires g c =
@@ -32,3 +33,6 @@ returns g c =
     let all : take c.loop-able.able-index xs ≡ xs = take_all c.loop-able.able-index xs c.loop-able-test.false in
     among_all r xs c.loop-able.changes.items c.requires.ables
     (subst (λ ys. IsColumn 0 (IsNumberOf (change_among r ys)) (length r.entries) c.loop-able.changes.items) all c.loop-able.invariant)
+
+pub loop-able-init : goal.loop-able-init
+loop-able-init g c = grind (arith, common_steps)

@@ -5,6 +5,7 @@ use borrow.Author.Count.{below_more}
 use Rattle.exercise_findings.specs.Slots.{slot_on, HasEntry, IsReached, Stands}
 use Rattle.exercise_findings.proofs.Standing.{one_slot}
 use Rattle.exercise_findings.proofs.slots.spread.Goals as goal
+use Rattle.std.proofs.lemmas.Grind.{elements}
 
 pub loop-place-preserved : goal.loop-place-preserved
 loop-place-preserved c =
@@ -35,3 +36,6 @@ returns-clause-kept c h e reached =
     let i = slot_on (length from) h reached.steps in
     c.loop-place.invariant.kept i
     (omega (arith, slice_get_within from i _ reached.here.at, c.loop-place-test.false, c.loop-place.auto.place-end, c.len-place-end.ensures)) h e reached.here
+
+pub loop-place-init : goal.loop-place-init
+loop-place-init c = grind (arith, elements)

@@ -5,6 +5,7 @@ use Rattle.indexmap.specs.IndexMap.{get}
 use Rattle.siman_application.specs.Records.{stored, found}
 use Rattle.siman_application.proofs.Found.{take_full}
 use Rattle.siman_application.proofs.records.find_fixed.Goals as goal
+use Rattle.std.proofs.lemmas.Grind.{common_steps}
 
 pub returns-then-len-ge-MOST_FIXED : goal.returns-then-len-ge-MOST_FIXED
 returns-then-len-ge-MOST_FIXED c =
@@ -18,3 +19,6 @@ returns c =
     ∙ ap (λ (ids : List ℕ). c.loop-id.records.items ++ found (λ id. stored (get nat_eq c.args.came.now id) (get nat_eq c.args.held.now id)) ids)
     (sym (drop_all c.loop-id.id-index c.args.ids.now c.loop-id-test.false))
     ∙ c.loop-id.invariant.found)
+
+pub loop-id-preserved : goal.loop-id-preserved
+loop-id-preserved c = grind (arith, common_steps) steps 2000000

@@ -2,6 +2,8 @@ use Rattle.std.proofs.Common.{rules}
 use Rattle.siman_application.specs.Holding.{held_in}
 use Rattle.siman_application.proofs.TablesStay.{Again, taken_again}
 use Rattle.siman_application.proofs.taking.take.Goals as goal
+use Rattle.std.proofs.Common.{arith}
+use Rattle.std.proofs.lemmas.Grind.{common_steps}
 
 again : (c : goal.After-take_again)
     → Again c.args.outfit.now c.args.kept.now c.take_again.new.kept c.args.entities.now (held_in c.args.held.now) c.args.pdu.now c.args.stamp c.take_again.result
@@ -20,3 +22,6 @@ returns-in-Some-clause-reply c = (again c).reply
 
 pub returns-in-Some-clause-within : goal.returns-in-Some-clause-within
 returns-in-Some-clause-within c = (again c).within
+
+pub take_again-requires : goal.take_again-requires
+take_again-requires c = grind (arith, common_steps) steps 2000000

@@ -11,6 +11,8 @@ use Rattle.siman_application.specs.Holding.{Holding, held_in}
 use Rattle.siman_application.specs.Knows.{knows}
 use Rattle.siman_application.proofs.TablesStay.{kept_one, right_more, requests_more, given_first}
 use Rattle.siman_application.proofs.taking.take_first.Goals as goal
+use Rattle.std.proofs.Common.{arith}
+use Rattle.std.proofs.lemmas.Grind.{common_steps}
 
 kept : (c : goal.After-store)
     → c.keep-place.new.kept.entries ≡ c.args.kept.now.entries ++ (c.args.key, record { request = c.args.pdu.now; answer = c.in_ok-outcome.outcome.answer }) ∷ []
@@ -37,3 +39,6 @@ returns-clause-answer c =
     ∙ given_first c.args.kept.now c.keep-place.new.kept c.args.key (record { request = c.args.pdu.now; answer = c.in_ok-outcome.outcome.answer }) (kept c)
     ∙ ap (λ (p : Pdu). Some p) (c.in_ok-outcome.ensures.answer ∙ ap
     (λ (k : Knowledge). answer c.args.outfit.now k c.args.pdu.now c.args.stamp) c.requires.right.known_is)
+
+pub returns-clause-within : goal.returns-clause-within
+returns-clause-within c = grind (arith, common_steps) steps 2000000

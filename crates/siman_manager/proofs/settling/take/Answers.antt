@@ -6,6 +6,8 @@ use Rattle.siman_manager.proofs.Tables.{values-with_value_at, keys-written, len-
 use Rattle.siman_manager.proofs.Quiet.{later-settled}
 use Rattle.siman_manager.proofs.TablesStay.{numbered-written, blocks-written}
 use Rattle.siman_manager.proofs.settling.take.Goals as goal
+use Rattle.std.proofs.Common.{arith}
+use Rattle.std.proofs.lemmas.Grind.{common_steps, elements}
 
 pub returns-clause-keys : goal.returns-clause-keys
 returns-clause-keys c = keys-written c.args.orders.now c.in-Some-place_of.place c.judge.new.kept
@@ -40,3 +42,9 @@ returns-clause-right c = λ times right. record {
       blocks-written c.args.settings.now times c.args.orders.now c.in-Some-place_of.place c.index_mut.result.now c.judge.new.kept c.index_mut.ensures.value
       (later-settled c.args.settings.now c.args.pdu.now c.index_mut.result.now c.judge.new.kept c.judge.ensures.after) right.blocks;
 }
+
+pub returns-in_default-place_of-clause-answer : goal.returns-in_default-place_of-clause-answer
+returns-in_default-place_of-clause-answer c = grind (arith, elements)
+
+pub returns-in_default-place_of-clause-after : goal.returns-in_default-place_of-clause-after
+returns-in_default-place_of-clause-after c = grind (arith, common_steps)

@@ -2,6 +2,8 @@ use Rattle.std.proofs.Common.{◌≡◌, true, false, Some, is_some}
 use Rattle.siman_stations.specs.StationTurn.{stamp_of, reply_due}
 use Rattle.siman_stations.proofs.Replies.{none_recorded, nothing_said, unsent}
 use Rattle.siman_stations.proofs.turn.answer.Goals as goal
+use Rattle.std.proofs.Common.{arith}
+use Rattle.std.proofs.lemmas.Grind.{elements}
 
 pub returns-in-Err-record_sent-clause-err : goal.returns-in-Err-record_sent-clause-err
 returns-in-Err-record_sent-clause-err g c =
@@ -17,3 +19,9 @@ pub returns-in-Ok-false-clause-text : goal.returns-in-Ok-false-clause-text
 returns-in-Ok-false-clause-text g c =
     let h : false ≡ is_some (reply_due c.args.application.now (Some c.args.pdu.now) (stamp_of c.args.now)) = cc (c.in-Ok-false.ensures.due, c.in-Ok-false.field-0-test, c.stamp_of.ensures) in
     nothing_said _ (reply_due c.args.application.now (Some c.args.pdu.now) (stamp_of c.args.now)) h
+
+pub returns-in-Ok-clause-entries : goal.returns-in-Ok-clause-entries
+returns-in-Ok-clause-entries g c = grind (arith, elements)
+
+pub returns-in-Ok-clause-text : goal.returns-in-Ok-clause-text
+returns-in-Ok-clause-text g c = grind (arith, elements)

@@ -3,6 +3,7 @@ use Rattle.siman_pdus.specs.Reading.{reading}
 use Rattle.siman_stations.specs.StationTurn.{stamp_of, reply_due}
 use Rattle.siman_worlds.proofs.Writings.{writes_reply, writes_none, datagram_at, writes_at, takes_at, turn_lacks}
 use Rattle.siman_worlds.proofs.moving.deliver.Goals as goal
+use Rattle.std.proofs.lemmas.Grind.{common_steps}
 
 pub of_turn-requires : goal.of_turn-requires
 of_turn-requires c =
@@ -46,3 +47,12 @@ returns-in-Ok-false-clause-halves c =
     let b = c.deref.result.now in
     let at = datagram_at c.args.journal.now.sends.items c.args.number c.index.result.now b (omega arith) c.index.ensures c.deref.ensures.value in
     takes_at b _ c.args.node.now c.take_turn-turn.new.node at c.in-Ok-false.ensures.halves
+
+pub returns-then-number-len-clause-fault : goal.returns-then-number-len-clause-fault
+returns-then-number-len-clause-fault c = grind (arith, common_steps)
+
+pub returns-in_ok-number-in-Ok-true-clause-sent : goal.returns-in_ok-number-in-Ok-true-clause-sent
+returns-in_ok-number-in-Ok-true-clause-sent c = grind (arith, common_steps)
+
+pub returns-in-Ok-false-clause-sent : goal.returns-in-Ok-false-clause-sent
+returns-in-Ok-false-clause-sent c = grind (arith, common_steps)

@@ -5,6 +5,7 @@ use Rattle.siman_worlds.specs.Holds.{AreNewNodes}
 use Rattle.siman_scripts.specs.Stations.{WorldStationData}
 use Rattle.siman_worlds.proofs.Begins.{new_push}
 use Rattle.siman_worlds.proofs.world.nodes_of.Goals as goal
+use Rattle.std.proofs.lemmas.Grind.{common_steps}
 
 pub loop-station-preserved : goal.loop-station-preserved
 loop-station-preserved c =
@@ -18,3 +19,9 @@ loop-station-preserved c =
     subst (λ (ns : List Node). AreNewNodes x (take (i + 1) ss) ns) (sym c.in_ok-push.ensures.items)
     (subst (λ (ts : List WorldStationData). AreNewNodes x ts (c.loop-station.nodes.items ++ n ∷ []))
     (ap (λ (t : WorldStationData). take i ss ++ t ∷ []) c.station-item.is ∙ sym (take_more ss i s below)) more)
+
+pub returns-in_err-node_of-clause-fault : goal.returns-in_err-node_of-clause-fault
+returns-in_err-node_of-clause-fault c = grind (arith, common_steps)
+
+pub returns-clause-nodes : goal.returns-clause-nodes
+returns-clause-nodes c = grind (arith, common_steps)

@@ -6,6 +6,7 @@ use Rattle.siman_plays.specs.Live.Moves.{JudgedEnds}
 use Rattle.siman_plays.proofs.Judged.{stands_at, judged_there, passes_on, on_any, served_any}
 use Rattle.siman_lines.proofs.Offered.{follows_one, follows_then}
 use Rattle.siman_plays.proofs.live.moves.judge_and_make.Goals as goal
+use Rattle.std.proofs.lemmas.Grind.{elements}
 
 pub returns-in_err-act_at-clause-fault : goal.returns-in_err-act_at-clause-fault
 returns-in_err-act_at-clause-fault g c =
@@ -52,3 +53,6 @@ returns-clause-ends g c =
     let there = stands_at c.args.stations.now.items c.from-2.result c.args.step.station p (omega arith) c.from-2.ensures c.index_mut.ensures.value in
     served _ c.args.step c.from-2.result c.args.stations.now.items c.args.recorder.now _ p _ _ c.of_station.result c.serve_rounds.result c.from-2.ensures there
     c.in_ok-act_at.ensures.does c.serve_rounds.ensures.ends c.of_station.ensures.named
+
+pub returns-then-from-len-clause-fault : goal.returns-then-from-len-clause-fault
+returns-then-from-len-clause-fault g c = grind (arith, elements)

@@ -5,6 +5,7 @@ use Rattle.siman_worlds.specs.declared.world_fault.MoveFault.{MoveFault}
 use Rattle.siman_worlds.specs.Acts.{Gives, AreShort}
 use Rattle.siman_worlds.proofs.Steps.{both_ok, all_short, node_at, fault_at}
 use Rattle.siman_worlds.proofs.world.World.step.Goals as goal
+use Rattle.std.proofs.lemmas.Grind.{elements}
 
 pub act_at-requires-clause-short : goal.act_at-requires-clause-short
 act_at-requires-clause-short c =
@@ -44,3 +45,6 @@ returns-clause-fault c =
     let w = c.args.self.now in
     let stood = node_at w.nodes.items c.from-2.result c.args.step.station n (omega arith) c.from-2.ensures c.index_mut-node.ensures.value in
     subst (λ (o : Option MoveFault). IfErr c.act_at.result (Gives o)) (sym (fault_at w c.args.step n (omega arith) stood)) c.act_at.ensures.fault
+
+pub returns-then-from-len-clause-fault : goal.returns-then-from-len-clause-fault
+returns-then-from-len-clause-fault c = grind (arith, elements)

@@ -1,34 +1,31 @@
 -- What the slots of a repaired log show: sends that its logs lack, beside the entries as they are.
-use Rattle.std.proofs.Common.{◌≡◌, inl, inr, ℕ, zero, suc, ◌+◌, ◌<◌, ◌≤◌, List, [], ◌∷◌, ◌++◌, map, filter, length, cond, Bool, true, false, Option, Some, None, refl, sym, ap, ◌∙◌, subst, arith, append_assoc, append-nil}
-use Rattle.std.specs.Prelude.{IfSome, slice_get, slice_index_or, nat_eq, nat_lt, nat_le, not, ◌&&◌, ◌||◌, unwrap_or, option_map, option_and_then, if◌then◌else◌}
+use Rattle.std.proofs.Common.{◌≡◌, inl, inr, ℕ, zero, suc, ◌<◌, ◌≤◌, List, [], ◌∷◌, ◌++◌, map, filter, length, cond, Bool, true, false, Option, Some, None, refl, sym, ap, ◌∙◌, subst, arith, append_assoc, append-nil}
+use Rattle.std.specs.Prelude.{IfSome, slice_index_or, nat_eq, nat_le, not, ◌&&◌, ◌||◌, unwrap_or, option_map, option_and_then, if◌then◌else◌}
 use Rattle.std.specs.Global.{Vec}
 use Rattle.std.specs.Option.{option_map_or, option_to_list}
 use Rattle.std.specs.List.{list_all, list_any}
 use Rattle.std.proofs.lemmas.Bool.{eqb-true, lt-ltb}
 use Rattle.indexmap.specs.IndexMap.{get, Updates}
 use Rattle.std.proofs.lemmas.List.{length-map, map-append}
-use Rattle.std.proofs.lemmas.List.Folds.{list_all-map}
 use Rattle.std.proofs.lemmas.Option.{get_or_from_slice_get, slice_get_within}
 use Rattle.dis_records.specs.declared.header.TheConstants.{LARGEST_DATAGRAM}
 use Rattle.exercise_model.specs.declared.recording.TheConstants.{MOST_ENTRIES}
 use Rattle.exercise_model.specs.Entry.{Entry, Sent, Received, Told, is_entry, is_stamped}
 use Rattle.exercise_model.specs.Recording.{PlainRecording, IsRecording}
-use Rattle.exercise_model.specs.History.{Event, Send, Get, Tell, History, event_of, station_of, past, log_at, log_of, station_at}
+use Rattle.exercise_model.specs.History.{Event, History, event_of, station_of, past, log_at, log_of, station_at}
 use Rattle.exercise_model.specs.Setting.{is_from}
 use Rattle.exercise_model.specs.Meaning.{meaning}
 use Rattle.exercise_model.specs.Change.{able, responds}
 use Rattle.exercise_model.specs.Place.{event_at, own_event, log_before}
-use Rattle.exercise_model.specs.Run.{Explains}
 use Rattle.exercise_model.specs.Account.{sender_of}
 use Rattle.exercise_model.proofs.Offered.{all_at, first_found, log_at-append, log_before-all, log_before-more, log_before-none, past-append}
 use Rattle.exercise_findings.proofs.Offered.{entry_within}
-use Rattle.exercise_findings.specs.declared.missing.Missing.{Missing}
 use Rattle.exercise_findings.specs.Missing.{missing_at}
 use Rattle.exercise_conflict.specs.declared.lacks.Lack.{Lack}
 use Rattle.exercise_conflict.specs.declared.repaired.Slot.{Slot}
 use Rattle.exercise_conflict.specs.Lacks.{lack_by, lack_at, lacks_below, lacks_of}
 use Rattle.exercise_conflict.specs.Wider.{AddsTo, sends_no_able, HasFurtherSends}
-use Rattle.exercise_conflict.specs.Repair.{Every, Places, slots_after, bytes_of, shown_as, no_entry, slotted, kept, made, is_first, is_after, slots_below, repaired, IsSlot, shown_by, AreSlots, is_able, is_able_at, lacks_able}
+use Rattle.exercise_conflict.specs.Repair.{Every, Places, slots_after, bytes_of, shown_as, no_entry, slotted, kept, made, is_first, is_after, slots_below, repaired, IsSlot, AreSlots, is_able, is_able_at, lacks_able}
 use Rattle.exercise_conflict.proofs.Every.{every-append, every-filter}
 use Rattle.exercise_conflict.proofs.Lacking.{IsLacking, lacking}
 

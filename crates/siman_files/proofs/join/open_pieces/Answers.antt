@@ -8,6 +8,8 @@ use Rattle.siman_files.specs.Join.{Seen, seen_by, opened_by, opening_deeds, Open
 use Rattle.siman_answers.proofs.Offered.{at_fault, adds_then}
 use Rattle.siman_files.proofs.JoinedPieces.{next_name, next_taken, one_named, one_opened, split_names}
 use Rattle.siman_files.proofs.join.open_pieces.Goals as goal
+use Rattle.std.proofs.Common.{arith}
+use Rattle.std.proofs.lemmas.Grind.{common_steps}
 
 pub returns-in_err-file : goal.returns-in_err-file
 returns-in_err-file g c =
@@ -77,3 +79,9 @@ loop-name-preserved g c =
       names = ap (map (λ (p : Seen). p.name)) held ∙ one_named pieces piece names i name c.loop-name.invariant.names refl more;
       stays = opened.4;
     }
+
+pub loop-name-init : goal.loop-name-init
+loop-name-init g c = grind (arith, common_steps)
+
+pub returns : goal.returns
+returns g c = grind (arith, common_steps)

@@ -84,7 +84,7 @@ impl<'a, L: ExerciseLog> Course<'a, L> {
         requires { place < length self.now.recording.entries }
         ensures { IfSome (slice_get self.now.recording.entries place) (λ e. result ≡ is_next self.now.recording self.now.steps place (event_of e)) }
     {
-        let station = usize::from(self.found.log().station_of(place));
+        let station = usize::from(self.found.log().entry(place).station());
         is_at(&self.cursors, station, place)
     }
 

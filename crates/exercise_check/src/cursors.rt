@@ -30,7 +30,7 @@ fn go_back<L: ExerciseLog>(cursors: &mut Cursors, log: &L, entry: usize)
     requires tied { AreCursorsFrom (L.recording log.now) (entry + 1) cursors.old }
     ensures { AreCursorsFrom (L.recording log.now) entry cursors.new }
 {
-    let station = usize::from(log.station_of(entry));
+    let station = usize::from(log.entry(entry).station());
     let follower = cursors.next[station];
     replace(&mut cursors.followers, entry, follower);
     replace(&mut cursors.next, station, entry as u32);
@@ -89,7 +89,7 @@ pub(crate) fn was_taken<L: ExerciseLog>(log: &L, cursors: &Cursors, entry: usize
     requires next { length cursors.now.next.items ≡ length (L.recording log.now).setting.stations }
     ensures { let r = L.recording log.now in (steps : List Step) → AreCursors r steps cursors.now → result ≡ was_taken r steps entry }
 {
-    let station = usize::from(log.station_of(entry));
+    let station = usize::from(log.entry(entry).station());
     cursors.next[station] as usize > entry
 }
 
@@ -100,7 +100,7 @@ pub(crate) fn pass<L: ExerciseLog>(cursors: &mut Cursors, log: &L, place: usize)
     requires next { length cursors.old.next.items ≡ length (L.recording log.now).setting.stations }
     ensures { let r = L.recording log.now in (steps : List Step) (link : ℕ) → IfSome (slice_get r.entries place) (λ e. length (log_at (station_of (event_of e)) (order_of r steps)) ≡ length (log_before r (station_of (event_of e)) place)) → AreCursors r steps cursors.old → AreCursors r (steps ++ record { place = place; link = link } ∷ []) cursors.new }
 {
-    let station = usize::from(log.station_of(place));
+    let station = usize::from(log.entry(place).station());
     let follower = cursors.followers[place];
     replace(&mut cursors.next, station, follower);
 }

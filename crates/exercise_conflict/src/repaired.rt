@@ -228,8 +228,4 @@ impl<L: ExerciseLog> ExerciseLog for RepairedLog<'_, L> {
         let slot = self.slots[index];
         shown_as(self.log.entry(slot.entry), slot.sender)
     }
-
-    fn station_of(&self, index: usize) -> u16 {
-        self.entry(index).station()
-    }
 }

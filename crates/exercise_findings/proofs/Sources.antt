@@ -33,12 +33,6 @@ entry_within [] i within = absurd (omega arith)
 entry_within (e ∷ entries) zero within = (e, refl)
 entry_within (e ∷ entries) (suc i) within = entry_within entries i (omega arith)
 
--- the entry of a place, of the station that is told of it
-pub entry_of_station : (entries : List Entry) (i s : ℕ) → i < length entries → IfSome (slice_get entries i) (λ e. s ≡ station_of (event_of e))
-    → (e : Entry) × (slice_get entries i ≡ Some e) × (s ≡ station_of (event_of e))
-entry_of_station entries i s within own =
-    let e = entry_within entries i within in (e.0, e.1, subst (λ o. IfSome o (λ e. s ≡ station_of (event_of e))) e.1 own)
-
 -- ---- what one entry is
 
 -- where nothing is meant, or it comes from no recorded station, no entry is a source

@@ -32,7 +32,7 @@ fn own_change<L: ExerciseLog>(
     requires changes { let r = L.recording log.now in IsColumn None (IsChangeAt r) (length r.entries) changes.now }
     ensures { let r = L.recording log.now in result ≡ option_and_then (change_made r.setting.exercise (station_at r station) (log_before r station entry)) (own_event r station entry) }
 {
-    if log.station_of(entry) == station {
+    if log.entry(entry).station() == station {
         changes[entry]
     } else {
         None

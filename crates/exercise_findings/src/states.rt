@@ -253,7 +253,7 @@ pub(crate) fn note_change<L: ExerciseLog>(
 {
     match change {
         Some(change) => {
-            let station = usize::from(log.station_of(entry));
+            let station = usize::from(log.entry(entry).station());
             make_change(&mut states[station], change, entry as u32)
         }
         None => Ok(()),

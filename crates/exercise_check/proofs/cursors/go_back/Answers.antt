@@ -1,17 +1,16 @@
 use Rattle.std.proofs.Common.{◌<◌, ℕ, length, arith, ◌∙◌}
 use Rattle.std.proofs.lemmas.List.{get_or_default}
-use Rattle.exercise_findings.proofs.Offered.{entry_of_station}
+use Rattle.exercise_model.specs.Held.{shown}
 use Rattle.exercise_check.proofs.Moved.{gone_back}
 use Rattle.exercise_check.proofs.cursors.go_back.Goals as goal
 
 pub returns : goal.returns
 returns g c =
     let r = g.L.ExerciseLog.recording c.args.log.now in
-    let there = entry_of_station r.entries c.args.entry c.station_of.result c.requires.within c.station_of.ensures.station in
     let s : ℕ = c.from-station.result in
     let below : s < length r.setting.stations = grind (arith) in
-    let back = gone_back r c.args.entry there.0 s c.index-follower.result.now c.args.cursors.now c.replace.new.column.items c.replace-2.new.column.items
-    c.requires.within there.1 (c.from-station.ensures ∙ there.2) below
+    let back = gone_back r c.args.entry (shown c.entry.result) s c.index-follower.result.now c.args.cursors.now c.replace.new.column.items c.replace-2.new.column.items
+    c.requires.within c.entry.ensures.entry (c.from-station.ensures ∙ c.station.ensures) below
     (c.index-follower.ensures ∙ get_or_default c.args.cursors.now.next.items s _ 0 (omega (arith, below, c.requires.tied.next.count))) c.replace.ensures.count c.replace.ensures.each c.replace-2.ensures.count
     c.replace-2.ensures.each c.requires.tied in
     record { followers = back.0; next = back.1 }

@@ -1,9 +1,9 @@
 use Rattle.std.proofs.Common.{◌≡◌, ◌<◌, ◌+◌, ℕ, length, Some, refl, sym, ◌∙◌, subst, arith, set}
 use Rattle.std.specs.Prelude.{slice_get, IfSome}
 use Rattle.std.proofs.lemmas.Option.{slice_get_read}
+use Rattle.exercise_model.specs.Held.{shown}
 use Rattle.exercise_model.specs.History.{event_of, station_of}
 use Rattle.exercise_findings.specs.States.{AreStatesOf, AreStates}
-use Rattle.exercise_findings.proofs.Sources.{entry_of_station}
 use Rattle.exercise_findings.proofs.Tied.{no_change, one_change, on_both}
 use Rattle.exercise_findings.proofs.states.note_change.Goals as goal
 
@@ -21,8 +21,7 @@ make_change-requires-clause-up_to g c =
 pub returns-in-Some : goal.returns-in-Some
 returns-in-Some g c =
     let r = g.L.ExerciseLog.recording c.args.log.now in
-    let there = entry_of_station r.entries c.args.entry c.station_of.result c.requires.within c.station_of.ensures.station in
-    let e = there.0 in
+    let e = shown c.entry.result in
     let ts = c.args.states.now in
     let s : ℕ = c.from-station.result in
     let t = c.index_mut.result.now in
@@ -30,10 +29,10 @@ returns-in-Some g c =
     let stations : s < length r.setting.stations = grind (arith) in
     let within : s < length ts.items = omega (arith, stations, c.requires.tied.count) in
     let here : slice_get ts.items s ≡ Some t = slice_get_read ts.items (length ts.items) s t refl within c.index_mut.ensures.value in
-    let same : s ≡ station_of (event_of e) = c.from-station.ensures ∙ there.2 in
+    let same : s ≡ station_of (event_of e) = c.from-station.ensures ∙ c.station.ensures in
     on_both c.make_change.result
     (λ up made. subst (λ i. AreStates r (c.args.entry + 1) (set ts.items i u)) (sym same)
-    (one_change r c.args.entry e c.in-Some.change ts.items t u there.1 (sym c.in-Some.is ∙ c.requires.change)
+    (one_change r c.args.entry e c.in-Some.change ts.items t u c.entry.ensures.entry (sym c.in-Some.is ∙ c.requires.change)
     (subst (λ i. slice_get ts.items i ≡ Some t) same here) (subst (λ i. i < length ts.items) same within) c.requires.tied up made))
     c.make_change.ensures.up_to c.make_change.ensures.states
 

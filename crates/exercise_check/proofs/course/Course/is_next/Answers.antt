@@ -1,6 +1,6 @@
 use Rattle.std.proofs.Common.{◌≡◌, ◌<◌, ℕ, length, arith, ◌∙◌}
 use Rattle.exercise_model.specs.History.{event_of}
-use Rattle.exercise_findings.proofs.Offered.{entry_of_station}
+use Rattle.exercise_model.specs.Held.{shown}
 use Rattle.exercise_check.specs.Order.{is_next}
 use Rattle.exercise_check.proofs.Courses.{at_entry}
 use Rattle.exercise_check.proofs.Nexts.{next_by_cursor}
@@ -19,10 +19,9 @@ returns g c =
     let there : s < length (g.L.ExerciseLog.recording c.log.result.now).setting.stations = grind (arith) in
     let below = rw c.log.ensures at there in
     let within = rw (← c.self.view_is) at c.requires in
-    let own = rw c.log.ensures at c.station_of.ensures.station in
-    let e = entry_of_station r.entries c.args.place c.station_of.result within own in
-    rw (← c.self.view_is) (at_entry _ e.0
+    let at = rw c.log.ensures at c.entry.ensures.entry in
+    rw (← c.self.view_is) (at_entry _ (shown c.entry.result)
     (λ e. c.is_at.result ≡ is_next r c.self.inside.steps.items c.args.place (event_of e))
-    e.1
-    (rw c.is_at.ensures (next_by_cursor r c.self.inside.steps.items c.args.place s _ e.0 (c.from-station.ensures ∙ e.2) within
-    e.1 (c.self.invariant.next.next.each s below))))
+    at
+    (rw c.is_at.ensures (next_by_cursor r c.self.inside.steps.items c.args.place s _ (shown c.entry.result) (c.from-station.ensures ∙ c.station.ensures) within
+    at (c.self.invariant.next.next.each s below))))

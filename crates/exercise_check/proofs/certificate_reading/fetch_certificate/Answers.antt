@@ -7,8 +7,8 @@ use Rattle.exercise_check.proofs.certificate_reading.fetch_certificate.Goals as 
 
 pub returns-in-Ok-clause-read : goal.returns-in-Ok-clause-read
 returns-in-Ok-clause-read g c =
-    let read = subst (λ (text : List ℕ). Answers steps_of c.read_certificate.result (certificate_at c.args.limit text)) c.as_slice.ensures.value c.read_certificate.ensures.read in
-    of_fetched (Answers steps_of c.read_certificate.result) c.args.limit (g.R.Read.remaining c.args.reader) c.in-Ok.text.items
+    let read = subst (λ (text : List ℕ). Answers steps_of c.read_text.result (certificate_at c.args.limit text)) c.as_slice.ensures.value c.read_text.ensures.read in
+    of_fetched (Answers steps_of c.read_text.result) c.args.limit (g.R.Read.remaining c.args.reader) c.in-Ok.text.items
     (c.past_the_limit_nothing_counts.ensures c.args.limit) c.in-Ok.ensures.text read
 
 pub returns-in-Err-Read-clause-read : goal.returns-in-Err-Read-clause-read

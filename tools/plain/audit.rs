@@ -57,8 +57,14 @@ impl Search<'_, '_> {
     }
 }
 
-pub fn audit(log: &Recording<'_>, name: &str, out: &mut Text) -> io::Result<u8> {
-    let found = findings::findings(log);
+/// Whether a run explains a recording of which no entry has a cause by the log of its own station, with the sources of
+/// its receipts.
+pub fn is_explained(log: &Recording<'_>, sources: Vec<u32>) -> bool {
+    let search = search(log, Findings::of_sources(sources));
+    search.cursors == search.ends
+}
+
+fn search<'l, 'a>(log: &'l Recording<'a>, found: Findings) -> Search<'l, 'a> {
     let count = log.heads.len();
     let (numbers, starts) = log.logs();
     let (cursors, ends) = (starts[..log.stations.len()].to_vec(), starts[1..].to_vec());
@@ -71,9 +77,14 @@ pub fn audit(log: &Recording<'_>, name: &str, out: &mut Text) -> io::Result<u8> 
     while let Some(station) = search.ready.pop() {
         search.go_on(station);
     }
+    search
+}
+
+pub fn audit(log: &Recording<'_>, name: &str, out: &mut Text) -> io::Result<u8> {
+    let search = search(log, findings::findings(log));
     if search.cursors == search.ends {
         fs::write(name, search.certificate)?;
-        out.pair("explained steps=", count as u64)?.word("\n")?;
+        out.pair("explained steps=", log.heads.len() as u64)?.word("\n")?;
         return Ok(0);
     }
     blocked(&search, out)

@@ -40,6 +40,11 @@ pub struct Findings {
 }
 
 impl Findings {
+    /// Of a recording of which no entry has a cause, the sources of its receipts alone.
+    pub fn of_sources(links: Vec<u32>) -> Findings {
+        Findings { links, others: 0, ables: Vec::new(), repeats: Vec::new(), entities: Vec::new() }
+    }
+
     /// The link of an entry, or its cause.
     #[inline]
     pub fn link(&self, number: usize) -> Result<u32, u8> {
@@ -237,7 +242,8 @@ impl<'a> Finder<'_, 'a> {
     }
 }
 
-fn change(entities: &mut Entities, kind: u8, scope: u16) -> Result<(), u8> {
+/// Changes the entities in a scope by carrying out a request of a kind.
+pub fn change(entities: &mut Entities, kind: u8, scope: u16) -> Result<(), u8> {
     let state = match kind {
         CREATE | STOP => 1,
         START => 2,

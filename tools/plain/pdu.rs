@@ -1,6 +1,6 @@
 //! PDUs of the Simulation Management family, read where they lie.
 
-use crate::recording::{u16_at, u32_at};
+use crate::recording::{u16_at, u32_at, u64_at};
 
 pub const NAMES: [&str; 12] = [
     "create-entity", "remove-entity", "start-resume", "stop-freeze", "acknowledge", "action-request", "action-response",
@@ -67,6 +67,11 @@ impl Pdu<'_> {
     pub fn is_request(&self) -> bool {
         !self.is_answer() && self.kind < EVENT_REPORT
     }
+    /// Where its records stand.
+    #[inline]
+    pub fn records(&self) -> usize {
+        usize::from(SIZES[usize::from(self.kind) - 11])
+    }
     /// Whether it acknowledges with this word.
     #[inline]
     pub fn acknowledges(&self, response: u16) -> bool {
@@ -110,6 +115,12 @@ pub fn pdu(bytes: &[u8]) -> Option<Pdu<'_>> {
     (end == length).then_some(Pdu { bytes, kind, fixed, variable })
 }
 
+/// The PDU of a datagram that is known to spell one. How many records it has is not read.
+#[inline]
+pub fn known(bytes: &[u8]) -> Pdu<'_> {
+    Pdu { bytes, kind: bytes[2], fixed: 0, variable: 0 }
+}
+
 /// What a datagram means in an exercise, if it means something.
 #[inline]
 pub fn meaning(exercise: u8, bytes: &[u8]) -> Option<Pdu<'_>> {
@@ -118,8 +129,8 @@ pub fn meaning(exercise: u8, bytes: &[u8]) -> Option<Pdu<'_>> {
     (bytes[1] == exercise && !outside).then_some(p)
 }
 
-/// A PDU's bytes with timestamp, status and all that is padding as zero.
-fn order(p: &Pdu<'_>) -> Vec<u8> {
+/// The bytes behind the header, with all that is padding as zero.
+pub fn order(p: &Pdu<'_>) -> Vec<u8> {
     let mut bytes = p.bytes.to_vec();
     match p.kind {
         STOP => bytes[34..36].fill(0),
@@ -143,10 +154,38 @@ fn order(p: &Pdu<'_>) -> Vec<u8> {
     bytes
 }
 
+/// Whether all that is padding is zero, so that the bytes behind the header are all that is compared of an order.
+#[inline]
+pub fn is_bare(p: &Pdu<'_>) -> bool {
+    let b = p.bytes;
+    let is_zero = match p.kind {
+        STOP => u16_at(b, 34) == 0,
+        SET_DATA | DATA | EVENT_REPORT => u32_at(b, 28) == 0,
+        _ => true,
+    };
+    let mut at = p.records() + 8 * p.fixed as usize;
+    is_zero && (p.kind == DATA_QUERY || (0..p.variable).all(|_| is_bare_value(b, &mut at)))
+}
+
+/// Whether no bit is set behind the value of the variable datum there; the next one stands where it ends.
+fn is_bare_value(b: &[u8], at: &mut usize) -> bool {
+    let bits = u32_at(b, *at + 4) as usize;
+    *at += 8 + 8 * bits.div_ceil(64);
+    bits % 64 == 0 || u64_at(b, *at - 8) << (bits % 64) == 0
+}
+
 pub fn is_same_order(p: &Pdu<'_>, q: &Pdu<'_>) -> bool {
     p.bytes[..4] == q.bytes[..4]
         && p.bytes.len() == q.bytes.len()
         && (p.bytes[12..] == q.bytes[12..] || order(p) == order(q))
+}
+
+/// Whether a datagram that is known to spell a PDU spells the same order as another.
+#[inline]
+pub fn is_order_in(bytes: &[u8], p: &Pdu<'_>) -> bool {
+    bytes.len() == p.bytes.len()
+        && bytes[..4] == p.bytes[..4]
+        && (bytes[12..] == p.bytes[12..] || pdu(bytes).is_some_and(|q| order(p) == order(&q)))
 }
 
 pub fn is_addressed(p: &Pdu<'_>, address: u32) -> bool {
@@ -164,6 +203,17 @@ pub fn scope(request: &Pdu<'_>, answer: &Pdu<'_>) -> Option<u16> {
         (false, true) => Some(n),
         (false, false) => (n == m).then_some(n),
     }
+}
+
+/// The request status of an Action Response.
+#[inline]
+pub fn result(p: &Pdu<'_>) -> u32 {
+    u32_at(p.bytes, 28)
+}
+
+/// Whether an answer, with the request identifier of a request and to whom that came from, answers it.
+pub fn answers(answer: &Pdu<'_>, request: &Pdu<'_>) -> bool {
+    matches_kind(answer, request) && is_addressed(request, answer.from()) && scope(request, answer).is_some()
 }
 
 pub fn matches_kind(answer: &Pdu<'_>, request: &Pdu<'_>) -> bool {

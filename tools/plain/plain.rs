@@ -1,21 +1,29 @@
-//! A program of the same work as `siman show`, `check`, `audit` and `convert`, in Rust with nothing but its standard
-//! library and without any proof, written to be fast: it is the yardstick that siman is timed beside
-//! (`tools/growth.py`), and its answers are compared with those of siman. It goes over a recording once, hashes each
-//! datagram once, keeps what it finds in columns of small numbers, and writes its lines into one buffer. Its tables are
-//! as hard to flood as siman's: their keys are hashed under seeds that are drawn anew in each run.
+//! A program of the same work as `siman show`, `check`, `audit`, `convert`, and `log` and `review` without filters, in
+//! Rust with nothing but its standard library and without any proof, written to be fast: it is the yardstick that siman
+//! is timed beside (`tools/growth.py`), and its answers are compared with those of siman. It goes over a recording
+//! once, and for `log` once more to print it; it hashes each datagram once, keeps what it finds in columns of small
+//! numbers, and writes its lines into one buffer. Its tables are as hard to flood as siman's: their keys are hashed
+//! under seeds that are drawn anew in each run.
 //!
 //! It is no more than that: it ends at the first thing that is wrong with a file, and does not say what.
 //!
 //!     rustc -O --edition 2021 -o plain plain.rs
 //!     ./plain sum FILE, ./plain show REC, ./plain check REC CERT, ./plain audit REC CERT, ./plain convert OLD NEW
+//!     ./plain log REC, ./plain review REC
 
 mod audit;
 mod check;
 mod convert;
 mod entities;
+mod facts;
 mod findings;
+mod lives;
+mod log;
+mod order;
+mod orders;
 mod pdu;
 mod recording;
+mod review;
 mod show;
 mod tables;
 mod text;
@@ -24,6 +32,8 @@ use std::io::{self, Write};
 use std::process::ExitCode;
 use std::{env, fs};
 use text::Text;
+
+const USAGE: &str = "sum FILE, show REC, check REC CERT, audit REC CERT, convert OLD NEW, log REC or review REC";
 
 fn bad_file() -> io::Error {
     io::Error::other("bad file")
@@ -54,7 +64,15 @@ fn run(words: &[&str], out: &mut Text) -> io::Result<u8> {
             let file = fs::read(old)?;
             convert::convert(&recording::read(&file).ok_or_else(bad_file)?, new, out)
         }
-        _ => Err(io::Error::other("sum FILE, show REC, check REC CERT, audit REC CERT or convert OLD NEW")),
+        ["log", name] => {
+            let file = fs::read(name)?;
+            log::log(&recording::read(&file).ok_or_else(bad_file)?, out)
+        }
+        ["review", name] => {
+            let file = fs::read(name)?;
+            review::review(&recording::read(&file).ok_or_else(bad_file)?, out)
+        }
+        _ => Err(io::Error::other(USAGE)),
     }
 }
 

@@ -41,6 +41,29 @@ impl Seeds {
         hash = folded(word(last) ^ self.1, word(&last[8..]) ^ hash);
         (folded(hash, self.0) >> 32) as u32
     }
+
+    /// The hash of what stands behind the header of a datagram, sixteen bytes or more, on the way to those below.
+    #[inline]
+    pub fn of_body(self, body: &[u8]) -> u64 {
+        let mut hash = self.0 ^ body.len() as u64;
+        let parts = body.chunks_exact(16);
+        let is_whole = parts.remainder().is_empty();
+        for part in parts {
+            hash = folded(word(part) ^ self.1, word(&part[8..]) ^ hash);
+        }
+        if !is_whole {
+            let last = &body[body.len() - 16..];
+            hash = folded(word(last) ^ self.1, word(&last[8..]) ^ hash);
+        }
+        hash
+    }
+
+    /// The hash of a datagram with this header, of which the rest is hashed.
+    #[inline]
+    pub fn behind_header(self, header: &[u8], body: u64) -> u32 {
+        let hash = folded(word(header) ^ self.1, word(&header[4..]) ^ body);
+        (folded(hash, self.0) >> 32) as u32
+    }
 }
 
 /// Slots with the hash of a key above the number of its entry and one; 0 where nothing is.

@@ -1,5 +1,6 @@
 //! Text on its way to standard output, in one buffer that is written out whenever it is nearly full.
 
+use crate::recording::NONE;
 use std::io::{self, Stdout, Write};
 
 const ROOM: usize = 1 << 16;
@@ -11,6 +12,18 @@ const PAIRS: &[u8; 200] = b"0001020304050607080910111213141516171819202122232425
 pub struct Text {
     out: Stdout,
     room: Vec<u8>,
+}
+
+/// The two digits of a number below 100.
+#[inline]
+pub fn two_digits(number: u64) -> &'static [u8] {
+    let at = 2 * number as usize;
+    &PAIRS[at..at + 2]
+}
+
+#[inline]
+fn hex_digit(number: u8) -> u8 {
+    if number < 10 { b'0' + number } else { b'a' - 10 + number }
 }
 
 impl Text {
@@ -35,8 +48,14 @@ impl Text {
 
     #[inline]
     pub fn word(&mut self, word: &str) -> io::Result<&mut Text> {
+        self.part(word.as_bytes())
+    }
+
+    /// Bytes that are no more than those of a word.
+    #[inline]
+    pub fn part(&mut self, bytes: &[u8]) -> io::Result<&mut Text> {
         self.make_room()?;
-        self.room.extend_from_slice(word.as_bytes());
+        self.room.extend_from_slice(bytes);
         Ok(self)
     }
 
@@ -68,6 +87,36 @@ impl Text {
     #[inline]
     pub fn pair(&mut self, word: &str, number: u64) -> io::Result<&mut Text> {
         self.word(word)?.number(number)
+    }
+
+    /// A word and the number of an entry behind it, or a dash for none.
+    #[inline]
+    pub fn entry(&mut self, word: &str, number: u32) -> io::Result<&mut Text> {
+        if number == NONE {
+            return self.word(word)?.word("-");
+        }
+        self.pair(word, u64::from(number))
+    }
+
+    /// As many bytes as there are.
+    pub fn bytes(&mut self, bytes: &[u8]) -> io::Result<&mut Text> {
+        for part in bytes.chunks(LEFT) {
+            self.part(part)?;
+        }
+        Ok(self)
+    }
+
+    /// As many bytes as there are, two hex digits each.
+    pub fn hex(&mut self, bytes: &[u8]) -> io::Result<&mut Text> {
+        let mut digits = [0; LEFT];
+        for part in bytes.chunks(LEFT / 2) {
+            for (pair, byte) in digits.chunks_exact_mut(2).zip(part) {
+                pair[0] = hex_digit(byte >> 4);
+                pair[1] = hex_digit(byte & 15);
+            }
+            self.part(&digits[..2 * part.len()])?;
+        }
+        Ok(self)
     }
 
     /// A simulation address: site and application.

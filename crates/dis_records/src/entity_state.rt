@@ -19,7 +19,7 @@ pub enum EntityState {
 
 impl EntityState {
     /// Its name, as `absent`.
-    fn name(self) -> &'static str
+    pub fn name(self) -> &'static str
         ensures { result.now ≡ state_text self }
     {
         match self {

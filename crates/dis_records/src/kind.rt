@@ -66,7 +66,7 @@ impl Kind {
     }
 
     /// Its name, as `create-entity`.
-    fn name(self) -> &'static str
+    pub fn name(self) -> &'static str
         ensures { result.now ≡ kind_text self }
     {
         match self {

@@ -11,5 +11,5 @@ pub loop-entry-preserved : goal.loop-entry-preserved
 loop-entry-preserved g c =
     let i = c.loop-entry.entry in
     let old = string_bytes c.loop-entry.text in
-    let step = line-of-same (line_with answer_line i) old _ c.pair.result _ c.in_ok-put_pair.ensures (c.pair.ensures ∙ c.requires.pairs i) in
+    let step = line-of-same (line_with answer_line i) old _ c.pair-request.result _ c.in_ok-put_pair.ensures (c.pair-request.ensures ∙ c.requires.pairs i) in
     texts-with-next (answer_at (g.L.ExerciseLog.recording c.args.log.now)) i (string_bytes c.args.text.now) old _ step c.loop-entry.invariant

@@ -11,5 +11,5 @@ pub loop-entry-preserved : goal.loop-entry-preserved
 loop-entry-preserved g c =
     let i = c.loop-entry.entry in
     let old = string_bytes c.loop-entry.text in
-    let step = line-of-same (line_with known_line i) old _ c.cause.result _ c.in_ok-put_pair.ensures (c.cause.ensures ∙ c.requires.causes i) in
+    let step = line-of-same (line_with known_line i) old _ c.cause-change.result _ c.in_ok-put_pair.ensures (c.cause-change.ensures ∙ c.requires.causes i) in
     texts-with-next (known_at (g.L.ExerciseLog.recording c.args.log.now)) i (string_bytes c.args.text.now) old _ step c.loop-entry.invariant

@@ -18,8 +18,8 @@ loop-station-preserved g c =
     let within : s < length r.setting.stations = omega (arith, c.loop-station-test.true, c.station_count-station-end.ensures.count) in
     let old = string_bytes c.loop-station.text in
     let own = c.states.ensures ∙ c.requires.states s ∙ states_of-station r s within in
-    let at = c.address.ensures.address ∙ ap (λ o. o.address) c.station.ensures.station in
-    let addressed = line-of-same (λ a. flat_map (λ present. line_text (entity_line a present)) c.states.result.now) old _ c.address.result
+    let at = c.address-address.ensures.address ∙ ap (λ o. o.address) c.station.ensures.station in
+    let addressed = line-of-same (λ a. flat_map (λ present. line_text (entity_line a present)) c.states.result.now) old _ c.address-address.result
     (station_at r s).address c.in_ok-put_entities.ensures at in
     let step = line-of-same (flat_map (λ present. line_text (entity_line (station_at r s).address present))) old _ c.states.result.now (entities_of r s) addressed own in
     texts-with-next (entities_at r) s (string_bytes c.args.text.now) old _ step c.loop-station.invariant

@@ -7,4 +7,4 @@ pub returns-clause-read : goal.returns-clause-read
 unfolding certificate_at
 returns-clause-read c =
     let n = c.args.limit in
-    at_start (12 + 8 * n) (Some c.args.text.now) _ (λ i. Answers steps_of c.read_whole.result (whole_at n i)) c.new-source.ensures c.read_whole.ensures.whole
+    at_start (12 + 8 * n) (Some c.args.text.now) _ (λ i. Answers steps_of c.whole_in.result (whole_at n i)) c.new-source.ensures c.whole_in.ensures.whole

@@ -3,6 +3,8 @@ use Rattle.std.proofs.Common.{◌++◌, ◌∙◌, codes, inr, refl, append-nil}
 use Rattle.siman_answers.specs.Outside.{WasHeld}
 use Rattle.siman_answers.proofs.Openings.{adds_then, all_two}
 use Rattle.siman_answers.proofs.opening.open_apart.Goals as goal
+use Rattle.std.proofs.Common.{arith}
+use Rattle.std.proofs.lemmas.Grind.{common_steps}
 
 pub returns-then-is_opened : goal.returns-then-is_opened
 returns-then-is_opened g c = (
@@ -12,3 +14,21 @@ returns-then-is_opened g c = (
   inr (_, refl, append-nil (codes "output: same as " ++ c.args.names.0.now)),
   c.if-is_opened.ensures.stays ∙ c.in-Ok.ensures.stays,
 )
+
+pub open-requires-text-name : goal.open-requires-text-name
+open-requires-text-name g c κs within = grind (arith, common_steps)
+
+pub is_opened-requires-text-name : goal.is_opened-requires-text-name
+is_opened-requires-text-name g c κs within = grind (arith, common_steps)
+
+pub fact_in-name : goal.fact_in-name
+fact_in-name g c = grind (arith, common_steps)
+
+pub unopened-requires-text-name : goal.unopened-requires-text-name
+unopened-requires-text-name g c κs = grind (arith, common_steps)
+
+pub returns-else-is_opened : goal.returns-else-is_opened
+returns-else-is_opened g c = grind (arith, common_steps)
+
+pub returns-in-Err : goal.returns-in-Err
+returns-in-Err g c = grind (arith, common_steps)

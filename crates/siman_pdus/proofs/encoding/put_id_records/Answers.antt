@@ -1,0 +1,12 @@
+use Rattle.std.proofs.Common.{arith}
+use Rattle.std.proofs.lemmas.Grind.{common_steps}
+use Rattle.siman_pdus.proofs.encoding.put_id_records.Goals as goal
+
+pub put_u32-requires : goal.put_u32-requires
+put_u32-requires c = grind (arith, common_steps)
+
+pub loop-id-preserved : goal.loop-id-preserved
+loop-id-preserved c = grind (arith, common_steps)
+
+pub returns : goal.returns
+returns c = grind (arith, common_steps)

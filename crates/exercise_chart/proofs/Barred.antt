@@ -25,7 +25,7 @@ use Rattle.exercise_check.proofs.Offered.{good_logs, good_step, length-steps-mor
 use Rattle.exercise_review.specs.declared.life.Stretch.{Stretch}
 use Rattle.exercise_review.specs.declared.span.Span.{Span}
 use Rattle.exercise_review.specs.Life.{state_before, lives_of, is_after, is_no_later, covers, states_at, if_there}
-use Rattle.exercise_review.specs.Links.{step_at, NameOnce}
+use Rattle.exercise_check.specs.Links.{step_at, NameOnce}
 use Rattle.exercise_review.specs.Span.{entity_at, span_of, entity_spans, spans_behind, spans_of}
 use Rattle.exercise_chart.specs.declared.bar.Bar.{Bar}
 use Rattle.exercise_chart.specs.declared.bar.Slots.{Slots}

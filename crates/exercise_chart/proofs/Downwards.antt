@@ -22,7 +22,7 @@ use Rattle.exercise_check.specs.Order.{first_sender, sender_link, link_of, link_
 use Rattle.exercise_check.specs.Goodness.{no_step, IsGoodStep, GoodBelow, IsGood}
 use Rattle.exercise_check.proofs.Offered.{entry_within, good_step}
 use Rattle.exercise_findings.proofs.Offered.{source_here}
-use Rattle.exercise_review.specs.Links.{log_link, step_at, NameOnce}
+use Rattle.exercise_check.specs.Links.{log_link, step_at, NameOnce}
 use Rattle.exercise_review.specs.Room.{lists_below}
 use Rattle.exercise_chart.specs.declared.point.Rows.{Rows}
 use Rattle.exercise_chart.specs.declared.arrow.Arrow.{Arrow}

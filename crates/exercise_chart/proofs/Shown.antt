@@ -9,7 +9,7 @@ use Rattle.exercise_model.specs.Account.{values_below}
 use Rattle.exercise_check.specs.declared.certificate.Step.{Step}
 use Rattle.exercise_check.specs.Goodness.{no_step, IsGood}
 use Rattle.exercise_check.proofs.Offered.{good_step}
-use Rattle.exercise_review.specs.Links.{step_at}
+use Rattle.exercise_check.specs.Links.{step_at}
 use Rattle.exercise_review.specs.Room.{lists_below}
 use Rattle.exercise_chart.specs.declared.point.Rows.{Rows}
 use Rattle.exercise_chart.specs.declared.row.Row.{Row}

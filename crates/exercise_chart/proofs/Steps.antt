@@ -6,7 +6,7 @@ use Rattle.std.proofs.lemmas.Option.{slice_get-get_or}
 use Rattle.exercise_model.specs.Place.{first_below}
 use Rattle.exercise_check.specs.declared.certificate.Step.{Step}
 use Rattle.exercise_check.specs.Goodness.{no_step}
-use Rattle.exercise_review.specs.Links.{step_at}
+use Rattle.exercise_check.specs.Links.{step_at}
 use Rattle.exercise_chart.specs.Point.{takes, AreTaken}
 use Rattle.exercise_chart.proofs.Firsts.{first_more}
 

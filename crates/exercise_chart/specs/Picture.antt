@@ -8,7 +8,7 @@ use Rattle.exercise_model.specs.State.{state_after}
 use Rattle.exercise_findings.specs.Source.{source_of}
 use Rattle.exercise_check.specs.declared.certificate.Step.{Step}
 use Rattle.exercise_check.specs.Order.{order_of}
-use Rattle.exercise_review.specs.Links.{step_at}
+use Rattle.exercise_check.specs.Links.{step_at}
 use Rattle.exercise_chart.specs.declared.point.Point.{Point}
 use Rattle.exercise_chart.specs.declared.point.Rows.{Rows}
 use Rattle.exercise_chart.specs.declared.row.Row.{Row}

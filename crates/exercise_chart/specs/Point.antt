@@ -5,7 +5,7 @@ use Rattle.exercise_model.specs.Recording.{PlainRecording}
 use Rattle.exercise_model.specs.History.{event_of, station_of}
 use Rattle.exercise_model.specs.Place.{first_below}
 use Rattle.exercise_check.specs.declared.certificate.Step.{Step}
-use Rattle.exercise_review.specs.Links.{step_at}
+use Rattle.exercise_check.specs.Links.{step_at}
 use Rattle.exercise_chart.specs.declared.point.Point.{Point}
 
 -- step k takes entry i

@@ -14,7 +14,8 @@ ghost use Rattle.exercise_chart.specs.Arrow.{arrow_between};
 ghost use Rattle.exercise_chart.specs.Marks.{scene_of, marks_of};
 ghost use Rattle.exercise_chart.specs.Picture.{row_fact, step_fact, LeadsDown, HasState};
 
-use exercise_review::{links_are_of_the_logs, lives_are_states};
+use exercise_check::links_are_of_the_logs;
+use exercise_review::lives_are_states;
 
 /// The law of pictures, of the marks of a good certificate. The rows are the steps that are shown, in
 /// their order, each with the entry that it takes (`rows`). An arrow leads from the source of a receipt

@@ -15,7 +15,7 @@ use Rattle.exercise_model.specs.Meaning.{meaning}
 use Rattle.exercise_model.specs.Cause.{sends, cause_of}
 use Rattle.exercise_model.specs.Place.{event_at, own_event, log_before, first_below}
 use Rattle.exercise_model.specs.Account.{sender_of}
-use Rattle.exercise_model.proofs.Offered.{IsFirst, first_found, sender_found, own_address, entry_station}
+use Rattle.exercise_model.proofs.Offered.{IsFirst, first_found, passes, sender_found, own_address, entry_station}
 use Rattle.exercise_findings.specs.Source.{sends_here, first_send, source_of_pdu, source_of}
 use Rattle.exercise_findings.proofs.Offered.{bytes_same, sends_there, source_here}
 use Rattle.exercise_check.specs.declared.certificate.Step.{Step}
@@ -26,7 +26,7 @@ use Rattle.exercise_check.specs.Judging.{was_taken, if_taken}
 use Rattle.exercise_check.proofs.Orders.{first_sender-snoc, first_sender-none, length-order-none}
 use Rattle.exercise_check.proofs.Courses.{own_entry}
 use Rattle.exercise_check.proofs.Goodness.{good_step}
-use Rattle.exercise_check.proofs.Nexts.{own_here, passes}
+use Rattle.exercise_check.proofs.Nexts.{own_here}
 use Rattle.exercise_check.proofs.Moved.{taken_more}
 
 -- how many entries of a station stand before an entry, and how many of them were taken

@@ -7,6 +7,7 @@ mod FirstSenders
 mod Judged
 mod Links
 mod Explained
+mod GoodLinks
 mod Known
 mod Causes
 mod Conversions

@@ -6,7 +6,7 @@ use Rattle.exercise_model.specs.Entry.{Entry}
 use Rattle.exercise_model.specs.Recording.{PlainRecording, IsRecording}
 use Rattle.exercise_model.specs.History.{event_of, station_of, past, log_at, log_of}
 use Rattle.exercise_model.specs.Place.{log_before, own_event}
-use Rattle.exercise_model.proofs.Offered.{log_before-all, no_log, past_within}
+use Rattle.exercise_model.proofs.Offered.{length-entries-more, log_before-all, no_log, past_within}
 use Rattle.exercise_check.specs.declared.certificate.Step.{Step}
 use Rattle.exercise_check.specs.declared.cursors.Cursors.{Cursors}
 use Rattle.exercise_check.specs.Order.{order_of}
@@ -14,7 +14,7 @@ use Rattle.exercise_findings.specs.Column.{IsColumn}
 use Rattle.exercise_check.specs.Cursors.{StandsFor, IsNextFrom, IsNextAfter, IsFollower, IsFollowerFrom, AreCursorsFrom, AreCursors}
 use Rattle.exercise_check.proofs.Nexts.{own_here}
 use Rattle.exercise_check.proofs.Courses.{at_entry, from_entry}
-use Rattle.exercise_check.proofs.Orders.{length-entries-more, length-entries-none, length-order-more, length-order-none}
+use Rattle.exercise_check.proofs.Orders.{length-entries-none, length-order-more, length-order-none}
 
 -- a column in which one number was replaced
 pub replaced : (P Q : ℕ → ℕ → Type 0) (n at number : ℕ) (old new : List ℕ) → length new ≡ length old

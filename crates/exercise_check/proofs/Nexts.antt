@@ -7,10 +7,10 @@ use Rattle.exercise_model.specs.Entry.{Entry}
 use Rattle.exercise_model.specs.Recording.{PlainRecording}
 use Rattle.exercise_model.specs.History.{event_of, station_of, log_at}
 use Rattle.exercise_model.specs.Place.{event_at, own_event, log_before}
+use Rattle.exercise_model.proofs.Offered.{length-entries-more, passes}
 use Rattle.exercise_check.specs.declared.certificate.Step.{Step}
 use Rattle.exercise_check.specs.Order.{order_of, is_next}
 use Rattle.exercise_check.specs.Cursors.{StandsFor}
-use Rattle.exercise_check.proofs.Orders.{length-entries-more}
 
 -- an entry is a station's own where it is the station's
 pub own_here : (r : PlainRecording) (s i : ℕ) (e : Entry) → slice_get r.entries i ≡ Some e
@@ -23,24 +23,6 @@ own_here r s i e at =
   where
     swap : (a b : ℕ) → nat_eq a b ≡ nat_eq b a
     swap a b = grind (arith, nat_tests)
-
--- as many or more of a station stand before a later entry
-rises : (r : PlainRecording) (s i n : ℕ) → length (log_before r s i) ≤ length (log_before r s (i + n))
-rises r s i zero =
-    let same : length (log_before r s (i + 0)) ≡ length (log_before r s i) = ap (λ m. length (log_before r s m)) (omega (arith)) in omega (arith, same)
-rises r s i (suc n) =
-    let more : length (log_before r s (i + n + 1)) ≡ length (log_before r s (i + n)) + (if is_some (own_event r s (i + n)) then 1 else 0) =
-    length-entries-more r s (i + n) in
-    let next : length (log_before r s (i + suc n)) ≡ length (log_before r s (i + n + 1)) = ap (λ m. length (log_before r s m)) (omega (arith)) in
-    omega (arith, next, more, rises r s i n)
-
--- and more, where the entry is its own
-pub passes : (r : PlainRecording) (s i j : ℕ) → is_some (own_event r s i) ≡ true → i < j → length (log_before r s i) < length (log_before r s j)
-passes r s i j own before =
-    let more : length (log_before r s (i + 1)) ≡ length (log_before r s i) + 1 =
-    length-entries-more r s i ∙ ap (λ b. length (log_before r s i) + (if b then 1 else 0)) own in
-    let later : length (log_before r s (i + 1 + (j - (i + 1)))) ≡ length (log_before r s j) = ap (λ m. length (log_before r s m)) (omega (arith, before)) in
-    omega (arith, more, later, rises r s (i + 1) (j - (i + 1)))
 
 differ : (a b m n : ℕ) → (a ≡ b → ⊥) → (m ≡ n → ⊥) → nat_eq a b ≡ nat_eq m n
 differ a b m n ab mn = grind (arith, nat_tests)

@@ -14,7 +14,7 @@ use Rattle.exercise_model.specs.Recording.{PlainRecording}
 use Rattle.exercise_model.specs.History.{Event, History, event_of, station_of, past, log_at}
 use Rattle.exercise_model.specs.Cause.{sends, was_sent}
 use Rattle.exercise_model.specs.Place.{log_before, own_event}
-use Rattle.exercise_model.proofs.Offered.{past-snoc, past-append, log_before-more, log_before-none}
+use Rattle.exercise_model.proofs.Offered.{past-snoc, past-append, length-entries-more, log_before-none, longer}
 use Rattle.exercise_check.specs.declared.certificate.Step.{Step}
 use Rattle.exercise_check.specs.Order.{chosen, order_of, first_sender}
 use Rattle.exercise_check.specs.Goodness.{no_step}
@@ -69,10 +69,6 @@ pub log_at-order_of-none : (r : PlainRecording) (s : ℕ) → log_at s (order_of
 unfolding order_of chosen past log_at
 log_at-order_of-none r s = refl
 
-longer : (o : Option Event) (h : History) → length (option_map_or (λ v. v ∷ h) o h) ≡ length h + (if is_some o then 1 else 0)
-longer None h = sym (add-zero (length h))
-longer (Some v) h = sym (add-one (length h))
-
 -- how many events of a station steps record
 pub length-steps-more : (r : PlainRecording) (s : ℕ) (steps : List Step) (k : ℕ) → k < length steps
     → length (log_at s (order_of r (take (k + 1) steps))) ≡ length (log_at s (order_of r (take k steps))) +
@@ -93,11 +89,6 @@ length-order-more r s steps step =
 
 pub length-order-none : (r : PlainRecording) (s : ℕ) → length (log_at s (order_of r [])) ≡ 0
 length-order-none r s = length-steps-none r s
-
-pub length-entries-more : (r : PlainRecording) (s i : ℕ)
-    → length (log_before r s (i + 1)) ≡ length (log_before r s i) + (if is_some (own_event r s i) then 1 else 0)
-length-entries-more r s i =
-    ap (λ n. length (log_before r s n)) (add-one i) ∙ ap length (log_before-more r s i) ∙ longer (own_event r s i) (log_before r s i)
 
 pub length-entries-none : (r : PlainRecording) (s : ℕ) → length (log_before r s 0) ≡ 0
 length-entries-none r s = ap length (log_before-none r s)

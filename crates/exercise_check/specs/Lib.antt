@@ -7,3 +7,4 @@ pub mod Judging
 pub mod Checked
 pub mod Certificate
 pub mod FaultText
+pub mod Links

@@ -9,7 +9,8 @@
 //! so far over a log, which judges the next event of a station by them; the search of the crate
 //! above sweeps with it. [`read_certificate`] answers the certificate whose text was read or the
 //! first field that is bad, missing or past the limit, [`write_certificate`] writes that text, and
-//! [`text_and_reading_agree`] and [`refusals_hold`] are the laws that tie them.
+//! [`text_and_reading_agree`] and [`refusals_hold`] are the laws that tie them. By the law
+//! [`links_are_of_the_logs`] good certificates of a recording differ in order alone.
 #![tactic(auto)]
 
 mod certificate;
@@ -21,6 +22,7 @@ mod course;
 mod cursors;
 mod judgement;
 mod laws;
+mod link_laws;
 mod number;
 
 pub use certificate::{Certificate, NO_LINK, Step};
@@ -34,3 +36,4 @@ pub use laws::{
     conversion_keeps_checks, good_steps_have_no_cause, past_the_limit_nothing_counts,
     refusals_hold, text_and_reading_agree,
 };
+pub use link_laws::links_are_of_the_logs;

@@ -2,6 +2,7 @@ mod Acknowledgements
 mod Scopes
 mod Checks
 mod Onward
+mod Lengths
 mod Beginnings
 mod Counting
 mod Changes

@@ -11,6 +11,7 @@ pub use Rattle.exercise_model.proofs.Distinct.{own_rising}
 pub use Rattle.exercise_model.proofs.FirstAnswers.{able_changes, first_able_changes, no_change_keeps, others_keep, received_keeps, told_keeps}
 pub use Rattle.exercise_model.proofs.Heard.{outside_is_stranger, unsent_is_never_sent}
 pub use Rattle.exercise_model.proofs.Knowledge.{entries_known, in_order}
+pub use Rattle.exercise_model.proofs.Lengths.{length-entries-more, longer, passes}
 pub use Rattle.exercise_model.proofs.Onward.{log_before-more, log_before-none, log_steps, past-append, past-snoc}
 pub use Rattle.exercise_model.proofs.Parted.{part_explained}
 pub use Rattle.exercise_model.proofs.Sentences.{explained_holds, had_where_allowed, own_address, sent_rows}

@@ -16,6 +16,7 @@ use Rattle.exercise_model.specs.Place.{first_below}
 use Rattle.exercise_model.specs.Cause.{IsAllowed}
 use Rattle.exercise_model.specs.Run.{IsRun, Explains, Contains}
 use Rattle.exercise_model.proofs.Offered.{explained_holds, own_address, sender_found}
+use Rattle.exercise_findings.proofs.Offered.{recorded_sender}
 use Rattle.exercise_review.specs.declared.word.Word.{Word}
 use Rattle.exercise_review.specs.Entries.{bytes_sent_by, bytes_got_by, bytes_of, bytes_sent, bytes_got, meant_at}
 use Rattle.exercise_review.specs.Order.{OrderData}
@@ -23,7 +24,6 @@ use Rattle.exercise_review.specs.Reply.{is_reply, replies_in, has_reply_in, is_n
 use Rattle.exercise_review.specs.Word.{word_of, settles, word_at, settles_at}
 use Rattle.exercise_review.specs.InRuns.{Replies, Settles, Hears, HearsWord}
 use Rattle.exercise_review.proofs.Events.{entry_of, event_of_entry, got_is, got_event}
-use Rattle.exercise_review.proofs.Recorded.{recorded_sender}
 use Rattle.exercise_review.proofs.Runs.{none_passes, some_passes, there, both, reply_sent, sent_reply}
 
 -- ---- what is meant at an entry

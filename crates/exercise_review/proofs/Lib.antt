@@ -1,5 +1,4 @@
 mod Numbers
-mod Recorded
 mod Brought
 mod Lives
 mod Sides
@@ -33,6 +32,5 @@ mod OneOrder
 mod TakenBy
 mod Telling
 mod Came
-mod GoodLinks
 mod Conversions
 pub mod Offered

@@ -18,8 +18,8 @@ use Rattle.exercise_model.specs.Setting.{is_from, is_recorded, is_open}
 use Rattle.exercise_model.specs.Place.{own_event, log_before, first_below}
 use Rattle.exercise_model.specs.Run.{Explains, Contains}
 use Rattle.exercise_model.specs.Account.{sender_of}
-use Rattle.exercise_model.proofs.Offered.{contains_on, first_found, first_is, log_at-append, outside_is_stranger, own_address}
-use Rattle.exercise_check.proofs.Offered.{passes}
+use Rattle.exercise_model.proofs.Offered.{contains_on, first_found, first_is, log_at-append, outside_is_stranger, own_address, passes}
+use Rattle.exercise_findings.proofs.Offered.{recorded_sender}
 use Rattle.exercise_review.specs.declared.party.Party.{Party}
 use Rattle.exercise_review.specs.declared.party.Party.TheVariants as parties
 use Rattle.exercise_review.specs.Entries.{bytes_got_by, bytes_sent, bytes_got, sent_by, got_by, meant_at}
@@ -30,7 +30,6 @@ use Rattle.exercise_review.specs.Reply.{answers_order, takes_copy, is_reply, is_
 use Rattle.exercise_review.specs.Word.{settles, settles_at}
 use Rattle.exercise_review.specs.Knowing.{is_party_of, is_heard_of, IsHeardSettled, IsReceivedSettled}
 use Rattle.exercise_review.proofs.Events.{own_first, entry_of, event_of_entry, got_event, sent_is, sent_event}
-use Rattle.exercise_review.proofs.Recorded.{recorded_sender}
 use Rattle.exercise_review.proofs.Runs.{some_passes, there, both, meant_in, received_copy, sent_reply, reply_copied}
 use Rattle.exercise_review.proofs.Heard.{allowed_at, meant_got, is_there, news_got, got_news, sent_before}
 use Rattle.exercise_review.proofs.Made.{sent_own}

@@ -18,7 +18,6 @@ pub mod Life
 pub mod InRuns
 pub mod Answering
 pub mod Carried
-pub mod Links
 pub mod Knowing
 pub mod Room
 pub mod Span

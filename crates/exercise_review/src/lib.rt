@@ -12,8 +12,8 @@
 //! [`one_side_is_not_enough`] which fates no single log can tell, [`lives_are_states`] that the
 //! stretches of a life are the states of the entity at each place, [`changes_are_made`] that a change
 //! that is told was carried out, [`managers_know`] that the maker of an order can know of it what is
-//! told to be heard, [`links_are_of_the_logs`] that good certificates differ in order alone, and
-//! [`conversion_keeps_views`] that a converted recording has the review that it had.
+//! told to be heard, and [`conversion_keeps_views`] that a converted recording has the review that it
+//! had.
 //!
 //! A [`Register`] keeps the entries by the orders that they make, bring or take up, and where each
 //! datagram was received. What has to do with an order at a station is looked for among those entries
@@ -36,7 +36,6 @@ mod hints;
 mod keys;
 mod laws;
 mod life;
-mod link_laws;
 mod living;
 mod manager_laws;
 mod missing;
@@ -67,7 +66,6 @@ pub use fault::ReviewFault;
 pub use filter::{EntryName, Filter, Filtered, keeps};
 pub use laws::{fates_hold, lives_are_states, one_side_is_not_enough};
 pub use life::{Stretch, lives_of};
-pub use link_laws::links_are_of_the_logs;
 pub use manager_laws::managers_know;
 pub use missing::missing_at;
 pub use order::{Order, head_of, order_at};

@@ -2,19 +2,17 @@
 
 ghost use Rattle.std.specs.Prelude.{List, OnOk, ◌≡◌};
 ghost use Rattle.exercise_check.specs.Goodness.{IsGood};
+ghost use Rattle.exercise_check.specs.Links.{DifferInOrder};
 ghost use Rattle.exercise_check.specs.declared.certificate.Step.{Step};
 ghost use Rattle.exercise_model.specs.Conversion.{converted};
 ghost use Rattle.exercise_model.specs.Recording.{IsRecording};
 ghost use Rattle.exercise_model.specs.declared.form.Form.TheVariants.{First};
-ghost use Rattle.exercise_review.specs.Links.{DifferInOrder};
 ghost use Rattle.exercise_review.specs.Review.{Reviews};
 
-use exercise_check::{Certificate, CheckFault, check};
+use exercise_check::{Certificate, CheckFault, check, links_are_of_the_logs};
 use exercise_findings::{Account, Findings};
 use exercise_model::{ExerciseLog, Recording};
-use exercise_review::{
-    Review, ReviewFault, conversion_keeps_views, links_are_of_the_logs, review_of,
-};
+use exercise_review::{Review, ReviewFault, conversion_keeps_views, review_of};
 use std::alloc::Global;
 
 /// What one auditor found is what any other certificate says: after a yes, every other good certificate

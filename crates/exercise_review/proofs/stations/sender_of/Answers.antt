@@ -6,7 +6,7 @@ use Rattle.exercise_model.specs.Recording.{PlainRecording}
 use Rattle.exercise_model.specs.History.{station_at}
 use Rattle.exercise_model.specs.Setting.{is_from}
 use Rattle.exercise_review.proofs.Numbers.{first_none, first_still}
-use Rattle.exercise_review.proofs.Recorded.{sender_here, no_sender, recorded_sender}
+use Rattle.exercise_findings.proofs.Offered.{sender_here, no_sender, recorded_sender}
 use Rattle.exercise_review.proofs.stations.sender_of.Goals as goal
 
 pub loop-station-init : goal.loop-station-init

@@ -16,16 +16,18 @@ use Rattle.exercise_model.specs.Setting.{is_recorded}
 use Rattle.exercise_model.specs.Cause.{was_sent, cause_of}
 use Rattle.exercise_model.specs.Place.{event_at, own_event, log_before}
 use Rattle.exercise_model.specs.Account.{pair_of_sent, pair_of_entry, pair_of, sender_of}
-use Rattle.exercise_model.proofs.Offered.{log_before-all, unsent_is_never_sent}
+use Rattle.exercise_model.proofs.Offered.{log_before-all, passes, unsent_is_never_sent}
 use Rattle.exercise_findings.specs.Source.{first_send, source_of_pdu, source_of}
-use Rattle.exercise_findings.proofs.Offered.{entry_within, source_here}
+use Rattle.exercise_findings.proofs.Offered.{entry_within, recorded_sender, source_here}
 use Rattle.exercise_check.specs.declared.certificate.Step.{Step}
 use Rattle.exercise_check.specs.Order.{order_of, first_sender, sender_link, link_of, link_number}
 use Rattle.exercise_check.specs.Judging.{was_taken, if_taken}
 use Rattle.exercise_check.specs.Goodness.{IsGoodStep, GoodBelow, IsGood}
-use Rattle.exercise_check.proofs.Offered.{first_taken, good_explains, good_step, is_some-first_sender, length-steps-more, length-steps-none, passes, same_rank}
-use Rattle.exercise_review.specs.Links.{log_link, step_at, NameOnce, DifferInOrder}
-use Rattle.exercise_review.proofs.Recorded.{recorded_sender}
+use Rattle.exercise_check.specs.Links.{log_link, step_at, NameOnce, DifferInOrder}
+use Rattle.exercise_check.proofs.Explained.{good_explains}
+use Rattle.exercise_check.proofs.FirstSenders.{first_taken, same_rank}
+use Rattle.exercise_check.proofs.Goodness.{good_step}
+use Rattle.exercise_check.proofs.Orders.{is_some-first_sender, length-steps-more, length-steps-none}
 
 -- ---- links
 

@@ -1,5 +1,5 @@
-use Rattle.exercise_review.proofs.GoodLinks.{links_said, named_once, differ_in_order}
-use Rattle.exercise_review.proofs.link_laws.links_are_of_the_logs.Goals as goal
+use Rattle.exercise_check.proofs.GoodLinks.{links_said, named_once, differ_in_order}
+use Rattle.exercise_check.proofs.link_laws.links_are_of_the_logs.Goals as goal
 
 pub returns-clause-links : goal.returns-clause-links
 returns-clause-links c = links_said

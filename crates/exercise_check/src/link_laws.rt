@@ -6,7 +6,7 @@ ghost use Rattle.exercise_model.specs.Recording.{PlainRecording, IsRecording};
 ghost use Rattle.exercise_check.specs.declared.certificate.Step.{Step};
 ghost use Rattle.exercise_check.specs.Order.{link_number};
 ghost use Rattle.exercise_check.specs.Goodness.{IsGood};
-ghost use Rattle.exercise_review.specs.Links.{log_link, step_at, NameOnce, DifferInOrder};
+ghost use Rattle.exercise_check.specs.Links.{log_link, step_at, NameOnce, DifferInOrder};
 
 /// The law of links: each link of a good certificate is what the logs say of its entry, of an answer
 /// that was sent its pair, of what was received its source, and of all else none; and a good

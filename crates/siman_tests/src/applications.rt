@@ -44,19 +44,6 @@ fn station(alloc: Global) -> Option<Station> {
     Station::new(Address::new(2, 3)?, Vec::new(alloc))
 }
 
-/// The variable datum 5 alone, which has the 40 bits 48454C4C4F.
-fn hello(alloc: Global) -> Option<Vec<VariableDatum>> {
-    let bytes = Vec::from_slice(alloc, b"HELLO").ok()?;
-    let datum = VariableDatum::new(5, 40, bytes).ok()?;
-    vec![in alloc; datum].ok()
-}
-
-/// An application of exercise 1 at 2:3 that holds it.
-fn begin(alloc: Global) -> Option<Application> {
-    let (station, variable) = (station(alloc)?, hello(alloc)?);
-    Application::begin(alloc, 1, &station, &[], variable, &[]).ok()
-}
-
 /// Whether a datagram, taken with a timestamp, is answered by this one.
 fn is_answered(
     alloc: Global,
@@ -75,26 +62,23 @@ fn is_answered(
     }
 }
 
-/// How many bits the variable datum has that is held under an identifier.
-fn bits(application: &Application, id: u32) -> Option<u32> {
-    Some(application.variable(id)?.bits())
-}
-
-/// Whether an application that holds the variable datum 5 answers a query for 5 and 6, sets 5, and
-/// answers a copy of the query as it did at first, with the timestamp of then.
-fn answers_copies(alloc: Global) -> bool {
-    let Some(mut application) = begin(alloc) else {
-        return false;
-    };
-    let application = &mut application;
-    let asked = is_answered(alloc, application, &VARIABLE_QUERY, 0, &VARIABLE_DATA);
-    let set = is_answered(alloc, application, &VARIABLE_SETTING, 0, &VARIABLE_SET);
-    let held = (bits(application, 5), bits(application, 6)) == (Some(8), None);
-    let again = is_answered(alloc, application, &VARIABLE_QUERY, 4, &VARIABLE_AGAIN);
-    asked && set && held && again
-}
-
+/// An application of exercise 1 at 2:3 that holds the variable datum 5, which has the 40 bits 48454C4C4F,
+/// answers a query for 5 and 6, sets 5, and answers a copy of the query as it did at first, with the
+/// timestamp of then.
 #[test]
 fn a_query_that_comes_again_gets_its_first_answer(rt: HostRuntime) {
-    assert!(rt; answers_copies(rt.alloc()));
+    let alloc = rt.alloc();
+    let hello = Vec::from_slice(alloc, b"HELLO").expect(&rt, "there is memory");
+    let datum = VariableDatum::new(5, 40, hello)
+        .ok()
+        .expect(&rt, "it is a datum");
+    let held = vec![in alloc; datum].expect(&rt, "there is memory");
+    let place = station(alloc).expect(&rt, "it is a station");
+    let begun = Application::begin(alloc, 1, &place, &[], held, &[]);
+    let mut application = begun.expect(&rt, "there is memory");
+    assert!(rt; is_answered(alloc, &mut application, &VARIABLE_QUERY, 0, &VARIABLE_DATA));
+    assert!(rt; is_answered(alloc, &mut application, &VARIABLE_SETTING, 0, &VARIABLE_SET));
+    let five = application.variable(5).expect(&rt, "it is held");
+    assert!(rt; five.bits() == 8 && application.variable(6).is_none());
+    assert!(rt; is_answered(alloc, &mut application, &VARIABLE_QUERY, 4, &VARIABLE_AGAIN));
 }

@@ -34,8 +34,4 @@ mod reviews;
 #[cfg(test)]
 mod scripts;
 #[cfg(test)]
-mod sessions;
-#[cfg(test)]
-mod tallies;
-#[cfg(test)]
 mod worlds;

@@ -6,9 +6,8 @@ ghost use Rattle.siman_pdus.specs.Role.{is_request_body};
 
 use dis_records::{Address, EntityId, Version};
 use siman_manager::Taken::{Answered, Foreign, Pending, Repeat};
-use siman_manager::{Manager, Order, Taken};
+use siman_manager::{Manager, Order};
 use siman_pdus::{Body, Pdu};
-use std::alloc::Global;
 
 /// The station that is ordered about.
 const STATION: EntityId = EntityId {
@@ -51,22 +50,8 @@ fn acknowledge(exercise: u8, response: u16, request: u32) -> Pdu {
     }
 }
 
-/// An exercise, a response and a request identifier, and what an Acknowledge of them means.
-type Row = (u8, u16, u32, Taken);
-
-/// Whether a manager of exercise 3 that ordered a creation under 1 takes what comes so.
-fn takes(alloc: Global, rows: &[Row]) -> bool {
-    let Some(address) = Address::new(2, 5) else {
-        return false;
-    };
-    let mut manager = Manager::begin(alloc, 3, address, 1, 2, 10);
-    let mut good = manager.request(creation(), 0, 70).is_ok();
-    for (exercise, response, request, taken) in rows {
-        good = manager.take(&acknowledge(*exercise, *response, *request)) == *taken && good;
-    }
-    good
-}
-
+/// Of an Acknowledge: an exercise, a response and a request identifier, and what it means to a manager of
+/// exercise 3 that ordered a creation under 1.
 #[test]
 fn only_what_settles_an_order_changes_it(rt: HostRuntime) {
     let rows = [
@@ -76,5 +61,10 @@ fn only_what_settles_an_order_changes_it(rt: HostRuntime) {
         (3, 2, 1, Answered(1)),
         (3, 1, 1, Repeat(1)),
     ];
-    assert!(rt; takes(rt.alloc(), &rows));
+    let address = Address::new(2, 5).expect(&rt, "it is an address");
+    let mut manager = Manager::begin(rt.alloc(), 3, address, 1, 2, 10);
+    assert!(rt; manager.request(creation(), 0, 70).is_ok());
+    for (exercise, response, request, taken) in rows {
+        assert!(rt; manager.take(&acknowledge(exercise, response, request)) == taken);
+    }
 }

@@ -2,8 +2,7 @@
 //! they say stands in the cases of `siman_cases`.
 
 use dis_records::Version;
-use siman_pdus::{Pdu, Role, answers, decode, encode, request_id, role, view};
-use std::alloc::Global;
+use siman_pdus::{Role, answers, decode, encode, request_id, role, view};
 
 /// Site, application and entity number.
 type Id = [u8; 6];
@@ -38,18 +37,13 @@ fn acknowledge(from: Id, to: Id, flag: u8, request: u8) -> [u8; 32] {
     ]
 }
 
-/// The role and the request identifier of a datagram's PDU, if it is one.
-fn exchange(datagram: &[u8]) -> Option<(Role, Option<u32>)> {
-    match view(datagram) {
-        Ok(pdu) => Some((role(&pdu), request_id(&pdu))),
-        Err(_) => None,
-    }
-}
-
 #[test]
 fn roles_and_request_identifiers(rt: HostRuntime) {
-    assert!(rt; exchange(&removal(ENTITY)) == Some((Role::Request, Some(1))));
-    assert!(rt; exchange(&REPORT) == Some((Role::Notice, None)));
+    let order = removal(ENTITY);
+    let order = view(&order).expect(&rt, "it is a PDU");
+    let report = view(&REPORT).expect(&rt, "it is a PDU");
+    assert!(rt; role(&order) == Role::Request && request_id(&order) == Some(1));
+    assert!(rt; role(&report) == Role::Notice && request_id(&report).is_none());
     let flags = [
         (0, Role::Outside),
         (1, Role::Answer),
@@ -58,15 +52,8 @@ fn roles_and_request_identifiers(rt: HostRuntime) {
     ];
     for (flag, expected) in flags {
         let answer = acknowledge(ENTITY, MANAGER, flag, 9);
-        assert!(rt; exchange(&answer) == Some((expected, Some(9))));
-    }
-}
-
-/// Whether the first datagram's PDU answers that of the second, if both are PDUs.
-fn is_answered(answer: &[u8], order: &[u8]) -> Option<bool> {
-    match (view(answer), view(order)) {
-        (Ok(answer), Ok(order)) => Some(answers(&answer, &order)),
-        _ => None,
+        let answer = view(&answer).expect(&rt, "it is a PDU");
+        assert!(rt; role(&answer) == expected && request_id(&answer) == Some(9));
     }
 }
 
@@ -90,28 +77,14 @@ fn an_answer_fits_its_request(rt: HostRuntime) {
         (everybody, other_station, MANAGER, 2, 1, true),
     ];
     for (target, from, to, flag, request, fits) in rows {
-        let answer = acknowledge(from, to, flag, request);
-        assert!(rt; is_answered(&answer, &removal(target)) == Some(fits));
+        let (answer, order) = (acknowledge(from, to, flag, request), removal(target));
+        let answer = view(&answer).expect(&rt, "it is a PDU");
+        let order = view(&order).expect(&rt, "it is a PDU");
+        assert!(rt; answers(&answer, &order) == fits);
     }
-    assert!(rt; is_answered(&removal(ENTITY), &removal(ENTITY)) == Some(false));
-}
-
-/// Whether a PDU is written as these bytes.
-fn is_text(alloc: Global, pdu: &Pdu, bytes: &[u8]) -> bool {
-    let mut out = Vec::new(alloc);
-    encode(pdu, &mut out).is_ok() && out.as_slice() == bytes
-}
-
-/// Whether the removal of entity 7 in protocol version 6, with a status, is written as these bytes.
-fn is_written(alloc: Global, status: u8, bytes: &[u8]) -> bool {
-    match decode(alloc, &removal(ENTITY)) {
-        Ok(mut pdu) => {
-            pdu.version = Version::V6;
-            pdu.status = status;
-            is_text(alloc, &pdu, bytes)
-        }
-        Err(_) => false,
-    }
+    let order = removal(ENTITY);
+    let order = view(&order).expect(&rt, "it is a PDU");
+    assert!(rt; !answers(&order, &order));
 }
 
 #[test]
@@ -119,6 +92,12 @@ fn version_6_is_written_without_a_status(rt: HostRuntime) {
     let bytes = [
         6, 1, 12, 5, 0, 0, 0, 0, 0, 28, 0, 0, 0, 1, 0, 1, 0, 0, 0, 2, 0, 3, 0, 7, 0, 0, 0, 1,
     ];
-    assert!(rt; is_written(rt.alloc(), 0, &bytes));
-    assert!(rt; is_written(rt.alloc(), 9, &bytes));
+    for status in [0, 9] {
+        let mut pdu = decode(rt.alloc(), &removal(ENTITY)).expect(&rt, "it is a PDU");
+        pdu.version = Version::V6;
+        pdu.status = status;
+        let mut out = Vec::new(rt.alloc());
+        assert!(rt; encode(&pdu, &mut out).is_ok());
+        assert!(rt; out.as_slice() == bytes.as_slice());
+    }
 }

@@ -1,34 +1,6 @@
-//! The scope of entity numbers, and variable datums that are refused.
+//! Variable datums, and bytes that are refused as one.
 
-use dis_records::{DatumFault, Kind, Scope, VariableDatum, fits, scope};
-use std::alloc::Global;
-
-/// The scope of two entity numbers, if they fit.
-fn scope_of(kind: Kind, receiving: u16, originating: u16) -> Option<Scope> {
-    if fits(kind, receiving, originating) {
-        Some(scope(kind, receiving, originating))
-    } else {
-        None
-    }
-}
-
-#[test]
-fn entity_numbers_fit_and_have_a_scope(rt: HostRuntime) {
-    // A kind, a receiving and an originating entity number, and the scope of both, if they fit.
-    let rows = [
-        (Kind::StartResume, 7, 7, Some(Scope::One(7))),
-        (Kind::StartResume, 7, 0, Some(Scope::One(7))),
-        (Kind::StartResume, 65535, 7, Some(Scope::One(7))),
-        (Kind::CreateEntity, 65534, 9, Some(Scope::One(9))),
-        (Kind::StopFreeze, 65534, 65534, Some(Scope::One(65534))),
-        (Kind::StartResume, 7, 8, None),
-        (Kind::StopFreeze, 65534, 9, None),
-        (Kind::CreateEntity, 65534, 0, Some(Scope::All)),
-    ];
-    for (kind, receiving, originating, expected) in rows {
-        assert!(rt; scope_of(kind, receiving, originating) == expected);
-    }
-}
+use dis_records::{DatumFault, VariableDatum};
 
 /// What is said of bytes as a datum of identifier 5 and of so many bits, where it says what it was
 /// built of, or hands the bytes back.
@@ -48,14 +20,6 @@ fn said(bits: u32, bytes: Vec<u8>, same: &[u8]) -> &'static str {
     }
 }
 
-/// Whether this is said of these bytes.
-fn is_said(alloc: Global, bits: u32, bytes: &[u8], wanted: &str) -> bool {
-    match Vec::from_slice(alloc, bytes) {
-        Ok(owned) => said(bits, owned, bytes) == wanted,
-        Err(_) => false,
-    }
-}
-
 #[test]
 fn variable_datums_hold_no_unused_bits(rt: HostRuntime) {
     let rows: [(u32, &[u8], &str); 4] = [
@@ -65,6 +29,7 @@ fn variable_datums_hold_no_unused_bits(rt: HostRuntime) {
         (12, &[0xAB], "wrong size"),
     ];
     for (bits, bytes, wanted) in rows {
-        assert!(rt; is_said(rt.alloc(), bits, bytes, wanted));
+        let owned = Vec::from_slice(rt.alloc(), bytes).expect(&rt, "there is memory");
+        assert!(rt; said(bits, owned, bytes) == wanted);
     }
 }

@@ -1,52 +1,14 @@
 //! Moves and stations that no script can tell of.
 
-use dis_records::{Address, EntityId};
-use exercise_model::Station;
+use dis_records::EntityId;
 use siman_manager::Order;
 use siman_pdus::{Body, Datums};
-use siman_scripts::{Act, Move, WorldStation};
+use siman_scripts::{Act, Move, Script, read_script};
 use siman_worlds::{MoveFault, WorldFault, run_world};
 use std::alloc::Global;
 
-/// A station at 1:1.
-fn world_station(alloc: Global, tries: u32) -> Option<WorldStation> {
-    let address = Address::new(1, 1)?;
-    let station = Station::new(address, Vec::new(alloc))?;
-    Some(WorldStation {
-        station,
-        first_id: 1,
-        tries,
-        wait: 10,
-        fixed: Vec::new(alloc),
-        variable: Vec::new(alloc),
-        actions: Vec::new(alloc),
-    })
-}
-
-/// So many equal stations at 1:1.
-fn stations(alloc: Global, count: usize, tries: u32) -> Option<Vec<WorldStation>> {
-    let mut stations = Vec::new(alloc);
-    for _ in 0..count {
-        stations.push(world_station(alloc, tries)?).ok()?;
-    }
-    Some(stations)
-}
-
-/// The fault at which a world of so many equal stations stops that makes no move.
-fn refusal(alloc: Global, count: usize, tries: u32) -> Option<WorldFault> {
-    run_world(alloc, 1, stations(alloc, count, tries)?, Vec::new(alloc)).err()
-}
-
-/// Why the only station of a world can't make a move, as that of an index.
-fn barred(alloc: Global, station: u16, act: Act) -> Option<WorldFault> {
-    let step = Move {
-        now: 0,
-        station,
-        act,
-    };
-    let moves = vec![in alloc; step].ok()?;
-    run_world(alloc, 1, stations(alloc, 1, 1)?, moves).err()
-}
+/// A station at 1:1 that makes no move.
+const ALONE: &[u8] = b"exercise 1\nstation 1:1\n";
 
 /// A Comment to all stations.
 fn comment(alloc: Global) -> Act {
@@ -64,27 +26,39 @@ fn comment(alloc: Global) -> Act {
     })
 }
 
+/// No station, one that never sends an order, and two that are equal.
 #[test]
 fn stations_are_refused(rt: HostRuntime) {
+    let alloc = rt.alloc();
     for (count, tries) in [(0, 1), (1, 0), (2, 1)] {
-        assert!(rt; refusal(rt.alloc(), count, tries) == Some(WorldFault::Stations));
+        let mut stations = Vec::new(alloc);
+        for _ in 0..count {
+            let mut script = read_script(alloc, ALONE).expect(&rt, "it is a script");
+            let mut station = script.stations.pop().expect(&rt, "it has a station");
+            station.tries = tries;
+            stations.push(station).expect(&rt, "there is memory");
+        }
+        let refusal = run_world(alloc, 1, stations, Vec::new(alloc)).err();
+        assert!(rt; refusal == Some(WorldFault::Stations));
     }
+}
+
+/// Why the only station of a world can't make a move, as that of an index.
+fn barred(alloc: Global, station: u16, act: Act) -> Option<WorldFault> {
+    let Script { stations, .. } = read_script(alloc, ALONE).ok()?;
+    let step = Move {
+        now: 0,
+        station,
+        act,
+    };
+    let moves = vec![in alloc; step].ok()?;
+    run_world(alloc, 1, stations, moves).err()
 }
 
 #[test]
 fn moves_are_refused(rt: HostRuntime) {
-    let alloc = rt.alloc();
-    let faults = [
-        barred(alloc, 0, Act::Deliver(0)),
-        barred(alloc, 0, Act::Tell(0)),
-        barred(alloc, 1, Act::Tell(0)),
-        barred(alloc, 0, comment(alloc)),
-    ];
-    let wanted = [
-        Some(WorldFault::Move(0, MoveFault::NoSuchSend)),
-        Some(WorldFault::Move(0, MoveFault::NoSuchEntity)),
-        Some(WorldFault::Move(0, MoveFault::NoSuchStation)),
-        Some(WorldFault::Move(0, MoveFault::NotARequest)),
-    ];
-    assert!(rt; faults == wanted);
+    let nowhere = WorldFault::Move(0, MoveFault::NoSuchStation);
+    let no_order = WorldFault::Move(0, MoveFault::NotARequest);
+    assert!(rt; barred(rt.alloc(), 1, Act::Tell(0)) == Some(nowhere));
+    assert!(rt; barred(rt.alloc(), 0, comment(rt.alloc())) == Some(no_order));
 }

@@ -40,19 +40,12 @@ fn begin_to_answer(
     Application::begin(alloc, exercise, station, &[], Vec::new(alloc), &[])
 }
 
-/// Whether entity 7 is absent in an application at a station without entities that begins to answer
-/// its creation, once the order of [`START`] is sent.
-fn is_absent(alloc: Global) -> bool {
-    let Some(station) = station(alloc) else {
-        return false;
-    };
-    match begin_to_answer(alloc, 1, &station, &START, &CREATE, 0) {
-        Ok(application) => application.state(7) == EntityState::Absent,
-        Err(_) => false,
-    }
-}
-
+/// Entity 7 is absent in an application at a station without entities that begins to answer its creation,
+/// once the order of [`START`] is sent.
 #[test]
 fn an_answer_stands(rt: HostRuntime) {
-    assert!(rt; is_absent(rt.alloc()));
+    let station = station(rt.alloc()).expect(&rt, "there is memory");
+    let begun = begin_to_answer(rt.alloc(), 1, &station, &START, &CREATE, 0);
+    let application = begun.expect(&rt, "there is memory");
+    assert!(rt; application.state(7) == EntityState::Absent);
 }

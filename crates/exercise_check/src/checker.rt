@@ -146,7 +146,7 @@ pub fn check<L: ExerciseLog>(
 }
 
 /// A step of a certificate that is bad.
-#[derive(Clone, Copy, Debug, PartialEq, Eq)]
+#[derive(Clone, Copy, PartialEq, Eq)]
 pub struct BadStep {
     /// The step, from 0.
     pub step: usize,

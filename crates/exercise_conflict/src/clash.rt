@@ -5,7 +5,7 @@ use dis_records::{EntityId, EntityState};
 
 /// Why an answer does not answer the request that it takes up. There is no third reason: the rest is
 /// what makes it take up that request.
-#[derive(Clone, Copy, Debug, PartialEq, Eq)]
+#[derive(Clone, Copy, PartialEq, Eq)]
 pub enum Unfit {
     /// Its kind is not one that answers requests of that kind.
     Kind,

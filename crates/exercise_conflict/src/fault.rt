@@ -14,7 +14,7 @@ use exercise_model::ExerciseLog;
 use std::alloc::{AllocError, Global};
 
 /// Whose fault it is that a certificate of a recording is not good.
-#[derive(Clone, Copy, Debug, PartialEq, Eq)]
+#[derive(Clone, Copy, PartialEq, Eq)]
 pub enum Fault {
     /// The certificate's: some run explains the recording.
     Certificate,

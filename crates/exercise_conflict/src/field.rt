@@ -6,7 +6,7 @@ ghost use Rattle.exercise_conflict.specs.FieldText.{field_text};
 use std::fmt;
 
 /// A thing in which one datagram can differ from another.
-#[derive(Clone, Copy, Debug, PartialEq, Eq)]
+#[derive(Clone, Copy, PartialEq, Eq)]
 pub enum Field {
     /// The protocol version.
     Version,

@@ -17,7 +17,7 @@ use siman_pdus::PduView;
 use std::alloc::{AllocError, Global};
 
 /// A send that a log lacks.
-#[derive(Clone, Copy, Debug, PartialEq, Eq)]
+#[derive(Clone, Copy, PartialEq, Eq)]
 pub struct Lack {
     /// The first entry that receives the datagram.
     pub entry: usize,

@@ -17,7 +17,7 @@ use std::alloc::{AllocError, Global};
 use std::fmt;
 
 /// Whether missing sends, each at its place, are enough.
-#[derive(Clone, Copy, Debug, PartialEq, Eq)]
+#[derive(Clone, Copy, PartialEq, Eq)]
 pub enum Enough {
     /// Some run explains the recording with them.
     Yes,
@@ -53,7 +53,7 @@ impl fmt::Display for Enough {
 }
 
 /// How many sends the logs lack, and whether these are enough.
-#[derive(Clone, Copy, Debug, PartialEq, Eq)]
+#[derive(Clone, Copy, PartialEq, Eq)]
 pub struct Repair {
     /// How many.
     pub sends: usize,

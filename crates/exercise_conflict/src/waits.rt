@@ -10,7 +10,7 @@ use std::alloc::{AllocError, Global};
 
 /// What a blocked station waits for. Stations are named by their indices in the recording, entries by
 /// their numbers, both from 0.
-#[derive(Clone, Copy, Debug, PartialEq, Eq)]
+#[derive(Clone, Copy, PartialEq, Eq)]
 pub struct Wait {
     /// Its next entry, which receives a datagram.
     pub entry: usize,

@@ -34,7 +34,7 @@ pub enum Way {
 }
 
 /// An entry that has a cause against it by the log of its station, beside a blocked list.
-#[derive(Clone, Copy, Debug, PartialEq, Eq)]
+#[derive(Clone, Copy, PartialEq, Eq)]
 pub struct Also {
     /// The entry.
     pub entry: usize,

@@ -1,7 +1,7 @@
 //! A send that a log lacks.
 
 /// A send that a log lacks.
-#[derive(Clone, Copy, Debug, PartialEq, Eq)]
+#[derive(Clone, Copy, PartialEq, Eq)]
 pub struct Missing {
     /// The recorded station that the datagram comes from, by its index.
     pub sender: u16,

@@ -17,7 +17,7 @@ use std::fmt;
 
 /// What became of an order at a party of it. Each row is judged only where every log that it asks
 /// is there.
-#[derive(Clone, Copy, Debug, PartialEq, Eq)]
+#[derive(Clone, Copy, PartialEq, Eq)]
 pub enum Fate {
     /// The maker heard an answer of the party that settles, and that says able, complete or data.
     Done,
@@ -40,7 +40,7 @@ pub enum Fate {
 }
 
 /// What the logs of the maker and of a recorded party say of an order.
-#[derive(Clone, Copy, Debug, PartialEq, Eq)]
+#[derive(Clone, Copy, PartialEq, Eq)]
 pub struct Traces {
     /// Whether the maker is recorded.
     pub made: bool,

@@ -20,14 +20,14 @@ use exercise_model::{ExerciseLog, Form};
 use siman_pdus::{PduView, answers};
 
 /// A site and an application, each 0..=0xFFFF: those of an address that nobody recorded.
-#[derive(Clone, Copy, Debug, PartialEq, Eq)]
+#[derive(Clone, Copy, PartialEq, Eq)]
 pub struct Outsider {
     pub site: u16,
     pub application: u16,
 }
 
 /// Whom an order is for, or who answered it.
-#[derive(Clone, Copy, Debug, PartialEq, Eq)]
+#[derive(Clone, Copy, PartialEq, Eq)]
 pub enum Party {
     /// A recorded station, by its index.
     Station(u16),

@@ -18,7 +18,7 @@ use std::fmt;
 
 /// What an answer says: the response flag of an Acknowledge, the request status of an Action
 /// Response, or that it is a Data.
-#[derive(Clone, Copy, Debug, PartialEq, Eq)]
+#[derive(Clone, Copy, PartialEq, Eq)]
 pub enum Word {
     /// Response flag 0, or request status 0.
     Other,

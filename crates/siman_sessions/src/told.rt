@@ -10,7 +10,7 @@ use siman_posts::PrintFault;
 use std::io::Write;
 
 /// What a session told so far.
-#[derive(Clone, Copy, Debug, PartialEq, Eq)]
+#[derive(Clone, Copy, PartialEq, Eq)]
 pub struct Told {
     /// The worst status: 3 where memory ran out, else 2 where anything failed or was not done, else 0.
     pub status: u8,

@@ -28,9 +28,3 @@ line-of-same line old new given own step same = subst (λ x. new ≡ old ++ line
 -- the entities of a station that is there
 pub states_of-station : (r : PlainRecording) (s : ℕ) → s < length r.setting.stations → states_of r s ≡ entities_of r s
 states_of-station r s within = ap (λ b. cond b (entities_of r s) []) (lt-ltb s (length r.setting.stations) within)
-
--- three texts, each behind the one before
-pub three_behind : (old a b c l m n : List ℕ) → l ≡ old ++ a → m ≡ l ++ b → n ≡ m ++ c → n ≡ old ++ (a ++ (b ++ (c ++ [])))
-three_behind old a b c l m n first second third =
-    third ∙ ap (λ x. x ++ c) (second ∙ ap (λ x. x ++ b) first) ∙ append_assoc (old ++ a) b c ∙ append_assoc old a (b ++ c)
-    ∙ ap (λ x. old ++ (a ++ (b ++ x))) (sym (append-nil c))

@@ -7,31 +7,25 @@
 //! many; what a certificate explains [`report_text`], and what it does not [`no_line`]. Each contract
 //! gives the text to the byte, by the definitions of the pages `Head`, `Records`, `EntryLines` and
 //! `Report`. The law [`keys_come_once`] says that no line has a key twice. What is told of orders and
-//! of logs stands above, over the fields of a line that are written straight: [`put_keyed`],
-//! [`put_number_behind`] and those like them.
+//! of logs stands above, over lines that are made in place: what there may be is a field of one by
+//! [`add_entry_option`] and those like it.
 #![tactic(auto)]
 
 mod count_line;
 mod counts;
+mod entry_fields;
 mod entry_lines;
-mod entry_text;
 mod head;
-mod head_text;
 mod keys;
-mod numbers;
-mod perhaps;
-mod plain;
+mod options;
 mod records;
 mod report;
 
 pub use count_line::counted;
 pub use counts::{counts_line, put_form};
-pub use entry_lines::{put_entry, put_station};
-pub use entry_text::put_entry_text;
+pub use entry_lines::{put_entry, put_entry_text, put_station};
 pub use head::{kind_of, put_head};
 pub use keys::keys_come_once;
-pub use numbers::{put_keyed, put_keyed_clock, put_keyed_entry, put_keyed_option};
-pub use perhaps::{add_clock, add_entry, add_option};
-pub use plain::{put_address_behind, put_entity_behind, put_number_after, put_number_behind};
+pub use options::{add_clock_option, add_entry_option, add_number_option};
 pub use records::pdu_lines;
 pub use report::{no_line, report_text};

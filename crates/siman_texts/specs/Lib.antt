@@ -1,4 +1,5 @@
 pub mod Line
 pub mod Keys
 pub mod Spelled
+pub mod InPlace
 pub mod Lent

@@ -3,10 +3,11 @@
 //!
 //! It makes no line and opens no file. The layer above makes a [`Line`] of borrowed words and calls [`put_line`], or the
 //! three calls that it is made of; their contracts give the bytes in either spelling, as functions of one line. Where
-//! lines are many and text is what is wanted, it makes one in place, in a [`TextLine`], by pieces that take no memory.
+//! lines are many, one is made in place, in a [`TextLine`], by pieces that take no memory and know both spellings.
 #![tactic(auto)]
 
 mod field;
+mod in_place;
 mod json;
 mod line;
 mod spelling;
@@ -15,11 +16,14 @@ mod text_line;
 mod value;
 
 pub use field::Field;
+pub use in_place::{
+    add_bare, add_bare_entity, add_bare_kind, add_bare_state, add_bare_word, add_keyed,
+    add_keyed_clock, add_keyed_entity, add_keyed_missing, add_keyed_named, add_keyed_state,
+    add_keyed_time, begin_line, close_word, end_line, open_bare_word, open_keyed_word,
+};
 pub use line::{
     Line, named_line, put_end, put_field, put_fields, put_line, put_named, put_opening,
 };
 pub use spelling::Spelling;
-pub use text_line::{
-    TextLine, add_entity, add_kind, add_missing, add_number, add_number_behind, add_state, add_time,
-};
+pub use text_line::{TextLine, add_address, add_entity, add_number, add_number_behind, add_state};
 pub use value::Value;

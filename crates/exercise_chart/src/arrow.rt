@@ -13,7 +13,7 @@ use std::alloc::{AllocError, Global};
 
 /// A receipt with its source: the first entry of the sender that has the same bytes. One of them at
 /// least is in a row; the other may lie beyond the edge.
-#[derive(Clone, Copy, PartialEq, Eq)]
+#[derive(Clone, Copy)]
 pub struct Arrow {
     pub from: Point,
     pub to: Point,

@@ -19,7 +19,7 @@ pub const MOST_ENTITIES: usize = 8;
 pub const MOST_STRETCHES: usize = 4_194_304;
 
 /// A stretch of an entity's life, in which it had one state other than Absent.
-#[derive(Clone, Copy, PartialEq, Eq)]
+#[derive(Clone, Copy)]
 pub struct Bar {
     /// The index of the station.
     pub station: u16,

@@ -14,7 +14,7 @@ use siman_pdus::PduView;
 use std::alloc::{AllocError, Global};
 
 /// A datagram that a recorded station did not receive, which it addresses.
-#[derive(Clone, Copy, PartialEq, Eq)]
+#[derive(Clone, Copy)]
 pub struct Loss {
     /// The first entry that sent its bytes, in a row.
     pub from: Point,

@@ -17,7 +17,7 @@ use siman_pdus::PduView;
 use std::alloc::{AllocError, Global};
 
 /// A receipt in a row of what came from an address that nobody recorded.
-#[derive(Clone, Copy, PartialEq, Eq)]
+#[derive(Clone, Copy)]
 pub struct FromOutside {
     pub by: Outsider,
     pub to: Point,

@@ -4,7 +4,7 @@ ghost use Rattle.std.specs.Prelude.{◌≡◌, ◌≤◌, ◌-◌};
 
 /// An entry of a recording where a certificate has it: with the step that takes it and the station
 /// that it is of. Entries and steps are numbers from 0; the station is an index.
-#[derive(Clone, Copy, PartialEq, Eq)]
+#[derive(Clone, Copy)]
 pub struct Point {
     pub entry: usize,
     /// The first step that takes it; past the last step where none does.
@@ -13,7 +13,7 @@ pub struct Point {
 }
 
 /// The steps that are shown, each a row: from the first on, and before the end.
-#[derive(Clone, Copy, PartialEq, Eq)]
+#[derive(Clone, Copy)]
 pub struct Rows {
     pub first: usize,
     pub end: usize,

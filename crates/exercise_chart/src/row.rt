@@ -15,7 +15,7 @@ use exercise_review::head_of;
 use std::alloc::{AllocError, Global};
 
 /// Whether a datagram was sent before.
-#[derive(Clone, Copy, PartialEq, Eq)]
+#[derive(Clone, Copy)]
 pub enum Again {
     /// It was not.
     No,
@@ -26,7 +26,7 @@ pub enum Again {
 }
 
 /// What a station did.
-#[derive(Clone, Copy, PartialEq, Eq)]
+#[derive(Clone, Copy)]
 pub enum Did {
     /// It sent a PDU of the exercise.
     Sent(Saying, Again),
@@ -41,7 +41,7 @@ pub enum Did {
 }
 
 /// A row: a step, the entry that it takes, and what the station of that did.
-#[derive(Clone, Copy, PartialEq, Eq)]
+#[derive(Clone, Copy)]
 pub struct Row {
     pub at: Point,
     pub did: Did,

@@ -9,7 +9,7 @@ use exercise_review::Word;
 use siman_pdus::{Message, PduView, request_id};
 
 /// What is told of a PDU: its kind, from whom to whom it goes, and what it asks or answers.
-#[derive(Clone, Copy, PartialEq, Eq)]
+#[derive(Clone, Copy)]
 pub struct Saying {
     pub kind: Kind,
     /// The originating identifier.

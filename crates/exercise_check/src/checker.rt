@@ -146,7 +146,7 @@ pub fn check<L: ExerciseLog>(
 }
 
 /// A step of a certificate that is bad.
-#[derive(Clone, Copy, PartialEq, Eq)]
+#[derive(Clone, Copy)]
 pub struct BadStep {
     /// The step, from 0.
     pub step: usize,

@@ -39,7 +39,7 @@ impl<'a, L: ExerciseLog> Model for Course<'a, L> {
 }
 
 /// What going on by an entry comes to.
-#[derive(Clone, Copy, PartialEq, Eq)]
+#[derive(Clone, Copy)]
 pub enum Progress {
     /// It was taken: its event is allowed, and this is the link of its step, as a certificate
     /// writes it.

@@ -10,7 +10,7 @@ use std::alloc::{AllocError, Global};
 
 /// What a blocked station waits for. Stations are named by their indices in the recording, entries by
 /// their numbers, both from 0.
-#[derive(Clone, Copy, PartialEq, Eq)]
+#[derive(Clone, Copy)]
 pub struct Wait {
     /// Its next entry, which receives a datagram.
     pub entry: usize,

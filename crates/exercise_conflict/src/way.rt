@@ -18,7 +18,7 @@ use exercise_model::{Cause, ExerciseLog};
 use std::alloc::{AllocError, Global};
 
 /// What a blocked station comes to: it waits, or it contradicts something.
-#[derive(Clone, Copy, PartialEq, Eq)]
+#[derive(Clone, Copy)]
 pub enum Way {
     /// It waits on a station that is blocked too.
     Waits(Wait),
@@ -34,7 +34,7 @@ pub enum Way {
 }
 
 /// An entry that has a cause against it by the log of its station, beside a blocked list.
-#[derive(Clone, Copy, PartialEq, Eq)]
+#[derive(Clone, Copy)]
 pub struct Also {
     /// The entry.
     pub entry: usize,

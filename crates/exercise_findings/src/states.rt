@@ -19,7 +19,7 @@ pub(crate) const PAGE: u16 = 256;
 pub(crate) const PAGES: u16 = 256;
 
 /// The state of an entity that was set by itself.
-#[derive(Clone, Copy, PartialEq, Eq)]
+#[derive(Clone, Copy)]
 pub(crate) struct Held {
     pub state: EntityState,
     /// The number of the change that set it.

@@ -40,7 +40,7 @@ pub enum Fate {
 }
 
 /// What the logs of the maker and of a recorded party say of an order.
-#[derive(Clone, Copy, PartialEq, Eq)]
+#[derive(Clone, Copy)]
 pub struct Traces {
     /// Whether the maker is recorded.
     pub made: bool,

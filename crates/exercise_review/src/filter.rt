@@ -12,7 +12,7 @@ use crate::told::OrderAt;
 use dis_records::{EntityId, Kind, addresses, is_open};
 
 /// What a word asks for: the lines of one key with this value.
-#[derive(Clone, Copy, PartialEq, Eq)]
+#[derive(Clone, Copy)]
 pub enum Filter {
     /// The lines of a station.
     Station(Outsider),

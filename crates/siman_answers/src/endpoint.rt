@@ -6,7 +6,7 @@ ghost use Rattle.siman_answers.specs.Endpoints.{byte_of, ip_of, port_of, endpoin
 use siman_scripts::{number_16, split_once};
 
 /// Where a socket is: its address of IP version 4, and its port, from 1.
-#[derive(Clone, Copy, PartialEq, Eq)]
+#[derive(Clone, Copy)]
 pub struct Endpoint {
     pub ip: (u8, u8, u8, u8),
     pub port: u16,

@@ -340,7 +340,7 @@ pub fn of_error<'a>(error: &io::Error, fault: Fault<'a>) -> Fault<'a>
 }
 
 /// How a command ended.
-#[derive(Clone, Copy, PartialEq, Eq)]
+#[derive(Clone, Copy)]
 pub struct Ended {
     /// The status to exit with.
     pub status: u8,

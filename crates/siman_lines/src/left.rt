@@ -7,7 +7,7 @@ use crate::line::Line;
 use crate::station_at_line::StationAtLine;
 
 /// What stations left out, all together.
-#[derive(Clone, Copy, PartialEq, Eq)]
+#[derive(Clone, Copy)]
 pub struct LeftOut {
     /// The stations at which something may be left to serve.
     pub busy: usize,

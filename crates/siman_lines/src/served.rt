@@ -4,7 +4,7 @@ ghost use Rattle.std.specs.Prelude.{◌≡◌, false, if◌then◌else◌};
 ghost use Rattle.siman_lines.specs.AtLines.{is_busy};
 
 /// What a station did in some turns at its line.
-#[derive(Clone, Copy, PartialEq, Eq)]
+#[derive(Clone, Copy)]
 pub struct Served {
     /// The datagrams of at most 8192 bytes that it received, recorded and took.
     pub taken: u32,

@@ -9,7 +9,7 @@ use indexmap::IndexMap;
 use siman_pdus::Pdu;
 
 /// Whether an order is still to be sent.
-#[derive(Clone, Copy, PartialEq, Eq)]
+#[derive(Clone, Copy)]
 pub(crate) enum OrderStanding {
     Waiting,
     Answered,

@@ -3,7 +3,7 @@
 use dis_records::Address;
 
 /// What stays the same for as long as a manager lives.
-#[derive(Clone, Copy, PartialEq, Eq)]
+#[derive(Clone, Copy)]
 pub(crate) struct Settings {
     pub exercise: u8,
     pub address: Address,

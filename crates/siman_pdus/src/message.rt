@@ -8,7 +8,7 @@ use crate::views::{BodyView, PduView};
 use dis_records::{EntityId, Kind};
 
 /// What an Acknowledge says (IEEE 1278.1-2012, 7.5.6).
-#[derive(Clone, Copy, PartialEq, Eq)]
+#[derive(Clone, Copy)]
 pub struct Acknowledgement {
     /// What is acknowledged.
     pub flag: u16,

@@ -1,7 +1,7 @@
 //! The roles of PDUs.
 
 /// What a PDU does in an exchange.
-#[derive(Clone, Copy, PartialEq, Eq)]
+#[derive(Clone, Copy)]
 pub enum Role {
     /// Create Entity, Remove Entity, Start/Resume, Stop/Freeze, Action Request, Data Query, Set
     /// Data.

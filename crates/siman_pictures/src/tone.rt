@@ -7,7 +7,7 @@ use exercise_chart::Saying;
 use exercise_review::Word;
 
 /// What a datagram is drawn as.
-#[derive(Clone, Copy, PartialEq, Eq)]
+#[derive(Clone, Copy)]
 pub(crate) enum Tone {
     /// A request.
     Request,

@@ -28,7 +28,7 @@ pub struct Post<L: Line + Drop> {
 }
 
 /// What came of a line of text.
-#[derive(Clone, Copy, PartialEq, Eq)]
+#[derive(Clone, Copy)]
 pub struct LineCame {
     /// What the line asks for was done, or why it was not.
     pub done: Result<(), Undone>,

@@ -17,7 +17,7 @@ use std::io::Write;
 const MOST_TURNS: u32 = 65_536;
 
 /// What failed while a post was served.
-#[derive(Clone, Copy, PartialEq, Eq)]
+#[derive(Clone, Copy)]
 pub struct Trouble {
     /// A call of its line failed.
     pub line: bool,

@@ -5,7 +5,7 @@ ghost use Rattle.siman_scripts.specs.Draft.{wants_exercise, takes_stations, take
 
 /// The part in which the next line of a script may stand; it may stand in a later one too, but for
 /// the part of the exercise.
-#[derive(Clone, Copy, PartialEq, Eq)]
+#[derive(Clone, Copy)]
 pub(crate) enum Part {
     /// The line of the exercise.
     Exercise,

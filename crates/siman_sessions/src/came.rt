@@ -12,7 +12,7 @@ use siman_stations::StationFault;
 use std::io::Write;
 
 /// What came of a line of text.
-#[derive(Clone, Copy, PartialEq, Eq)]
+#[derive(Clone, Copy)]
 pub struct Came {
     /// What the post did with it.
     pub line: LineCame,

@@ -18,7 +18,7 @@ use std::alloc::Global;
 use std::io::{Read, Write};
 
 /// Why no further line of a text is taken.
-#[derive(Clone, Copy, Debug, PartialEq, Eq)]
+#[derive(Clone, Copy, Debug)]
 pub enum Stop {
     /// There is none.
     End,

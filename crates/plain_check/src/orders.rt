@@ -1,12 +1,11 @@
 //! Orders, each told by the entry at which it first stands.
 
-use crate::entries::{address_of, entry_at, meant_at, sent_by};
+use crate::entries::{address_of, entry_at, meant_at, received_by, sent_by};
 use crate::judge::sender_of;
 use dis_records::addressed;
-use exercise_model::{EntryView, ExerciseLog, Form, meaning_view};
+use exercise_model::{EntryView, ExerciseLog, Form};
 use exercise_review::Order;
 use siman_pdus::{PduView, is_request, is_under_identifier, same_order};
-use std::alloc::{AllocError, Global};
 
 /// Whether a PDU comes from a station that took part and that nobody recorded.
 pub(crate) fn is_outside<L: ExerciseLog>(log: &L, pdu: &PduView<'_>) -> bool {
@@ -31,116 +30,125 @@ fn is_for_station<L: ExerciseLog>(log: &L, pdu: &PduView<'_>) -> bool {
     false
 }
 
-/// Whether what an entry sends or receives is an order.
-fn is_order<L: ExerciseLog>(log: &L, entry: usize, request: &PduView<'_>) -> bool {
-    match meant_at(log, entry) {
+/// Whether an entry sends an order from a station.
+pub(crate) fn is_send<L: ExerciseLog>(
+    log: &L,
+    station: usize,
+    request: &PduView<'_>,
+    entry: usize,
+) -> bool {
+    match sent_by(log, station, entry) {
         Some(pdu) => same_order(request, &pdu),
         None => false,
     }
 }
 
-/// The entries at which a station sends an order.
-pub(crate) fn sends_of<L: ExerciseLog>(
-    alloc: Global,
+/// Whether an entry receives an order at a station.
+pub(crate) fn is_copy<L: ExerciseLog>(
+    log: &L,
+    station: usize,
+    request: &PduView<'_>,
+    entry: usize,
+) -> bool {
+    match received_by(log, station, entry) {
+        Some(pdu) => same_order(request, &pdu),
+        None => false,
+    }
+}
+
+/// The first entry at which a station sends an order.
+fn first_send<L: ExerciseLog>(log: &L, station: usize, request: &PduView<'_>) -> Option<usize> {
+    for entry in 0..log.entry_count() {
+        if is_send(log, station, request, entry) {
+            return Some(entry);
+        }
+    }
+    None
+}
+
+/// The first entry at which any station receives an order.
+fn first_copy<L: ExerciseLog>(log: &L, request: &PduView<'_>) -> Option<usize> {
+    for entry in 0..log.entry_count() {
+        match log.entry(entry) {
+            EntryView::Received { station, .. }
+                if is_copy(log, usize::from(station), request, entry) => {
+                return Some(entry);
+            }
+            _ => {}
+        }
+    }
+    None
+}
+
+/// How often a station sends an order.
+pub(crate) fn send_count<L: ExerciseLog>(log: &L, station: u16, request: &PduView<'_>) -> usize {
+    let mut count = 0usize;
+    for entry in 0..log.entry_count() {
+        if is_send(log, usize::from(station), request, entry) {
+            count = count.saturating_add(1);
+        }
+    }
+    count
+}
+
+/// How often a station receives an order, and the first entry at which it does.
+pub(crate) fn copies_of<L: ExerciseLog>(
     log: &L,
     station: u16,
     request: &PduView<'_>,
-) -> Result<Vec<usize>, AllocError> {
-    let mut sends = Vec::new(alloc);
+) -> (usize, Option<usize>) {
+    let (mut count, mut first) = (0usize, None);
     for entry in 0..log.entry_count() {
-        match log.entry(entry) {
-            EntryView::Sent { station: at, .. } if at == station => {
-                if is_order(log, entry, request) {
-                    sends.push(entry)?;
-                }
+        if is_copy(log, usize::from(station), request, entry) {
+            count = count.saturating_add(1);
+            if first.is_none() {
+                first = Some(entry);
             }
-            _ => {}
         }
     }
-    Ok(sends)
-}
-
-/// The entries at which a station receives an order, or any station.
-pub(crate) fn copies_of<L: ExerciseLog>(
-    alloc: Global,
-    log: &L,
-    station: Option<u16>,
-    request: &PduView<'_>,
-) -> Result<Vec<usize>, AllocError> {
-    let mut copies = Vec::new(alloc);
-    for entry in 0..log.entry_count() {
-        match log.entry(entry) {
-            EntryView::Received { station: at, .. } if station.is_none() || station == Some(at) => {
-                if is_order(log, entry, request) {
-                    copies.push(entry)?;
-                }
-            }
-            _ => {}
-        }
-    }
-    Ok(copies)
+    (count, first)
 }
 
 /// The order that an entry sends from its station, or that it receives from outside for a recorded
 /// station, with its head: the first entry that sends it there, or the first that receives it.
-fn order_with<L: ExerciseLog>(
-    alloc: Global,
-    log: &L,
-    entry: usize,
-) -> Result<Option<Order<'_>>, AllocError> {
-    let (maker, bytes) = match entry_at(log, entry) {
-        Some(EntryView::Sent { station, bytes, .. }) => (Some(station), bytes),
-        Some(EntryView::Received { bytes, .. }) => (None, bytes),
-        Some(EntryView::Told { .. }) | None => return Ok(None),
-    };
-    let Some(request) = meaning_view(log.exercise(), bytes) else {
-        return Ok(None);
-    };
+fn order_with<L: ExerciseLog>(log: &L, entry: usize) -> Option<Order<'_>> {
+    let request = meant_at(log, entry)?;
     if !is_request(&request) {
-        return Ok(None);
+        return None;
     }
-    let entries = match maker {
-        Some(station) => sends_of(alloc, log, station, &request)?,
-        None if is_outside(log, &request) && is_for_station(log, &request) => {
-            copies_of(alloc, log, None, &request)?
+    let (maker, head) = match entry_at(log, entry)? {
+        EntryView::Sent { station, .. } => {
+            (
+                Some(station),
+                first_send(log, usize::from(station), &request),
+            )
         }
-        None => return Ok(None),
+        _ if is_outside(log, &request) && is_for_station(log, &request) => {
+            (None, first_copy(log, &request))
+        }
+        _ => return None,
     };
-    Ok(match entries.first() {
-        Some(head) => Some(Order {
-            head: *head,
-            maker,
-            request,
-        }),
-        None => None,
+    Some(Order {
+        head: head?,
+        maker,
+        request,
     })
 }
 
 /// The entry at which the order of an entry first stands, if it has one.
-pub fn plain_head<L: ExerciseLog>(
-    alloc: Global,
-    log: &L,
-    entry: usize,
-) -> Result<Option<usize>, AllocError> {
-    match order_with(alloc, log, entry)? {
-        Some(order) => Ok(Some(order.head)),
-        None => Ok(None),
+pub fn plain_head<L: ExerciseLog>(log: &L, entry: usize) -> Option<usize> {
+    match order_with(log, entry) {
+        Some(order) => Some(order.head),
+        None => None,
     }
 }
 
-/// The orders of a recording, each with the entry at which it first stands, in their order.
-pub(crate) fn orders_of<L: ExerciseLog>(
-    alloc: Global,
-    log: &L,
-) -> Result<Vec<Order<'_>>, AllocError> {
-    let mut orders = Vec::new(alloc);
-    for entry in 0..log.entry_count() {
-        match order_with(alloc, log, entry)? {
-            Some(order) if order.head == entry => orders.push(order)?,
-            _ => {}
-        }
+/// The order that first stands at an entry, if one does.
+pub(crate) fn order_at<L: ExerciseLog>(log: &L, entry: usize) -> Option<Order<'_>> {
+    match order_with(log, entry) {
+        Some(order) if order.head == entry => Some(order),
+        _ => None,
     }
-    Ok(orders)
 }
 
 /// Whether an order is the first of its station under its request identifier.

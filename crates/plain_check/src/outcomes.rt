@@ -2,7 +2,7 @@
 
 use crate::change::change_made;
 use crate::entries::entry_at;
-use crate::orders::{copies_of, sends_of};
+use crate::orders::{copies_of, send_count};
 use crate::parties::{outsider_at, parties_of, party_address, station_address, told_from};
 use crate::replies::{first_settling, news_of, replies_of, telling, word_of};
 use exercise_model::{EntryView, ExerciseLog};
@@ -28,11 +28,12 @@ fn took<L: ExerciseLog>(log: &L, first: usize, last: Option<usize>) -> Option<u6
     }
 }
 
-/// The fate of an order, of which this was received and replied at a party, and heard of that by its maker.
+/// The fate of an order, which was received at a party or not, of which this was replied there, and
+/// heard of that by its maker.
 fn fate_of<L: ExerciseLog>(
     log: &L,
     order: &Order<'_>,
-    copies: &[usize],
+    is_got: bool,
     replies: &[usize],
     news: &[usize],
 ) -> Fate {
@@ -44,8 +45,8 @@ fn fate_of<L: ExerciseLog>(
         Some(_) if is_made => Fate::Answered,
         _ if is_made && is_settled => Fate::Unheard,
         _ if !replies.is_empty() && !is_settled => Fate::Pending,
-        _ if !copies.is_empty() && replies.is_empty() => Fate::Unanswered,
-        _ if copies.is_empty() => Fate::Lost,
+        _ if is_got && replies.is_empty() => Fate::Unanswered,
+        _ if !is_got => Fate::Lost,
         _ => Fate::Unknown,
     }
 }
@@ -61,18 +62,13 @@ fn first_changing<L: ExerciseLog>(log: &L, station: u16, entries: &[usize]) -> O
 }
 
 /// What is told of an order that has no party.
-fn outcome_nowhere<L: ExerciseLog>(
-    alloc: Global,
-    log: &L,
-    order: &Order<'_>,
-) -> Result<Outcome, AllocError> {
-    let sends = match order.maker {
-        Some(maker) => Some(sends_of(alloc, log, maker, &order.request)?.len()),
-        None => None,
-    };
-    Ok(Outcome {
+fn outcome_nowhere<L: ExerciseLog>(log: &L, order: &Order<'_>) -> Outcome {
+    Outcome {
         party: None,
-        sends,
+        sends: match order.maker {
+            Some(maker) => Some(send_count(log, maker, &order.request)),
+            None => None,
+        },
         receipts: None,
         got: None,
         said: None,
@@ -82,31 +78,44 @@ fn outcome_nowhere<L: ExerciseLog>(
         took: None,
         change: None,
         fate: Fate::Nobody,
-    })
+    }
 }
 
-/// What is told of an order at a recorded station.
+/// What is told of an order at a recorded station, which replied this, of which its maker heard that.
+fn outcome_by<L: ExerciseLog>(
+    log: &L,
+    order: &Order<'_>,
+    station: u16,
+    replies: &[usize],
+    news: &[usize],
+) -> Outcome {
+    let (count, first) = copies_of(log, station, &order.request);
+    let mut outcome = outcome_nowhere(log, order);
+    outcome.party = Some(Party::Station(station));
+    outcome.receipts = Some(count);
+    outcome.got = first;
+    outcome.answer = telling(log, replies);
+    outcome.said = word_of(log, outcome.answer);
+    outcome.news = telling(log, news);
+    outcome.heard = word_of(log, outcome.news);
+    outcome.took = took(log, order.head, outcome.news);
+    outcome.change = first_changing(log, station, replies);
+    outcome.fate = fate_of(log, order, count > 0, replies, news);
+    outcome
+}
+
+/// The same, with what it replied and what was heard of that.
 fn outcome_here<L: ExerciseLog>(
     alloc: Global,
     log: &L,
     order: &Order<'_>,
     station: u16,
 ) -> Result<Outcome, AllocError> {
-    let copies = copies_of(alloc, log, Some(station), &order.request)?;
     let replies = replies_of(alloc, log, order, station)?;
-    let news = news_of(alloc, log, order, &replies)?;
-    let mut outcome = outcome_nowhere(alloc, log, order)?;
-    outcome.party = Some(Party::Station(station));
-    outcome.receipts = Some(copies.len());
-    outcome.got = copies.first().copied();
-    outcome.answer = telling(log, &replies);
-    outcome.said = word_of(log, outcome.answer);
-    outcome.news = telling(log, &news);
-    outcome.heard = word_of(log, outcome.news);
-    outcome.took = took(log, order.head, outcome.news);
-    outcome.change = first_changing(log, station, &replies);
-    outcome.fate = fate_of(log, order, &copies, &replies, &news);
-    Ok(outcome)
+    match news_of(alloc, log, order, &replies) {
+        Ok(news) => Ok(outcome_by(log, order, station, &replies, &news)),
+        Err(error) => Err(error),
+    }
 }
 
 /// What is told of an order at an address that nobody recorded.
@@ -117,7 +126,7 @@ fn outcome_outside<L: ExerciseLog>(
     address: Outsider,
 ) -> Result<Outcome, AllocError> {
     let told = told_from(alloc, log, order, address)?;
-    let mut outcome = outcome_nowhere(alloc, log, order)?;
+    let mut outcome = outcome_nowhere(log, order);
     outcome.party = Some(Party::Outside(address));
     outcome.news = telling(log, &told);
     outcome.heard = word_of(log, outcome.news);
@@ -136,7 +145,7 @@ fn order_told<L: ExerciseLog>(
     let outcome = match party {
         Some(Party::Station(station)) => outcome_here(alloc, log, order, station)?,
         Some(Party::Outside(address)) => outcome_outside(alloc, log, order, address)?,
-        None => outcome_nowhere(alloc, log, order)?,
+        None => outcome_nowhere(log, order),
     };
     Ok(OrderAt {
         head: order.head,
@@ -155,6 +164,23 @@ fn order_told<L: ExerciseLog>(
     })
 }
 
+/// Adds an order at each of these parties, or once where there is none.
+fn push_at<L: ExerciseLog>(
+    alloc: Global,
+    log: &L,
+    told: &mut Vec<OrderAt>,
+    order: &Order<'_>,
+    parties: &[Party],
+) -> Result<(), AllocError> {
+    if parties.is_empty() {
+        told.push(order_told(alloc, log, order, None)?)?;
+    }
+    for party in parties {
+        told.push(order_told(alloc, log, order, Some(*party))?)?;
+    }
+    Ok(())
+}
+
 /// Adds an order at each of its parties, or once where it has none.
 pub(crate) fn push_order<L: ExerciseLog>(
     alloc: Global,
@@ -163,11 +189,5 @@ pub(crate) fn push_order<L: ExerciseLog>(
     order: &Order<'_>,
 ) -> Result<(), AllocError> {
     let parties = parties_of(alloc, log, order)?;
-    if parties.is_empty() {
-        told.push(order_told(alloc, log, order, None)?)?;
-    }
-    for party in &parties {
-        told.push(order_told(alloc, log, order, Some(*party))?)?;
-    }
-    Ok(())
+    push_at(alloc, log, told, order, &parties)
 }

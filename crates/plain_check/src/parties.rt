@@ -40,17 +40,12 @@ pub(crate) fn party_address<L: ExerciseLog>(log: &L, party: Party) -> Outsider {
 
 /// Whether a recorded station is a party of an order: it is addressed, and if it made the order it
 /// received it too.
-fn is_party<L: ExerciseLog>(
-    alloc: Global,
-    log: &L,
-    order: &Order<'_>,
-    station: u16,
-) -> Result<bool, AllocError> {
+fn is_party<L: ExerciseLog>(log: &L, order: &Order<'_>, station: u16) -> bool {
     if !is_meant(log, &order.request, usize::from(station)) {
-        return Ok(false);
+        return false;
     }
-    let copies = copies_of(alloc, log, Some(station), &order.request)?;
-    Ok(order.maker != Some(station) || !copies.is_empty())
+    let (copies, _) = copies_of(log, station, &order.request);
+    order.maker != Some(station) || copies > 0
 }
 
 /// From where outside the maker of an order is told of it at an entry: it receives an answer to it there,
@@ -148,7 +143,7 @@ pub(crate) fn parties_of<L: ExerciseLog>(
     let mut parties = Vec::new(alloc);
     for station in 0..log.station_count() {
         if let Ok(station) = u16::try_from(station) {
-            if is_party(alloc, log, order, station)? {
+            if is_party(log, order, station) {
                 push_party(log, &mut parties, Party::Station(station))?;
             }
         }

@@ -2,13 +2,13 @@
 
 use crate::check::entries_before;
 use crate::lives::push_lives;
-use crate::orders::orders_of;
+use crate::orders::order_at;
 use crate::outcomes::push_order;
 use crate::parties::station_address;
 use crate::report::{plain_others, plain_states};
 use dis_records::EntityState;
 use exercise_model::ExerciseLog;
-use exercise_review::{Fate, FateCounts, Order, OrderAt, Party, Review, StationCounts};
+use exercise_review::{Fate, FateCounts, OrderAt, Party, Review, Span, StationCounts};
 use std::alloc::{AllocError, Global};
 
 /// How many of these orders at their parties have a fate, of all or of those at one station.
@@ -41,12 +41,15 @@ fn fates_of(told: &[OrderAt], station: Option<u16>) -> FateCounts {
     }
 }
 
-/// How many of these orders a station made.
-fn made_by(orders: &[Order<'_>], station: u16) -> usize {
+/// How many orders a station made, or all made.
+fn made_by<L: ExerciseLog>(log: &L, station: Option<u16>) -> usize {
     let mut count = 0usize;
-    for order in orders {
-        if order.maker == Some(station) {
-            count = count.saturating_add(1);
+    for entry in 0..log.entry_count() {
+        match order_at(log, entry) {
+            Some(order) if station.is_none() || order.maker == station => {
+                count = count.saturating_add(1);
+            }
+            _ => {}
         }
     }
     count
@@ -67,7 +70,6 @@ fn running(states: &[(u16, EntityState)]) -> usize {
 fn station_counts<L: ExerciseLog>(
     alloc: Global,
     log: &L,
-    orders: &[Order<'_>],
     told: &[OrderAt],
     station: u16,
     most: u16,
@@ -76,11 +78,49 @@ fn station_counts<L: ExerciseLog>(
     Ok(StationCounts {
         at: station_address(log, station),
         records: entries_before(log, usize::from(station), log.entry_count()),
-        made: made_by(orders, station),
+        made: made_by(log, Some(station)),
         fates: fates_of(told, Some(station)),
         entities: states.len(),
         running: running(&states),
     })
+}
+
+/// What is told of each order at its parties.
+fn told_of<L: ExerciseLog>(alloc: Global, log: &L) -> Result<Vec<OrderAt>, AllocError> {
+    let mut told = Vec::new(alloc);
+    for entry in 0..log.entry_count() {
+        if let Some(order) = order_at(log, entry) {
+            push_order(alloc, log, &mut told, &order)?;
+        }
+    }
+    Ok(told)
+}
+
+/// What is counted of each station.
+fn stations_of<L: ExerciseLog>(
+    alloc: Global,
+    log: &L,
+    told: &[OrderAt],
+    most: u16,
+) -> Result<Vec<StationCounts>, AllocError> {
+    let mut stations = Vec::new(alloc);
+    for station in 0..log.station_count() {
+        if let Ok(station) = u16::try_from(station) {
+            stations.push(station_counts(alloc, log, told, station, most)?)?;
+        }
+    }
+    Ok(stations)
+}
+
+/// How the entities of each station lived.
+fn spans_of<L: ExerciseLog>(alloc: Global, log: &L, most: u16) -> Result<Vec<Span>, AllocError> {
+    let mut spans = Vec::new(alloc);
+    for station in 0..log.station_count() {
+        if let Ok(station) = u16::try_from(station) {
+            push_lives(alloc, log, &mut spans, station, most)?;
+        }
+    }
+    Ok(spans)
 }
 
 /// What is told of a recording, in which no entity is above `most`. It never says that it takes too
@@ -90,25 +130,13 @@ pub fn plain_review<L: ExerciseLog>(
     log: &L,
     most: u16,
 ) -> Result<Review, AllocError> {
-    let orders = orders_of(alloc, log)?;
-    let mut told = Vec::new(alloc);
-    for order in &orders {
-        push_order(alloc, log, &mut told, order)?;
-    }
-    let mut stations = Vec::new(alloc);
-    let mut spans = Vec::new(alloc);
-    for station in 0..log.station_count() {
-        if let Ok(station) = u16::try_from(station) {
-            stations.push(station_counts(alloc, log, &orders, &told, station, most)?)?;
-            push_lives(alloc, log, &mut spans, station, most)?;
-        }
-    }
+    let told = told_of(alloc, log)?;
     Ok(Review {
-        orders: orders.len(),
+        orders: made_by(log, None),
         others: plain_others(log),
         fates: fates_of(&told, None),
-        stations,
+        stations: stations_of(alloc, log, &told, most)?,
+        spans: spans_of(alloc, log, most)?,
         told,
-        spans,
     })
 }

@@ -1,12 +1,14 @@
 //! Whether the checker, the search and the review answer as the plain ones do.
 
-use crate::reviews::compare_reviews;
+use crate::reviews::is_review_same;
 use exercise_audit::{Audit, audit};
 use exercise_check::{Certificate, CheckFault, Checked, check, read_certificate};
 use exercise_model::{ExerciseLog, LARGEST_ENTITY};
 use exercise_recording::RecordingView;
-use plain_check::{plain_audit, plain_cause, plain_check, plain_others, plain_pair, plain_states};
-use siman_fixtures::{Case, WELL, read_from};
+use plain_check::{
+    plain_audit, plain_cause, plain_check, plain_others, plain_pair, plain_review, plain_states,
+};
+use siman_fixtures::{Case, WELL, found, read_from};
 use std::alloc::{AllocError, Global};
 
 /// The number of an entry as the checker reports it.
@@ -30,8 +32,9 @@ fn are_entries_same<L: ExerciseLog>(log: &L, checked: &Checked) -> bool {
     checked.others() == plain_others(log)
 }
 
-/// Whether the states of the entities, of which none is above `most`, are as they are found plainly.
-fn are_states_same<L: ExerciseLog>(
+/// Whether these and the states of the entities, of which none is above `most`, are as they are found
+/// plainly.
+fn is_report_same<L: ExerciseLog>(
     alloc: Global,
     log: &L,
     checked: &Checked,
@@ -43,58 +46,77 @@ fn are_states_same<L: ExerciseLog>(
             return Ok(false);
         }
     }
-    Ok(true)
+    Ok(are_entries_same(log, checked))
 }
 
-/// What the checker answers, and whether the plain one answers the same and the reports are the
-/// same; no entity is above `most`.
-pub fn compare_checks<L: ExerciseLog>(
+/// Whether the checker answers what the plain one does, and the reports are the same; no entity is
+/// above `most`.
+pub(crate) fn is_check_same<L: ExerciseLog>(
+    alloc: Global,
+    log: &L,
+    certificate: &Certificate,
+    plain: Result<(), CheckFault>,
+    most: u16,
+) -> Result<bool, AllocError> {
+    match check(alloc, log, certificate) {
+        Ok(checked) if plain.is_ok() => is_report_same(alloc, log, &checked, most),
+        Ok(_) => Ok(false),
+        Err(fault) => Ok(plain == Err(fault)),
+    }
+}
+
+/// Whether the checker and the plain one take a certificate, with the same reports.
+fn is_taken<L: ExerciseLog>(
     alloc: Global,
     log: &L,
     certificate: &Certificate,
     most: u16,
-) -> Result<(bool, Result<(), CheckFault>), AllocError> {
-    let plain = plain_check(log, certificate);
-    match check(alloc, log, certificate) {
-        Ok(checked) => {
-            let same = are_entries_same(log, &checked);
-            let same = are_states_same(alloc, log, &checked, most)? && same;
-            Ok((same && plain.is_ok(), Ok(())))
-        }
-        Err(fault) => Ok((plain == Err(fault), Err(fault))),
+) -> Result<bool, AllocError> {
+    match plain_check(log, certificate) {
+        Ok(()) => is_check_same(alloc, log, certificate, Ok(()), most),
+        Err(_) => Ok(false),
     }
 }
 
-/// What the search finds, and whether the plain one finds the same; both take the certificate that
-/// either finds.
-pub fn compare_audits<L: ExerciseLog>(
+/// Whether both take two certificates.
+fn are_taken<L: ExerciseLog>(
     alloc: Global,
     log: &L,
+    one: &Certificate,
+    other: &Certificate,
     most: u16,
-) -> Result<(bool, Audit), AllocError> {
-    let found = audit(alloc, log)?;
-    let same = match (&found, plain_audit(alloc, log)?) {
+) -> Result<bool, AllocError> {
+    if is_taken(alloc, log, one, most)? {
+        is_taken(alloc, log, other, most)
+    } else {
+        Ok(false)
+    }
+}
+
+/// Whether the search found what the plain one finds; both checkers take the certificate that either
+/// finds.
+pub(crate) fn is_audit_same<L: ExerciseLog>(
+    alloc: Global,
+    log: &L,
+    found: &Audit,
+    most: u16,
+) -> Result<bool, AllocError> {
+    match (found, &plain_audit(alloc, log)?) {
         (Audit::Explained(fast), Audit::Explained(plain)) => {
-            let (fast, taken) = compare_checks(alloc, log, fast, most)?;
-            let (plain, too) = compare_checks(alloc, log, &plain, most)?;
-            fast && plain && taken.is_ok() && too.is_ok()
+            are_taken(alloc, log, fast, plain, most)
         }
-        (Audit::Blocked(fast), Audit::Blocked(plain)) => fast.as_slice() == plain.as_slice(),
-        _ => false,
-    };
-    Ok((same, found))
+        (Audit::Blocked(fast), Audit::Blocked(plain)) => Ok(fast.as_slice() == plain.as_slice()),
+        _ => Ok(false),
+    }
 }
 
 /// The bytes of the last file that a word of a case names.
 fn file_at(case: &Case, word: usize) -> Option<&[u8]> {
-    let name = case.words.get(word)?;
-    let mut bytes = None;
-    for file in &case.files {
-        if file.name.as_bytes() == name.as_slice() {
-            bytes = Some(file.bytes.as_slice());
-        }
+    let word = case.words.get(word)?;
+    match found(&case.files, &word.bytes) {
+        Some(file) => Some(&file.stream.bytes),
+        None => None,
     }
-    bytes
 }
 
 /// Whether the answer to a case of `check`, `audit` or `review` is what the plain ones answer; `None`
@@ -104,17 +126,38 @@ pub fn compare_case(alloc: Global, case: &Case) -> Result<Option<bool>, AllocErr
     let (Some(command), Some(bytes)) = (case.words.first(), file_at(case, 1)) else {
         return Ok(None);
     };
-    let Ok(log) = RecordingView::over(alloc, bytes) else {
-        return Ok(None);
-    };
-    match command.as_slice() {
-        b"audit" => Ok(Some(compare_audits(alloc, &log, LARGEST_ENTITY)?.0)),
-        b"check" => compare_certificate(alloc, &log, case),
-        b"review" if log.entry_count() <= 64 => {
-            Ok(Some(compare_reviews(alloc, &log, LARGEST_ENTITY)?.0))
-        }
-        _ => Ok(None),
+    match RecordingView::over(alloc, bytes) {
+        Ok(log) => compare_command(alloc, &log, &command.bytes, case),
+        Err(_) => Ok(None),
     }
+}
+
+/// Whether the search finds what the plain one does.
+fn is_audit_plain<L: ExerciseLog>(alloc: Global, log: &L) -> Result<bool, AllocError> {
+    let found = audit(alloc, log)?;
+    is_audit_same(alloc, log, &found, LARGEST_ENTITY)
+}
+
+/// Whether the review says what the plain one does.
+fn is_review_plain<L: ExerciseLog>(alloc: Global, log: &L) -> Result<bool, AllocError> {
+    let plain = plain_review(alloc, log, LARGEST_ENTITY)?;
+    is_review_same(alloc, log, &plain)
+}
+
+/// The same for a command and the recording of its case.
+fn compare_command<L: ExerciseLog>(
+    alloc: Global,
+    log: &L,
+    command: &[u8],
+    case: &Case,
+) -> Result<Option<bool>, AllocError> {
+    let same = match command {
+        b"audit" => is_audit_plain(alloc, log)?,
+        b"review" if log.entry_count() <= 64 => is_review_plain(alloc, log)?,
+        b"check" => return compare_certificate(alloc, log, case),
+        _ => return Ok(None),
+    };
+    Ok(Some(same))
 }
 
 /// Whether the answer to the certificate of a case is what the plain checker answers.
@@ -126,11 +169,12 @@ fn compare_certificate<L: ExerciseLog>(
     let Some(bytes) = file_at(case, 2) else {
         return Ok(None);
     };
-    match read_certificate(alloc, read_from(bytes, WELL), 1024) {
-        Ok(certificate) => {
-            let (same, _) = compare_checks(alloc, log, &certificate, LARGEST_ENTITY)?;
-            Ok(Some(same))
-        }
-        Err(_) => Ok(None),
+    let Ok(certificate) = read_certificate(alloc, read_from(bytes, WELL), 1024) else {
+        return Ok(None);
+    };
+    let plain = plain_check(log, &certificate);
+    match is_check_same(alloc, log, &certificate, plain, LARGEST_ENTITY) {
+        Ok(same) => Ok(Some(same)),
+        Err(error) => Err(error),
     }
 }

@@ -1,11 +1,11 @@
 //! The checker and the search compared with the plain ones, on recordings that are made up.
 
-use crate::agreement::{compare_audits, compare_checks};
+use crate::agreement::{is_audit_same, is_check_same};
 use crate::recordings::recording;
-use exercise_audit::Audit;
+use exercise_audit::{Audit, audit};
 use exercise_check::{Certificate, CheckFault, NO_LINK, Step};
 use exercise_model::{Cause, ExerciseLog, Form, Recording};
-use plain_check::plain_steps;
+use plain_check::{plain_check, plain_steps};
 use siman_fixtures::{ENTITIES, Random};
 use std::alloc::{AllocError, Global};
 use std::io;
@@ -29,16 +29,6 @@ fn add_one(counts: &mut [u32], place: usize) {
     if let Some(count) = counts.get_mut(place) {
         *count = count.saturating_add(1);
     }
-}
-
-/// Whether all counts from a place on are above 0, up to another.
-fn are_counted(counts: &[u32; 14], from: usize, end: usize) -> bool {
-    for place in from..end {
-        if counts[place % 14] == 0 {
-            return false;
-        }
-    }
-    true
 }
 
 /// Whether one of these steps names an entry.
@@ -99,23 +89,21 @@ impl Answers {
         log: &Recording,
         certificate: &Certificate,
     ) -> Result<(), AllocError> {
-        let (same, answer) = compare_checks(alloc, log, certificate, u16::from(ENTITIES))?;
+        let plain = plain_check(log, certificate);
+        let same = is_check_same(alloc, log, certificate, plain, u16::from(ENTITIES))?;
         self.take(same);
-        match answer {
-            Ok(()) => self.yes = self.yes.saturating_add(1),
+        match plain {
             Err(CheckFault::Bad { cause, .. }) => {
                 add_one(&mut self.causes, usize::from(cause.number()));
             }
-            Err(CheckFault::Memory) => {}
+            _ => self.yes = self.yes.saturating_add(1),
         }
         Ok(())
     }
 
-    /// Compares what is found in a recording.
-    fn try_audit(&mut self, alloc: Global, log: &Recording) -> Result<(), AllocError> {
-        let (same, found) = compare_audits(alloc, log, u16::from(ENTITIES))?;
-        self.take(same);
-        match &found {
+    /// Counts what was found in a recording.
+    fn count(&mut self, found: &Audit) {
+        match found {
             Audit::Explained(_) => self.explained = self.explained.saturating_add(1),
             Audit::Blocked(blocks) => {
                 self.blocked = self.blocked.saturating_add(1);
@@ -124,6 +112,14 @@ impl Answers {
                 }
             }
         }
+    }
+
+    /// Compares what is found in a recording.
+    fn try_audit(&mut self, alloc: Global, log: &Recording) -> Result<(), AllocError> {
+        let found = audit(alloc, log)?;
+        self.count(&found);
+        let same = is_audit_same(alloc, log, &found, u16::from(ENTITIES))?;
+        self.take(same);
         Ok(())
     }
 
@@ -153,7 +149,7 @@ impl Answers {
 
     /// Tries a recording of a form that is made up.
     fn try_one(&mut self, alloc: Global, form: Form, mut random: Random) -> Result<(), AllocError> {
-        match recording(alloc, form, random) {
+        match recording(alloc, form, false, random) {
             Ok(log) => self.try_log(alloc, &log, &mut random),
             Err(_) => {
                 self.take(false);
@@ -165,21 +161,18 @@ impl Answers {
     /// Whether all answers were as the plain ones are, and each came: yes, and each cause, and of
     /// those of an event also in the way of a station. In an open recording there is no stranger.
     pub fn are_good(&self, form: Form) -> bool {
-        let strangers = usize::from(Cause::Stranger.number());
-        let came = match form {
-            Form::Open => {
-                are_counted(&self.causes, 1, strangers)
-                    && are_counted(&self.ways, 5, strangers)
-                    && are_counted(&self.causes, 12, 14)
-                    && are_counted(&self.ways, 12, 14)
-                    && !are_counted(&self.causes, strangers, 12)
-                    && !are_counted(&self.ways, strangers, 12)
+        for cause in 1..14usize {
+            let (is_said, is_way) = (self.causes[cause] > 0, self.ways[cause] > 0);
+            let good = if form == Form::Open && cause == usize::from(Cause::Stranger.number()) {
+                !is_said && !is_way
+            } else {
+                is_said && (is_way || cause < 5)
+            };
+            if !good {
+                return false;
             }
-            Form::First | Form::Closed => {
-                are_counted(&self.causes, 1, 14) && are_counted(&self.ways, 5, 14)
-            }
-        };
-        self.otherwise == 0 && self.yes > 0 && self.explained > 0 && came
+        }
+        self.otherwise == 0 && self.yes > 0 && self.explained > 0
     }
 
     /// Prints how often each answer came.

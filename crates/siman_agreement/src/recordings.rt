@@ -132,15 +132,14 @@ fn vary_entry(entry: &mut LogEntry, deed: Deed) {
 }
 
 /// Makes so much happen, and lets neighbours change places.
-fn happen(scene: &mut Scene) -> Result<(), AllocError> {
+fn happen(scene: &mut Scene) {
     let deeds = scene.random.below(MOST_DEEDS).saturating_add(1);
     for _ in 0..deeds {
-        scene.go_on()?;
+        scene.go_on();
     }
     for _ in 0..deeds {
         scene.swap();
     }
-    Ok(())
 }
 
 /// Adds what the first stations of a scene did, so many, varied or as it is.
@@ -181,7 +180,8 @@ fn recorded(
     let Ok(stations) = stations(alloc, scene, count) else {
         return Err(LogFault::Memory);
     };
-    if happen(scene).is_err() {
+    happen(scene);
+    if scene.is_short {
         return Err(LogFault::Memory);
     }
     let mut recording = Recording::start_form(alloc, form, 1, stations)?;
@@ -189,16 +189,13 @@ fn recorded(
     Ok(recording)
 }
 
-/// A recording of a form, of a scene that is made up.
-pub fn recording(alloc: Global, form: Form, random: Random) -> Result<Recording, LogFault> {
-    recorded(alloc, form, false, &mut begin(alloc, random))
-}
-
-/// The same with varied datagrams, so that orders of all kinds have all fates.
-pub(crate) fn varied_recording(
+/// A recording of a form, of a scene that is made up; with varied datagrams, if it is to have them, so
+/// that orders of all kinds have all fates.
+pub fn recording(
     alloc: Global,
     form: Form,
+    is_varied: bool,
     random: Random,
 ) -> Result<Recording, LogFault> {
-    recorded(alloc, form, true, &mut begin(alloc, random))
+    recorded(alloc, form, is_varied, &mut begin(alloc, random))
 }

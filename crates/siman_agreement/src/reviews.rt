@@ -1,7 +1,7 @@
 //! The review compared with the plain one, on recordings that are made up.
 
 use crate::agreement::is_number;
-use crate::recordings::varied_recording;
+use crate::recordings::recording;
 use exercise_findings::Findings;
 use exercise_model::{EntryView, ExerciseLog, Form, LARGEST_ENTITY, meaning_view};
 use exercise_review::{
@@ -17,13 +17,29 @@ use std::alloc::{AllocError, Global};
 use std::io;
 use std::io::Write;
 
+/// What is counted: each fate, and the sends that are missing.
+static COUNTED: [&str; 10] = [
+    "done",
+    "answered",
+    "refused",
+    "pending",
+    "unheard",
+    "unanswered",
+    "lost",
+    "unknown",
+    "nobody",
+    "missing",
+];
+
+/// The place of the fate in [`COUNTED`] that comes in open recordings alone.
+const UNKNOWN: usize = 7;
+
 /// What was told, and how often.
 #[derive(Drop)]
 pub struct Reviews {
     /// How many recordings were told otherwise than the plain review tells them.
     pub otherwise: u32,
-    fates: FateCounts,
-    missing: usize,
+    counts: [usize; 10],
 }
 
 /// Whether an entry acknowledges that it created all entities.
@@ -64,42 +80,47 @@ fn is_same(one: &Review, other: &Review) -> bool {
         && one.spans.as_slice() == other.spans.as_slice()
 }
 
-/// The plain review, and whether the fast one says the same; no entity is above `most`.
-pub(crate) fn compare_reviews<L: ExerciseLog>(
+/// Whether the fast review says what the plain one does.
+pub(crate) fn is_review_same<L: ExerciseLog>(
     alloc: Global,
     log: &L,
-    most: u16,
-) -> Result<(bool, Review), AllocError> {
-    let plain = plain_review(alloc, log, most)?;
+    plain: &Review,
+) -> Result<bool, AllocError> {
     match review_of(alloc, Findings::of(alloc, log)?) {
-        Ok(fast) => Ok((is_same(&fast, &plain), plain)),
-        Err(ReviewFault::OverLimit) => Ok((false, plain)),
+        Ok(fast) => Ok(is_same(&fast, plain)),
+        Err(ReviewFault::OverLimit) => Ok(false),
         Err(ReviewFault::Memory) => Err(AllocError),
     }
 }
 
-/// Whether what is said of each entry is as it is found plainly; and how many sends are missing.
-fn compare_entries<L: ExerciseLog>(
-    alloc: Global,
+/// Whether what is said of each entry is as it is found plainly.
+fn are_entries_same<L: ExerciseLog>(
     log: &L,
     register: &Register<'_, L>,
-) -> Result<(bool, usize), AllocError> {
-    let receipts = receipts_counted(alloc, register)?;
-    let (mut same, mut missing) = (receipts.len() == log.entry_count(), 0usize);
+    receipts: &[usize],
+) -> bool {
+    let mut same = receipts.len() == log.entry_count();
     for entry in 0..log.entry_count().saturating_add(1) {
-        let lacks = plain_missing(log, entry);
         same = same
-            && head_of(register, entry) == plain_head(alloc, log, entry)?
+            && head_of(register, entry) == plain_head(log, entry)
             && is_number(register.source(entry), plain_source(log, entry))
-            && missing_at(register, entry) == lacks;
+            && missing_at(register, entry) == plain_missing(log, entry);
         if let Some(count) = receipts.get(entry) {
             same = same && *count == plain_receipts(log, entry);
         }
-        if lacks.is_some() {
+    }
+    same
+}
+
+/// How many sends are missing.
+fn missing_in<L: ExerciseLog>(log: &L) -> usize {
+    let mut missing = 0usize;
+    for entry in 0..log.entry_count() {
+        if plain_missing(log, entry).is_some() {
             missing = missing.saturating_add(1);
         }
     }
-    Ok((same, missing))
+    missing
 }
 
 /// Whether what is said of an order by itself is as it is told plainly.
@@ -117,37 +138,39 @@ fn is_order_same<L: ExerciseLog>(register: &Register<'_, L>, told: &OrderAt) -> 
     }
 }
 
-/// Whether the lives of the first few entities of a station, and of the numbers 0 and 0xFFFF, which
-/// no entity has, are as they are found plainly. Past the last station there are none.
-fn are_lives_same<L: ExerciseLog>(
+/// Whether the life of an entity is as it is found plainly. Past the last station there is none.
+fn is_life_same<L: ExerciseLog>(
     alloc: Global,
     log: &L,
     register: &Register<'_, L>,
     station: u16,
+    entity: u16,
 ) -> Result<bool, AllocError> {
     if usize::from(station) >= register.log().station_count() {
         return Ok(true);
     }
-    for entity in [0, 1, 2, 3, 4, 5, LARGEST_ENTITY, 0xFFFF] {
-        let plain = plain_lives(alloc, log, station, entity)?;
-        let fast = lives_of(alloc, register, station, entity)?;
-        if fast.as_slice() != plain.as_slice() {
-            return Ok(false);
+    let plain = plain_lives(alloc, log, station, entity)?;
+    match lives_of(alloc, register, station, entity) {
+        Ok(fast) => Ok(fast.as_slice() == plain.as_slice()),
+        Err(error) => Err(error),
+    }
+}
+
+/// Whether the lives of the first few entities of each station, and of the numbers 0 and 0xFFFF, which
+/// no entity has, are as they are found plainly.
+fn are_lives_same<L: ExerciseLog>(
+    alloc: Global,
+    log: &L,
+    register: &Register<'_, L>,
+) -> Result<bool, AllocError> {
+    for station in 0..log.station_count() {
+        for entity in [0, 1, 2, 3, 4, 5, LARGEST_ENTITY, 0xFFFF] {
+            if !is_life_same(alloc, log, register, station as u16, entity)? {
+                return Ok(false);
+            }
         }
     }
     Ok(true)
-}
-
-fn add(counts: &mut FateCounts, more: &FateCounts) {
-    counts.done = counts.done.saturating_add(more.done);
-    counts.answered = counts.answered.saturating_add(more.answered);
-    counts.refused = counts.refused.saturating_add(more.refused);
-    counts.pending = counts.pending.saturating_add(more.pending);
-    counts.unheard = counts.unheard.saturating_add(more.unheard);
-    counts.unanswered = counts.unanswered.saturating_add(more.unanswered);
-    counts.lost = counts.lost.saturating_add(more.lost);
-    counts.unknown = counts.unknown.saturating_add(more.unknown);
-    counts.nobody = counts.nobody.saturating_add(more.nobody);
 }
 
 /// Whether each order of a review is by itself as it is told plainly.
@@ -160,103 +183,97 @@ fn are_orders_same<L: ExerciseLog>(register: &Register<'_, L>, told: &[OrderAt])
     true
 }
 
-/// Whether the lives of each station are as they are found plainly.
-fn are_all_lives_same<L: ExerciseLog>(
+/// Whether what is said of single orders, entries and lives is as it is found plainly.
+fn is_single_same<L: ExerciseLog>(
     alloc: Global,
     log: &L,
     register: &Register<'_, L>,
+    told: &[OrderAt],
 ) -> Result<bool, AllocError> {
-    for station in 0..log.station_count() {
-        if !are_lives_same(alloc, log, register, station as u16)? {
-            return Ok(false);
-        }
+    let lives = are_lives_same(alloc, log, register)?;
+    if !lives || !are_orders_same(register, told) {
+        return Ok(false);
     }
-    Ok(true)
+    let receipts = receipts_counted(alloc, register)?;
+    Ok(are_entries_same(log, register, &receipts))
 }
 
-/// Whether what is said of single orders, entries and lives is as it is found plainly; and how many
-/// sends are missing.
-fn compare_single<L: ExerciseLog>(
-    alloc: Global,
-    log: &L,
-    register: &Register<'_, L>,
-    told: &[OrderAt],
-) -> Result<(bool, usize), AllocError> {
-    let (same, missing) = compare_entries(alloc, log, register)?;
-    let same_lives = are_all_lives_same(alloc, log, register)?;
-    Ok((
-        same && same_lives && are_orders_same(register, told),
-        missing,
-    ))
-}
-
-/// As [`compare_single`], over what is found of the log.
-fn compare_found<L: ExerciseLog>(
+/// As [`is_single_same`], over what is found of the log.
+fn is_found_same<L: ExerciseLog>(
     alloc: Global,
     log: &L,
     told: &[OrderAt],
-) -> Result<(bool, usize), AllocError> {
+) -> Result<bool, AllocError> {
     let register = Register::of(alloc, Findings::of(alloc, log)?)?;
-    compare_single(alloc, log, &register, told)
+    is_single_same(alloc, log, &register, told)
+}
+
+/// Whether what is told of a recording is what the plain review tells.
+fn is_told_same<L: ExerciseLog>(
+    alloc: Global,
+    log: &L,
+    plain: &Review,
+) -> Result<bool, AllocError> {
+    if is_review_same(alloc, log, plain)? {
+        is_found_same(alloc, log, &plain.told)
+    } else {
+        Ok(false)
+    }
+}
+
+/// How often each fate came, by the places of [`COUNTED`], and how many sends are missing.
+fn counts_of(fates: &FateCounts, missing: usize) -> [usize; 10] {
+    [
+        fates.done,
+        fates.answered,
+        fates.refused,
+        fates.pending,
+        fates.unheard,
+        fates.unanswered,
+        fates.lost,
+        fates.unknown,
+        fates.nobody,
+        missing,
+    ]
 }
 
 impl Reviews {
     /// Notes a comparison.
-    fn note(&mut self, same: bool, fates: &FateCounts, missing: usize) {
+    fn note(&mut self, same: bool, more: &[usize; 10]) {
         if !same {
             self.otherwise = self.otherwise.saturating_add(1);
         }
-        self.missing = self.missing.saturating_add(missing);
-        add(&mut self.fates, fates);
+        for place in 0..10usize {
+            self.counts[place] = self.counts[place].saturating_add(more[place]);
+        }
     }
 
     /// Compares what is told of a recording.
     fn try_log<L: ExerciseLog>(&mut self, alloc: Global, log: &L) -> Result<(), AllocError> {
-        let (same, plain) = compare_reviews(alloc, log, most_in(log))?;
-        let (same_single, missing) = compare_found(alloc, log, &plain.told)?;
-        self.note(same && same_single, &plain.fates, missing);
+        let plain = plain_review(alloc, log, most_in(log))?;
+        let same = is_told_same(alloc, log, &plain)?;
+        self.note(same, &counts_of(&plain.fates, missing_in(log)));
         Ok(())
     }
 
     /// Whether all recordings were told as the plain review tells them, and each fate came, in a
     /// recording that is not open each but unknown.
     pub fn are_good(&self, form: Form) -> bool {
-        let fates = &self.fates;
+        for place in 0..10usize {
+            let is_wanted = place != UNKNOWN || form == Form::Open;
+            if (self.counts[place] > 0) != is_wanted {
+                return false;
+            }
+        }
         self.otherwise == 0
-            && self.missing > 0
-            && fates.done > 0
-            && fates.answered > 0
-            && fates.refused > 0
-            && fates.pending > 0
-            && fates.unheard > 0
-            && fates.unanswered > 0
-            && fates.lost > 0
-            && (fates.unknown > 0) == (form == Form::Open)
-            && fates.nobody > 0
     }
 
     /// Prints how often each fate came.
     pub fn print<W: Write>(&self, out: &mut W) -> io::Result<()> {
-        let FateCounts {
-            done,
-            answered,
-            refused,
-            pending,
-            unheard,
-            unanswered,
-            lost,
-            unknown,
-            nobody,
-        } = self.fates;
-        write!(out, "done {done}, answered {answered}, refused {refused}, ")?;
-        write!(out, "pending {pending}, unheard {unheard}, ")?;
-        write!(out, "unanswered {unanswered}, lost {lost}, ")?;
-        write!(out, "unknown {unknown}, nobody {nobody}, ")?;
-        writeln!(
-            out,
-            "missing {}, otherwise {}",
-            self.missing, self.otherwise
-        )
+        for place in 0..10usize {
+            write!(out, "{} {}, ", COUNTED[place], self.counts[place])?;
+        }
+        writeln!(out, "otherwise {}", self.otherwise)
     }
 }
 
@@ -264,25 +281,14 @@ impl Reviews {
 pub fn try_reviews(alloc: Global, form: Form, count: u32) -> Result<Reviews, AllocError> {
     let mut reviews = Reviews {
         otherwise: 0,
-        fates: FateCounts {
-            done: 0,
-            answered: 0,
-            refused: 0,
-            pending: 0,
-            unheard: 0,
-            unanswered: 0,
-            lost: 0,
-            unknown: 0,
-            nobody: 0,
-        },
-        missing: 0,
+        counts: [0; 10],
     };
     for number in 0..count {
         let mut random = Random {
             state: u64::from(number),
         };
         let _first = random.below(1);
-        match varied_recording(alloc, form, random) {
+        match recording(alloc, form, true, random) {
             Ok(log) => reviews.try_log(alloc, &log)?,
             Err(_) => reviews.otherwise = reviews.otherwise.saturating_add(1),
         }

@@ -52,7 +52,7 @@ fn stands_without(alloc: Global, case: &Case, call: u64) -> io::Result<bool> {
 /// stands otherwise.
 fn fail_each_byte<W: Write>(alloc: Global, case: &Case, out: &mut W) -> io::Result<bool> {
     let mut good = true;
-    if !case.at_line.each_byte {
+    if !case.each_byte {
         return Ok(good);
     }
     for byte in 0..case.left.bytes.len() {
@@ -67,7 +67,7 @@ fn fail_each_byte<W: Write>(alloc: Global, case: &Case, out: &mut W) -> io::Resu
 /// Lets each of the first calls of the line fail in turn, as many as the case asks for.
 fn fail_each_call<W: Write>(alloc: Global, case: &Case, out: &mut W) -> io::Result<bool> {
     let mut good = true;
-    for call in 1..=case.at_line.each_call {
+    for call in 1..=case.each_call {
         if !stands_without(alloc, case, call)? {
             writeln!(out, "{}: otherwise where call {call} fails", case.name)?;
             good = false;

@@ -8,7 +8,7 @@
 //! | `case NAME` | here a case begins; files stay for the cases behind it, all else begins anew |
 //! | `words WORD..` | the words of the command line behind the program's name, one space between |
 //! | `word` | one word more, which the lines behind it fill |
-//! | `unread KIND` | the words can't be had: `utf8` or `memory` |
+//! | `unread-utf8`, `unread-memory` | the words can't be had: they are no UTF-8, or memory is refused |
 //! | `file NAME` | a file of that name, which the lines behind it fill |
 //! | `shut NAME`, `folder NAME`, `odd NAME`, `full NAME` | a file that can't be opened or made: no permission, a directory, what is none in its path, no memory |
 //! | `input`, `out`, `errors`, `left` | the lines behind it fill standard input, what must be out, what must be told of faults, what the file must hold that is made |

@@ -6,7 +6,7 @@ ghost use Rattle.siman_cases.specs.Done.{deed_of, deeds_of};
 use crate::done::{Done, endpoints, failure, had, letters, number};
 use http_server::Log;
 use siman_console::{Endpoint, Outside};
-use siman_fixtures::{Calls, File, Given, StationCase, Written, found, read_from, write_to};
+use siman_fixtures::{Calls, Case, File, Given, Written, found, read_from, write_to};
 use siman_trials::{WireLine, line_with, lines_of};
 use std::alloc::Global;
 use std::io;
@@ -17,13 +17,12 @@ use std::io::ErrorKind;
 #[derive(Drop)]
 pub(crate) struct Shelf<'a> {
     alloc: Global,
-    files: &'a [File],
+    /// The case whose files they are, and what comes on the line of a station in it.
+    case: &'a Case,
     /// How the calls of a file that is made go.
     makes: Calls,
     /// The number of the call that fails, from 1, of those that lines make; 0: no lines can be had.
     line_fails: Option<u64>,
-    /// What comes on the line of a station.
-    at_line: &'a StationCase,
     /// The line of a station's peer.
     peer: Option<WireLine>,
     /// The file that was opened last.
@@ -36,22 +35,15 @@ pub(crate) struct Shelf<'a> {
     pub(crate) discarded: Option<Vec<u8>>,
 }
 
-/// A shelf with these files, of which nothing was asked so far.
-pub(crate) fn filled<'a>(
-    alloc: Global,
-    files: &'a [File],
-    makes: Calls,
-    line_fails: Option<u64>,
-    at_line: &'a StationCase,
-) -> Shelf<'a>
+/// A shelf with the files of a case, of which nothing was asked so far.
+pub(crate) fn filled(alloc: Global, case: &Case, makes: Calls, line_fails: Option<u64>) -> Shelf<'_>
     ensures { deeds_of result.done ≡ [] }
 {
     Shelf {
         alloc,
-        files,
+        case,
         makes,
         line_fails,
-        at_line,
         peer: None,
         opened: None,
         asked: String::new(alloc),
@@ -75,7 +67,7 @@ impl<'a> Shelf<'a> {
     {
         self.asked.push_str(name)?;
         self.asked.push('\n')?;
-        let Some(file) = found(self.files, name) else {
+        let Some(file) = found(&self.case.files, name.as_bytes()) else {
             return Err(io::Error::from(ErrorKind::NotFound));
         };
         match file.shut {
@@ -94,7 +86,7 @@ impl<'a> Shelf<'a> {
         self.asked.push_str("make ")?;
         self.asked.push_str(name)?;
         self.asked.push('\n')?;
-        match found(self.files, name) {
+        match found(&self.case.files, name.as_bytes()) {
             Some(
                 File {
                     shut: Some(kind),
@@ -128,7 +120,7 @@ impl<'a> Shelf<'a> {
         if self.line_fails == Some(0) {
             return Err(io::Error::from(ErrorKind::Other));
         }
-        let StationCase { coming, pauses, .. } = self.at_line;
+        let Case { coming, pauses, .. } = self.case;
         match line_with(alloc, coming, pauses, self.line_fails)? {
             Some((own, peer)) => {
                 self.peer = Some(peer);
@@ -170,7 +162,7 @@ impl<'a> Outside for Shelf<'a> {
 
     fn read(&mut self, file: &'a File) -> Given<'a> {
         self.note(Done::Read);
-        read_from(&file.bytes, file.calls)
+        read_from(&file.stream.bytes, file.stream.calls)
     }
 
     fn make(&mut self, name: &str) -> io::Result<Written> {
@@ -191,7 +183,7 @@ impl<'a> Outside for Shelf<'a> {
     }
 
     fn is_taken(&mut self, name: &str) -> bool {
-        let taken = match found(self.files, name) {
+        let taken = match found(&self.case.files, name.as_bytes()) {
             Some(file) => file.shut.is_none(),
             None => false,
         };

@@ -11,9 +11,7 @@ use crate::failing::try_failing;
 use crate::shelf::{Shelf, filled};
 use siman_agreement::compare_case;
 use siman_console::{Ended, run};
-use siman_fixtures::{
-    Calls, Case, Line, Stream, Written, begin_case, read_from, read_line, write_to,
-};
+use siman_fixtures::{Calls, Case, Stream, Written, begin_case, read_from, write_to};
 use siman_trials::{compare, sent_text, try_at_line};
 use std::alloc::Global;
 use std::io;
@@ -37,7 +35,7 @@ fn words(alloc: Global, case: &Case) -> io::Result<Vec<String>> {
     let mut words = Vec::new(alloc);
     words.push(String::from_str(alloc, "siman")?)?;
     for word in &case.words {
-        words.push(String::from_utf8_lossy(alloc, word)?)?;
+        words.push(String::from_utf8_lossy(alloc, &word.bytes)?)?;
     }
     Ok(words)
 }
@@ -62,7 +60,7 @@ pub(crate) fn run_case(
 ) -> Outcome<'_>
     ensures { (told : Telling WireLine) × (words : Result (List (List ℕ)) ErrorKind) × EndsProgram told words (deeds_of result.shelf.done) None (record { ended = result.ended; out = untold; errors = untold }) }
 {
-    let mut shelf = filled(alloc, &case.files, makes, line_fails, &case.at_line);
+    let mut shelf = filled(alloc, case, makes, line_fails);
     let mut out = write_to(alloc, case.out.calls);
     let mut errors = write_to(alloc, case.errors.calls);
     let input = read_from(&case.input.bytes, case.input.calls);
@@ -95,9 +93,10 @@ fn compare_made<W: Write>(
 /// Prints which files were asked for, left or discarded, where it is otherwise.
 fn compare_files<W: Write>(case: &Case, shelf: &Shelf<'_>, out: &mut W) -> io::Result<bool> {
     let name = &case.name;
-    let asked = match &case.asked {
-        Some(asked) => compare(name, "asked", shelf.asked.as_bytes(), asked.as_bytes(), out)?,
-        None => true,
+    let asked = if case.is_asked {
+        compare(name, "asked", shelf.asked.as_bytes(), &case.asked, out)?
+    } else {
+        true
     };
     if case.keep.is_some() {
         return match &shelf.left {
@@ -125,7 +124,7 @@ fn compare_sent<W: Write>(
     out: &mut W,
 ) -> io::Result<bool> {
     let sent = sent_text(alloc, &shelf.sent(alloc)?)?;
-    compare(&case.name, "sent", sent.as_bytes(), &case.at_line.sent, out)
+    compare(&case.name, "sent", sent.as_bytes(), &case.sent.bytes, out)
 }
 
 /// Prints what a run left otherwise than its case wants; whether nothing is otherwise.
@@ -136,7 +135,7 @@ fn compare_all<W: Write>(
     out: &mut W,
 ) -> io::Result<bool> {
     let (name, status, half) = (&case.name, left.ended.status, left.ended.written.is_err());
-    let ended = status == case.status && half == case.half_told;
+    let ended = u64::from(status) == case.status && half == case.half_told;
     if !ended {
         writeln!(out, "{name}: status {status}, half-told {half}")?;
     }
@@ -154,10 +153,11 @@ fn try_case<W: Write>(
     case: &Case,
     out: &mut W,
 ) -> io::Result<(bool, Option<Vec<u8>>)> {
-    if let Some(station) = case.at_line.station {
+    if let Some(station) = case.station {
+        let station = station.min(0xFFFF) as u16;
         return Ok((try_at_line(alloc, case, station, out)?, None));
     }
-    let left = run_case(alloc, case, case.left.calls, case.at_line.fails_at);
+    let left = run_case(alloc, case, case.left.calls, case.fails_at);
     let good = compare_all(alloc, case, &left, out)? && try_failing(alloc, case, out)?;
     let Outcome { shelf, .. } = left;
     let Shelf { left, .. } = shelf;
@@ -200,13 +200,10 @@ impl Tally {
         line: &str,
         out: &mut W,
     ) -> io::Result<bool> {
-        let Some(line) = read_line(line) else {
-            return Ok(false);
-        };
-        if matches!(line, Line::Case(_)) {
+        if line.starts_with("case ") {
             self.add(alloc, case, out)?;
         }
-        case.take(&line)
+        case.take(line)
     }
 }
 

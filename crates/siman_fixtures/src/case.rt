@@ -1,25 +1,20 @@
 //! A case, as its lines fill it.
 
 use crate::calls::{Calls, WELL};
-use crate::file::File;
-use crate::lines::{Line, Part};
-use crate::station_case::{StationCase, nobody};
-use std::alloc::Global;
+use crate::file::{File, Stream, empty};
+use crate::lines::{Asked, Line, Part, Says, read_line};
+use std::alloc::{AllocError, Global};
 use std::io::{ErrorKind, Write};
 use std::{io, mem};
 
-/// Bytes that are given or must be left, and how the calls go that read or write them.
-#[derive(Drop)]
-pub struct Stream {
-    pub bytes: Vec<u8>,
-    pub calls: Calls,
-}
-
-fn empty(alloc: Global) -> Stream {
-    Stream {
-        bytes: Vec::new(alloc),
-        calls: WELL,
-    }
+/// A call of a station at its line, or what is asked of it.
+#[derive(Clone, Copy)]
+pub struct Call {
+    pub asked: Asked,
+    /// The time, or the number of what is asked for.
+    pub number: u64,
+    /// For how many turns it serves.
+    pub turns: u64,
 }
 
 /// What the program is given, and what it must leave.
@@ -27,7 +22,7 @@ pub struct Case {
     alloc: Global,
     pub name: String,
     /// The words behind the program's name, each as bytes of UTF-8.
-    pub words: Vec<Vec<u8>>,
+    pub words: Vec<Stream>,
     pub unread: Option<ErrorKind>,
     pub files: Vec<File>,
     pub input: Stream,
@@ -40,10 +35,27 @@ pub struct Case {
     pub is_discarded: bool,
     /// The name under which the file that is left stands for the cases behind, whatever it holds.
     pub keep: Option<String>,
-    pub asked: Option<String>,
-    pub status: u8,
+    /// Which files must be opened or made, a line each, where the case says it.
+    pub asked: Vec<u8>,
+    pub is_asked: bool,
+    pub status: u64,
     pub half_told: bool,
-    pub at_line: StationCase,
+    /// The index in the script of the station at a line over memory. `None`: the case is of the
+    /// program.
+    pub station: Option<u64>,
+    /// What comes on the line.
+    pub coming: Vec<Stream>,
+    /// Before which of them, by their numbers from 0, a receive finds nothing, once for each.
+    pub pauses: Vec<usize>,
+    /// The number of the line's call that fails, from 1.
+    pub fails_at: Option<u64>,
+    pub calls: Vec<Call>,
+    /// What must be on the line: each datagram in hex digits, with a line end.
+    pub sent: Stream,
+    /// How many calls of the line are to fail in turn.
+    pub each_call: u64,
+    /// Whether each byte is to fail in turn that is written.
+    pub each_byte: bool,
     part: Part,
 }
 
@@ -64,24 +76,20 @@ impl Drop for Case {
             is_discarded: _is_discarded,
             keep: _keep,
             asked: _asked,
+            is_asked: _is_asked,
             status: _status,
             half_told: _half_told,
-            at_line: _at_line,
+            station: _station,
+            coming: _coming,
+            pauses: _pauses,
+            fails_at: _fails_at,
+            calls: _calls,
+            sent: _sent,
+            each_call: _each_call,
+            each_byte: _each_byte,
             part: _part,
         } = self;
     }
-}
-
-/// Puts a text and a line end, with a number in the place of each `%`.
-fn put_numbered(out: &mut Vec<u8>, number: u32, text: &str) -> io::Result<()> {
-    for (i, part) in text.split('%').enumerate() {
-        if i > 0 {
-            write!(out, "{number}")?;
-        }
-        out.extend_from_slice(part.as_bytes())?;
-    }
-    out.push(b'\n')?;
-    Ok(())
 }
 
 /// A case of a name with these files, of which nothing else is said so far; before the first there
@@ -100,196 +108,223 @@ pub fn begin_case(alloc: Global, name: String, files: Vec<File>) -> Case {
         is_left: false,
         is_discarded: false,
         keep: None,
-        asked: None,
+        asked: Vec::new(alloc),
+        is_asked: false,
         status: 0,
         half_told: false,
-        at_line: nobody(alloc),
+        station: None,
+        coming: Vec::new(alloc),
+        pauses: Vec::new(alloc),
+        fails_at: None,
+        calls: Vec::new(alloc),
+        sent: empty(alloc),
+        each_call: 0,
+        each_byte: false,
         part: Part::Out,
     }
 }
 
+/// Puts a text so many times, each with its end.
+fn put_times(out: &mut Vec<u8>, times: u64, text: &str, end: &str) -> Result<(), AllocError> {
+    for _ in 0..times {
+        out.extend_from_slice(text.as_bytes())?;
+        out.extend_from_slice(end.as_bytes())?;
+    }
+    Ok(())
+}
+
+/// Puts the text of a line and a line end for each of its numbers, which stands in the place of each
+/// `%`.
+fn put_each(out: &mut Vec<u8>, line: Line<'_>) -> io::Result<()> {
+    for number in line.first..=line.last {
+        for byte in line.text.as_bytes() {
+            if *byte == b'%' {
+                write!(out, "{number}")?;
+            } else {
+                out.push(*byte)?;
+            }
+        }
+        out.push(b'\n')?;
+    }
+    Ok(())
+}
+
+/// Puts bytes that stand as pairs of hex digits, with spaces between some; whether they stand so.
+fn put_hex(out: &mut Vec<u8>, text: &str) -> io::Result<bool> {
+    let (mut high, mut is_half) = (0u32, false);
+    for letter in text.chars() {
+        match letter.to_digit(16) {
+            Some(digit) if is_half => out.push((high.saturating_add(digit) % 256) as u8)?,
+            Some(digit) => high = digit.saturating_mul(16),
+            None if letter == ' ' && !is_half => continue,
+            None => return Ok(false),
+        }
+        is_half = !is_half;
+    }
+    Ok(!is_half)
+}
+
+/// How many bytes a call takes, which fails, and how.
+fn calls_of(line: Line<'_>) -> Option<Calls> {
+    let kind = match line.text {
+        "other" => Some(ErrorKind::Other),
+        "interrupted" => Some(ErrorKind::Interrupted),
+        "nothing" => None,
+        _ => return None,
+    };
+    Some(Calls {
+        most: line.first as usize,
+        fails_at: line.last,
+        kind,
+    })
+}
+
 impl Case {
     /// The next case, with the files of this one.
-    fn next(&mut self, name: &str) -> io::Result<()> {
+    fn next(&mut self, name: &str) -> Result<(), AllocError> {
         let name = String::from_str(self.alloc, name)?;
         let files = mem::replace(&mut self.files, Vec::new(self.alloc));
         *self = begin_case(self.alloc, name, files);
         Ok(())
     }
 
-    /// The bytes that the lines behind it fill.
-    fn filled(&mut self) -> Option<&mut Vec<u8>> {
+    /// What the lines behind it fill.
+    fn filled(&mut self) -> Option<&mut Stream> {
         match self.part {
             Part::Word => self.words.last_mut(),
             Part::File => match self.files.last_mut() {
-                Some(file) => Some(&mut file.bytes),
+                Some(file) => Some(&mut file.stream),
                 None => None,
             },
-            Part::Input => Some(&mut self.input.bytes),
-            Part::Out => Some(&mut self.out.bytes),
-            Part::Errors => Some(&mut self.errors.bytes),
-            Part::Left | Part::Discarded => Some(&mut self.left.bytes),
-            Part::Coming => self.at_line.coming.last_mut(),
-            Part::Sent => Some(&mut self.at_line.sent),
+            Part::Input => Some(&mut self.input),
+            Part::Out => Some(&mut self.out),
+            Part::Errors => Some(&mut self.errors),
+            Part::Left | Part::Discarded => Some(&mut self.left),
+            Part::Coming => self.coming.last_mut(),
+            Part::Sent => Some(&mut self.sent),
         }
     }
 
-    fn add(&mut self, bytes: &[u8]) -> io::Result<bool> {
-        match self.filled() {
-            Some(filled) => {
-                filled.extend_from_slice(bytes)?;
-                Ok(true)
-            }
-            None => Ok(false),
-        }
-    }
-
-    fn add_times(&mut self, times: u32, text: &str) -> io::Result<bool> {
-        let mut added = true;
-        for _ in 0..times {
-            added = self.add(text.as_bytes())? && added;
-        }
-        Ok(added)
-    }
-
-    fn add_each(&mut self, first: u32, last: u32, text: &str) -> io::Result<bool> {
+    /// Takes what a line says of what is filled; false where it can't stand here.
+    fn fill(&mut self, line: Line<'_>) -> io::Result<bool> {
         let Some(filled) = self.filled() else {
             return Ok(false);
         };
-        for number in first..=last {
-            put_numbered(filled, number, text)?;
+        let bytes = &mut filled.bytes;
+        match line.says {
+            Says::Text => put_times(bytes, 1, line.text, "\n")?,
+            Says::Piece => put_times(bytes, 1, line.text, "")?,
+            Says::Times => put_times(bytes, line.last, line.text, "")?,
+            Says::Each => put_each(bytes, line)?,
+            Says::Hex => return put_hex(bytes, line.text),
+            _ => match calls_of(line) {
+                Some(calls) => filled.calls = calls,
+                None => return Ok(false),
+            },
         }
         Ok(true)
     }
 
-    fn add_hex(&mut self, text: &str) -> io::Result<bool> {
-        let mut added = true;
-        for digits in text.split(' ') {
-            added = match hex::decode(self.alloc, digits) {
-                Ok(bytes) => self.add(&bytes)? && added,
-                Err(_) => false,
-            };
-        }
-        Ok(added)
-    }
-
-    fn add_words(&mut self, text: &str) -> io::Result<()> {
+    fn add_words(&mut self, text: &str) -> Result<(), AllocError> {
         for word in text.split(' ') {
-            self.words
-                .push(Vec::from_slice(self.alloc, word.as_bytes())?)?;
+            self.words.push(Stream {
+                bytes: Vec::from_slice(self.alloc, word.as_bytes())?,
+                calls: WELL,
+            })?;
         }
         Ok(())
     }
 
-    fn add_file(&mut self, name: &str, shut: Option<ErrorKind>) -> io::Result<()> {
-        let file = File {
-            name: String::from_str(self.alloc, name)?,
-            bytes: Vec::new(self.alloc),
-            calls: WELL,
-            shut,
-        };
-        self.files.push(file)?;
+    fn add_file(&mut self, name: &str, shut: Option<ErrorKind>) -> Result<(), AllocError> {
         self.part = Part::File;
+        self.files.push(File {
+            name: String::from_str(self.alloc, name)?,
+            stream: empty(self.alloc),
+            shut,
+        })?;
         Ok(())
     }
 
-    fn keep_as(&mut self, name: &str) -> io::Result<()> {
+    fn keep_as(&mut self, name: &str) -> Result<(), AllocError> {
         self.keep = Some(String::from_str(self.alloc, name)?);
         Ok(())
     }
 
+    fn call(&mut self, call: Call) -> Result<(), AllocError> {
+        Ok(self.calls.push(call)?)
+    }
+
     /// Adds the file that was left, if it is to be kept.
-    pub fn keep_left(&mut self, left: Option<Vec<u8>>) -> io::Result<()> {
+    pub fn keep_left(&mut self, left: Option<Vec<u8>>) -> Result<(), AllocError> {
         if let (Some(name), Some(bytes)) = (self.keep.take(), left) {
-            let file = File {
+            let stream = Stream { bytes, calls: WELL };
+            self.files.push(File {
                 name,
-                bytes,
-                calls: WELL,
+                stream,
                 shut: None,
-            };
-            self.files.push(file)?;
+            })?;
         }
         Ok(())
     }
 
-    fn begin(&mut self, part: Part) -> io::Result<()> {
+    fn begin(&mut self, part: Part) -> Result<(), AllocError> {
+        self.part = part;
         match part {
-            Part::Word => self.words.push(Vec::new(self.alloc))?,
-            Part::Coming => self.at_line.coming.push(Vec::new(self.alloc))?,
+            Part::Word => self.words.push(empty(self.alloc))?,
+            Part::Coming => self.coming.push(empty(self.alloc))?,
+            Part::Left => self.is_left = true,
+            Part::Discarded => self.is_discarded = true,
             _ => {}
         }
-        self.is_left = self.is_left || matches!(part, Part::Left);
-        self.is_discarded = self.is_discarded || matches!(part, Part::Discarded);
-        self.part = part;
-        Ok(())
-    }
-
-    fn set_calls(&mut self, calls: Calls) -> bool {
-        match self.part {
-            Part::Word | Part::Coming | Part::Sent => return false,
-            Part::File => match self.files.last_mut() {
-                Some(file) => file.calls = calls,
-                None => return false,
-            },
-            Part::Input => self.input.calls = calls,
-            Part::Out => self.out.calls = calls,
-            Part::Errors => self.errors.calls = calls,
-            Part::Left | Part::Discarded => self.left.calls = calls,
-        }
-        true
-    }
-
-    fn ask(&mut self, name: &str) -> io::Result<()> {
-        let mut asked = match self.asked.take() {
-            Some(asked) => asked,
-            None => String::new(self.alloc),
-        };
-        asked.push_str(name)?;
-        asked.push('\n')?;
-        self.asked = Some(asked);
         Ok(())
     }
 
     /// Takes what a line says in one value.
-    fn set(&mut self, line: &Line<'_>) {
-        match *line {
-            Line::Unread(kind) => self.unread = Some(kind),
-            Line::Status(status) => self.status = status,
-            Line::AskedNothing => self.asked = Some(String::new(self.alloc)),
-            Line::HalfTold => self.half_told = true,
-            Line::Station(station) => self.at_line.station = Some(station),
-            Line::LineFails(number) => self.at_line.fails_at = Some(number),
-            Line::EachCallFails(count) => self.at_line.each_call = count,
-            Line::EachByteFails => self.at_line.each_byte = true,
+    fn set(&mut self, line: Line<'_>) {
+        match line.says {
+            Says::Unread(kind) => self.unread = Some(kind),
+            Says::Status => self.status = line.last,
+            Says::Asked | Says::AskedNothing => self.is_asked = true,
+            Says::HalfTold => self.half_told = true,
+            Says::Station => self.station = Some(line.last),
+            Says::LineFails => self.fails_at = Some(line.last),
+            Says::EachCallFails => self.each_call = line.last,
+            Says::EachByteFails => self.each_byte = true,
             _ => {}
         }
     }
 
     /// Takes what a line adds to the case, or the next case.
-    fn enter(&mut self, line: &Line<'_>) -> io::Result<()> {
-        match *line {
-            Line::Case(name) => self.next(name),
-            Line::Words(words) => self.add_words(words),
-            Line::File(name) => self.add_file(name, None),
-            Line::Shut(name, kind) => self.add_file(name, Some(kind)),
-            Line::Begin(part) => self.begin(part),
-            Line::Asked(name) => self.ask(name),
-            Line::Keep(name) => self.keep_as(name),
-            Line::Call(call) => Ok(self.at_line.calls.push(call)?),
-            Line::Pause => Ok(self.at_line.pauses.push(self.at_line.coming.len())?),
+    fn enter(&mut self, line: Line<'_>) -> Result<(), AllocError> {
+        match line.says {
+            Says::Case => self.next(line.text),
+            Says::Words => self.add_words(line.text),
+            Says::File(shut) => self.add_file(line.text, shut),
+            Says::Begin(part) => self.begin(part),
+            Says::Asked => put_times(&mut self.asked, 1, line.text, "\n"),
+            Says::Keep => self.keep_as(line.text),
+            Says::Pause => Ok(self.pauses.push(self.coming.len())?),
+            Says::Call(asked) => self.call(Call {
+                asked,
+                number: line.first,
+                turns: line.last,
+            }),
             _ => Ok(()),
         }
     }
 
-    /// Takes what a line says; false where it can't stand here.
-    pub fn take(&mut self, line: &Line<'_>) -> io::Result<bool> {
-        match *line {
-            Line::Text(text) => Ok(self.add(text.as_bytes())? && self.add(b"\n")?),
-            Line::Piece(text) => self.add(text.as_bytes()),
-            Line::Times(times, text) => self.add_times(times, text),
-            Line::Each(first, last, text) => self.add_each(first, last, text),
-            Line::Hex(text) => self.add_hex(text),
-            Line::Calls(calls) => Ok(self.set_calls(calls)),
+    /// Takes a line; false where it can't be read, or can't stand here.
+    pub fn take(&mut self, line: &str) -> io::Result<bool> {
+        if line.is_empty() || line.starts_with('#') {
+            return Ok(true);
+        }
+        let Some(line) = read_line(line) else {
+            return Ok(false);
+        };
+        match line.says {
+            Says::Text | Says::Piece | Says::Times | Says::Each | Says::Hex | Says::Calls => {
+                self.fill(line)
+            }
             _ => {
                 self.set(line);
                 self.enter(line)?;

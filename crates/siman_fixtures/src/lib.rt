@@ -13,13 +13,11 @@ mod letter;
 mod lines;
 mod random;
 mod scene;
-mod station_case;
 
 pub use calls::{Calls, Given, WELL, Written, read_from, write_to};
-pub use case::{Case, Stream, begin_case};
+pub use case::{Call, Case, begin_case};
 pub use entries::{Entries, entries_of};
-pub use file::{File, found};
-pub use lines::{Line, Part, read_line};
+pub use file::{File, Stream, found};
+pub use lines::Asked;
 pub use random::Random;
 pub use scene::{Deed, ENTITIES, Scene, begin, place_of, station_of};
-pub use station_case::{Call, StationCase};

@@ -1,12 +1,10 @@
 //! The lines of a file of cases.
 
-use crate::calls::Calls;
-use crate::station_case::Call;
 use std::io::ErrorKind;
 
 /// What the lines behind it fill.
 #[derive(Clone, Copy)]
-pub enum Part {
+pub(crate) enum Part {
     Word,
     File,
     Input,
@@ -18,173 +16,161 @@ pub enum Part {
     Sent,
 }
 
-/// What a line says.
+/// What a case has its station do, or asks of it.
 #[derive(Clone, Copy)]
-pub enum Line<'a> {
-    Nothing,
-    Case(&'a str),
-    Words(&'a str),
+pub enum Asked {
+    /// It serves its line, at a time, for so many turns.
+    Serve,
+    /// It issues the next order of the script, at a time.
+    Issue,
+    /// It sends the repeat that is due at a time.
+    Nudge,
+    /// How the order of a request identifier stands.
+    Order,
+    /// How an entity stands.
+    Entity,
+    /// Which value the fixed datum of an identifier has.
+    Datum,
+    /// How many orders are given up.
+    GivenUp,
+}
+
+/// What the word of a line says.
+#[derive(Clone, Copy)]
+pub(crate) enum Says {
+    Case,
+    Words,
     Unread(ErrorKind),
-    File(&'a str),
-    Shut(&'a str, ErrorKind),
+    File(Option<ErrorKind>),
     Begin(Part),
-    Text(&'a str),
-    Piece(&'a str),
-    Times(u32, &'a str),
-    Each(u32, u32, &'a str),
-    Hex(&'a str),
-    Calls(Calls),
-    Asked(&'a str),
-    Status(u8),
+    Text,
+    Piece,
+    Times,
+    Each,
+    Hex,
+    Calls,
+    Asked,
     AskedNothing,
-    Keep(&'a str),
+    Keep,
+    Status,
     HalfTold,
-    Station(u16),
-    LineFails(u64),
-    Call(Call),
+    Station,
+    LineFails,
+    Call(Asked),
     Pause,
-    EachCallFails(u64),
+    EachCallFails,
     EachByteFails,
 }
 
-/// The kind of fault of a name; `nothing` is none.
-fn read_kind(name: &str) -> Option<Option<ErrorKind>> {
-    match name {
-        "other" => Some(Some(ErrorKind::Other)),
-        "interrupted" => Some(Some(ErrorKind::Interrupted)),
-        "nothing" => Some(None),
-        _ => None,
-    }
+/// A line: what its word says, the first and the last of the numbers behind the word, and the text
+/// behind those.
+#[derive(Clone, Copy)]
+pub(crate) struct Line<'a> {
+    pub(crate) says: Says,
+    pub(crate) first: u64,
+    pub(crate) last: u64,
+    pub(crate) text: &'a str,
 }
 
-/// How many bytes a call takes, which fails, and how.
-fn read_calls(text: &str) -> Option<Line<'_>> {
-    let (most, text) = text.split_once(' ')?;
-    let (fails_at, kind) = text.split_once(' ')?;
-    Some(Line::Calls(Calls {
-        most: most.parse::<usize>().ok()?,
-        fails_at: fails_at.parse::<u64>().ok()?,
-        kind: read_kind(kind)?,
-    }))
-}
-
-fn read_unread(name: &str) -> Option<Line<'_>> {
-    match name {
-        "utf8" => Some(Line::Unread(ErrorKind::InvalidData)),
-        "memory" => Some(Line::Unread(ErrorKind::OutOfMemory)),
-        _ => None,
-    }
-}
-
-fn read_times(text: &str) -> Option<Line<'_>> {
-    let (times, text) = text.split_once(' ')?;
-    Some(Line::Times(times.parse::<u32>().ok()?, text))
-}
-
-fn read_each(text: &str) -> Option<Line<'_>> {
-    let (first, text) = text.split_once(' ')?;
-    let (last, text) = text.split_once(' ')?;
-    let (first, last) = (first.parse::<u32>().ok()?, last.parse::<u32>().ok()?);
-    Some(Line::Each(first, last, text))
-}
-
-fn read_serve(text: &str) -> Option<Line<'_>> {
-    let (now, turns) = text.split_once(' ')?;
-    let (now, turns) = (now.parse::<u64>().ok()?, turns.parse::<u32>().ok()?);
-    Some(Line::Call(Call::Serve(now, turns)))
-}
-
-/// What a line of a word and a number of at most 32 bits says.
-fn read_small<'a>(word: &str, number: u32) -> Option<Line<'a>> {
-    Some(match word {
-        "status" => Line::Status(u8::try_from(number).ok()?),
-        "station" => Line::Station(u16::try_from(number).ok()?),
-        "entity" => Line::Call(Call::Entity(u16::try_from(number).ok()?)),
-        "order" => Line::Call(Call::Order(number)),
-        "datum" => Line::Call(Call::Datum(number)),
-        _ => return None,
-    })
-}
-
-/// What a line of a word and a number says.
-fn read_number<'a>(word: &str, number: u64) -> Option<Line<'a>> {
-    Some(match word {
-        "line-fails" => Line::LineFails(number),
-        "each-call-fails" => Line::EachCallFails(number),
-        "issue" => Line::Call(Call::Issue(number)),
-        "nudge" => Line::Call(Call::Nudge(number)),
-        _ => return read_small(word, u32::try_from(number).ok()?),
-    })
-}
-
-/// What a line of a word and a text that has a form says.
-fn read_formed<'a>(word: &str, text: &'a str) -> Option<Line<'a>> {
-    match word {
-        "unread" => read_unread(text),
-        "times" => read_times(text),
-        "each" => read_each(text),
-        "calls" => read_calls(text),
-        "serve" => read_serve(text),
-        _ => read_number(word, text.parse::<u64>().ok()?),
-    }
-}
-
-/// The lines of one word.
-static BARE: [(&str, Line<'static>); 16] = [
-    ("", Line::Nothing),
-    ("word", Line::Begin(Part::Word)),
-    ("input", Line::Begin(Part::Input)),
-    ("out", Line::Begin(Part::Out)),
-    ("errors", Line::Begin(Part::Errors)),
-    ("left", Line::Begin(Part::Left)),
-    ("discarded", Line::Begin(Part::Discarded)),
-    ("comes", Line::Begin(Part::Coming)),
-    ("sent", Line::Begin(Part::Sent)),
-    ("text", Line::Text("")),
-    ("words", Line::Words("")),
-    ("asked-nothing", Line::AskedNothing),
-    ("half-told", Line::HalfTold),
-    ("pause", Line::Pause),
-    ("each-byte-fails", Line::EachByteFails),
-    ("given-up", Line::Call(Call::GivenUp)),
+/// Each word, how many numbers stand behind it, and whether a text may stand behind those.
+static WORDS: [(&str, Says, usize, bool); 40] = [
+    ("case", Says::Case, 0, true),
+    ("words", Says::Words, 0, true),
+    (
+        "unread-utf8",
+        Says::Unread(ErrorKind::InvalidData),
+        0,
+        false,
+    ),
+    (
+        "unread-memory",
+        Says::Unread(ErrorKind::OutOfMemory),
+        0,
+        false,
+    ),
+    ("file", Says::File(None), 0, true),
+    (
+        "shut",
+        Says::File(Some(ErrorKind::PermissionDenied)),
+        0,
+        true,
+    ),
+    ("folder", Says::File(Some(ErrorKind::IsADirectory)), 0, true),
+    ("odd", Says::File(Some(ErrorKind::NotADirectory)), 0, true),
+    ("full", Says::File(Some(ErrorKind::OutOfMemory)), 0, true),
+    ("word", Says::Begin(Part::Word), 0, false),
+    ("input", Says::Begin(Part::Input), 0, false),
+    ("out", Says::Begin(Part::Out), 0, false),
+    ("errors", Says::Begin(Part::Errors), 0, false),
+    ("left", Says::Begin(Part::Left), 0, false),
+    ("discarded", Says::Begin(Part::Discarded), 0, false),
+    ("comes", Says::Begin(Part::Coming), 0, false),
+    ("sent", Says::Begin(Part::Sent), 0, false),
+    ("text", Says::Text, 0, true),
+    ("piece", Says::Piece, 0, true),
+    ("times", Says::Times, 1, true),
+    ("each", Says::Each, 2, true),
+    ("hex", Says::Hex, 0, true),
+    ("calls", Says::Calls, 2, true),
+    ("asked", Says::Asked, 0, true),
+    ("asked-nothing", Says::AskedNothing, 0, false),
+    ("keep", Says::Keep, 0, true),
+    ("status", Says::Status, 1, false),
+    ("half-told", Says::HalfTold, 0, false),
+    ("station", Says::Station, 1, false),
+    ("line-fails", Says::LineFails, 1, false),
+    ("serve", Says::Call(Asked::Serve), 2, false),
+    ("issue", Says::Call(Asked::Issue), 1, false),
+    ("nudge", Says::Call(Asked::Nudge), 1, false),
+    ("order", Says::Call(Asked::Order), 1, false),
+    ("entity", Says::Call(Asked::Entity), 1, false),
+    ("datum", Says::Call(Asked::Datum), 1, false),
+    ("given-up", Says::Call(Asked::GivenUp), 0, false),
+    ("pause", Says::Pause, 0, false),
+    ("each-call-fails", Says::EachCallFails, 1, false),
+    ("each-byte-fails", Says::EachByteFails, 0, false),
 ];
 
-/// What a line of one word says.
-fn read_bare(word: &str) -> Option<Line<'static>> {
-    for (bare, line) in &BARE {
-        if *bare == word {
-            return Some(*line);
-        }
+/// What stands before the first space, and behind it.
+fn split(text: &str) -> (&str, &str) {
+    match text.split_once(' ') {
+        Some(parts) => parts,
+        None => (text, ""),
     }
-    None
 }
 
-/// What a line of a word and a text says.
-fn read_text<'a>(word: &str, text: &'a str) -> Option<Line<'a>> {
-    Some(match word {
-        "case" => Line::Case(text),
-        "words" => Line::Words(text),
-        "file" => Line::File(text),
-        "shut" => Line::Shut(text, ErrorKind::PermissionDenied),
-        "folder" => Line::Shut(text, ErrorKind::IsADirectory),
-        "odd" => Line::Shut(text, ErrorKind::NotADirectory),
-        "full" => Line::Shut(text, ErrorKind::OutOfMemory),
-        "text" => Line::Text(text),
-        "piece" => Line::Piece(text),
-        "hex" => Line::Hex(text),
-        "asked" => Line::Asked(text),
-        "keep" => Line::Keep(text),
-        _ => return read_formed(word, text),
+/// The line of a word, with so many numbers before its text.
+fn with_numbers<'a>(says: Says, numbers: usize, has_text: bool, text: &'a str) -> Option<Line<'a>> {
+    let (mut first, mut last, mut text) = (0, 0, text);
+    for place in 0..numbers {
+        let (number, rest) = split(text);
+        text = rest;
+        match number.parse::<u64>() {
+            Ok(number) => last = number,
+            Err(_) => return None,
+        }
+        if place == 0 {
+            first = last;
+        }
+    }
+    if !has_text && !text.is_empty() {
+        return None;
+    }
+    Some(Line {
+        says,
+        first,
+        last,
+        text,
     })
 }
 
 /// What a line says, if it says anything.
-pub fn read_line(line: &str) -> Option<Line<'_>> {
-    if line.starts_with('#') {
-        return Some(Line::Nothing);
+pub(crate) fn read_line(line: &str) -> Option<Line<'_>> {
+    let (word, text) = split(line);
+    for (known, says, numbers, has_text) in &WORDS {
+        if *known == word {
+            return with_numbers(*says, *numbers, *has_text, text);
+        }
     }
-    match line.split_once(' ') {
-        Some((word, text)) => read_text(word, text),
-        None => read_bare(line),
-    }
+    None
 }

@@ -4,7 +4,7 @@
 use crate::letter::{ALL, Letter};
 use crate::random::Random;
 use dis_records::EntityState;
-use std::alloc::{AllocError, Global};
+use std::alloc::Global;
 
 /// The largest number of an entity.
 pub const ENTITIES: u8 = 4;
@@ -30,6 +30,8 @@ pub struct Scene {
     pub random: Random,
     pub stations: usize,
     is_wild: bool,
+    /// Whether some of what was done found no memory.
+    pub is_short: bool,
     pub deeds: Vec<Deed>,
     sent: Vec<Letter>,
     got: Vec<Letter>,
@@ -79,6 +81,7 @@ pub fn begin(alloc: Global, mut random: Random) -> Scene {
         random,
         stations,
         is_wild,
+        is_short: false,
         deeds: Vec::new(alloc),
         sent: Vec::new(alloc),
         got: Vec::new(alloc),
@@ -88,23 +91,30 @@ pub fn begin(alloc: Global, mut random: Random) -> Scene {
 }
 
 impl Scene {
+    /// Adds a deed.
+    fn add(&mut self, deed: Deed) {
+        if self.deeds.push(deed).is_err() {
+            self.is_short = true;
+        }
+    }
+
     /// Takes what a station sends.
-    fn send(&mut self, station: usize, letter: Letter) -> Result<(), AllocError> {
-        self.sent.push(letter)?;
-        self.deeds.push(Deed::Sends(station, letter))?;
-        Ok(())
+    fn send(&mut self, station: usize, letter: Letter) {
+        if self.sent.push(letter).is_err() {
+            self.is_short = true;
+        }
+        self.add(Deed::Sends(station, letter));
     }
 
     /// Takes what its station receives, if it goes to one.
-    fn get(&mut self, letter: Letter) -> Result<(), AllocError> {
+    fn get(&mut self, letter: Letter) {
         if letter.to >= self.stations {
             return self.ask();
         }
-        if letter.kind <= 14 || letter.kind == 16 {
-            self.got.push(letter)?;
+        if (letter.kind <= 14 || letter.kind == 16) && self.got.push(letter).is_err() {
+            self.is_short = true;
         }
-        self.deeds.push(Deed::Gets(letter.to, letter))?;
-        Ok(())
+        self.add(Deed::Gets(letter.to, letter));
     }
 
     /// A letter of a kind from one station to another, under a new number.
@@ -136,7 +146,7 @@ impl Scene {
     }
 
     /// A station orders something.
-    fn ask(&mut self) -> Result<(), AllocError> {
+    fn ask(&mut self) {
         let kind = match self.random.below(8) {
             0..=2 => 11,
             3 => 12,
@@ -156,7 +166,7 @@ impl Scene {
     }
 
     /// What was sent comes to its station, or is sent once more.
-    fn bring(&mut self, is_received: bool) -> Result<(), AllocError> {
+    fn bring(&mut self, is_received: bool) {
         match recent(&mut self.random, &self.sent) {
             Some(letter) if is_received => self.get(letter),
             Some(letter) => self.send(letter.from, letter),
@@ -219,7 +229,7 @@ impl Scene {
     }
 
     /// A station answers an order that it received.
-    fn answer(&mut self) -> Result<(), AllocError> {
+    fn answer(&mut self) {
         let Some(order) = recent(&mut self.random, &self.got) else {
             return self.bring(true);
         };
@@ -234,7 +244,7 @@ impl Scene {
     }
 
     /// A station tells a state, or one by chance.
-    fn tell(&mut self, is_true: bool) -> Result<(), AllocError> {
+    fn tell(&mut self, is_true: bool) {
         let station = self.random.below(self.stations);
         let entity = self.entity();
         let state = if is_true {
@@ -246,12 +256,11 @@ impl Scene {
                 _ => EntityState::Running,
             }
         };
-        self.deeds.push(Deed::Tells(station, entity, state))?;
-        Ok(())
+        self.add(Deed::Tells(station, entity, state));
     }
 
     /// An answer that is spoilt in one way.
-    fn answer_badly(&mut self) -> Result<(), AllocError> {
+    fn answer_badly(&mut self) {
         let Some(order) = recent(&mut self.random, &self.got) else {
             return self.bring(true);
         };
@@ -267,7 +276,7 @@ impl Scene {
     }
 
     /// A letter goes astray in one way.
-    fn go_astray(&mut self) -> Result<(), AllocError> {
+    fn go_astray(&mut self) {
         let Some(mut letter) = recent(&mut self.random, &self.sent) else {
             return self.ask();
         };
@@ -284,7 +293,7 @@ impl Scene {
     }
 
     /// Something happens.
-    pub fn go_on(&mut self) -> Result<(), AllocError> {
+    pub fn go_on(&mut self) {
         match self.random.below(24) {
             0..=4 => self.ask(),
             5..=8 => self.bring(true),

@@ -28,45 +28,34 @@ fn stations(alloc: Global) -> io::Result<Vec<Station>> {
     Ok(stations)
 }
 
-/// Fills a recording; what `push` answers to one entry more than there can be, where those that it has
-/// are kept.
-fn fill(log: &mut Recording) -> io::Result<Result<(), LogFault>> {
-    for _ in 0..MOST_ENTRIES {
-        if log.push(told_entry()).is_err() {
-            return Err(unmade());
+/// What a recording answers to one entry more than there can be, where those that it has are kept.
+fn pushed(log: &mut Recording) -> Option<LogFault> {
+    for _ in 0..=MOST_ENTRIES {
+        if let Err(fault) = log.push(told_entry()) {
+            return (log.entry_count() == MOST_ENTRIES).then_some(fault);
         }
     }
-    let answer = log.push(told_entry());
-    if log.entry_count() == MOST_ENTRIES {
-        Ok(answer)
-    } else {
-        Err(unmade())
-    }
+    None
 }
 
-/// The same of a recording that is begun.
-fn pushed(alloc: Global) -> io::Result<Result<(), LogFault>> {
-    match Recording::start(alloc, 1, stations(alloc)?) {
-        Ok(mut log) => fill(&mut log),
-        Err(_) => Err(unmade()),
-    }
-}
-
-/// What a writer of recordings answers to one entry more than there can be, and to the end.
-fn told(
-    stations: &[Station],
-    out: &mut Vec<u8>,
-) -> io::Result<(Result<(), WriterFault>, Result<(), WriterFault>)> {
+/// What a writer of recordings answers to one entry more than there can be, where it has its end
+/// behind the others.
+fn told(stations: &[Station], out: &mut Vec<u8>) -> Option<WriterFault> {
     let Ok(mut writer) = RecordingWriter::start(out, 1, stations) else {
-        return Err(unmade());
+        return None;
     };
-    for _ in 0..MOST_ENTRIES {
-        if writer.told(0, 7, EntityState::Absent).is_err() {
-            return Err(unmade());
+    let mut more = None;
+    for number in 0..=MOST_ENTRIES {
+        match writer.told(0, 7, EntityState::Absent) {
+            Ok(()) => {}
+            Err(fault) if number == MOST_ENTRIES => more = Some(fault),
+            Err(_) => return None,
         }
     }
-    let more = writer.told(0, 7, EntityState::Absent);
-    Ok((more, writer.finish()))
+    match writer.finish() {
+        Ok(_) => more,
+        Err(_) => None,
+    }
 }
 
 /// What is read of a file: how many entries, or its fault.
@@ -81,18 +70,25 @@ fn see(alloc: Global, file: &[u8]) -> Result<usize, RecordingFault> {
     Ok(log.entry_count())
 }
 
-/// Prints what is read of a file, and seen of it in place: how many entries, or its fault.
-fn put_count<W: Write>(alloc: Global, file: &[u8], out: &mut W) -> io::Result<()> {
-    for (how, count) in [("read", read(alloc, file)), ("seen", see(alloc, file))] {
-        match count {
-            Ok(count) => writeln!(out, "{how}: {count} entries")?,
-            Err(fault) => writeln!(out, "{how}: {fault}")?,
-        }
+/// Prints how many entries a file has as it is read or seen, or its fault.
+fn put_count<W: Write>(
+    how: &str,
+    count: Result<usize, RecordingFault>,
+    out: &mut W,
+) -> io::Result<()> {
+    match count {
+        Ok(count) => writeln!(out, "{how}: {count} entries"),
+        Err(fault) => writeln!(out, "{how}: {fault}"),
     }
-    Ok(())
 }
 
-/// One entry more before the end of the file, and the end behind it.
+/// Prints what is read of a file, and seen of it in place.
+fn put_counts<W: Write>(alloc: Global, file: &[u8], out: &mut W) -> io::Result<()> {
+    put_count("read", read(alloc, file), out)?;
+    put_count("seen", see(alloc, file), out)
+}
+
+/// Puts one entry more before the end of the file, and the end behind it.
 fn add_entry(file: &mut Vec<u8>) -> Result<(), AllocError> {
     let end = file.len().saturating_sub(5);
     file.truncate(end);
@@ -101,34 +97,47 @@ fn add_entry(file: &mut Vec<u8>) -> Result<(), AllocError> {
 
 /// Fills a file by a writer, and prints what is answered to one entry more, and what is read of it, as
 /// it is and with one entry more.
-fn put_file<W: Write>(alloc: Global, file: &mut Vec<u8>, out: &mut W) -> io::Result<()> {
-    let (more, end) = told(&stations(alloc)?, file)?;
-    if let Err(fault) = more {
-        writeln!(out, "told of one entry more: {fault}")?;
+fn put_file<W: Write>(
+    alloc: Global,
+    stations: &[Station],
+    file: &mut Vec<u8>,
+    out: &mut W,
+) -> io::Result<()> {
+    if let Some(fault) = told(stations, file) {
+        writeln!(
+            out,
+            "told of one entry more: {fault}\nfinish: {} bytes",
+            file.len()
+        )?;
     }
-    if end.is_ok() {
-        writeln!(out, "finish: {} bytes", file.len())?;
-    }
-    put_count(alloc, file, out)?;
+    put_counts(alloc, file, out)?;
     add_entry(file)?;
-    put_count(alloc, file, out)
+    put_counts(alloc, file, out)
+}
+
+/// Prints what a full recording answers to one entry more.
+fn put_pushed<W: Write>(alloc: Global, out: &mut W) -> io::Result<()> {
+    let Ok(mut log) = Recording::start(alloc, 1, stations(alloc)?) else {
+        return Err(unmade());
+    };
+    match pushed(&mut log) {
+        Some(fault) => writeln!(out, "push of one entry more: {fault}"),
+        None => Err(unmade()),
+    }
 }
 
 /// Fills a recording, and prints what is answered to one entry more, and the texts of what
 /// `check_files` refuses with.
 pub(crate) fn put_full<W: Write>(alloc: Global, out: &mut W) -> io::Result<()> {
-    if let Err(fault) = pushed(alloc)? {
-        writeln!(out, "push of one entry more: {fault}")?;
-    }
-    put_file(alloc, &mut Vec::new(alloc), out)?;
-    let faults = [
-        FilesFault::Recording(RecordingFault::Read),
-        FilesFault::Certificate(CertificateFault::Read),
+    put_pushed(alloc, out)?;
+    put_file(alloc, &stations(alloc)?, &mut Vec::new(alloc), out)?;
+    let (recording, certificate) = (RecordingFault::Read, CertificateFault::Read);
+    writeln!(
+        out,
+        "{}\n{}\n{}\n{}",
+        FilesFault::Recording(recording),
+        FilesFault::Certificate(certificate),
         FilesFault::Write,
-        FilesFault::Memory,
-    ];
-    for fault in faults {
-        writeln!(out, "{fault}")?;
-    }
-    Ok(())
+        FilesFault::Memory
+    )
 }

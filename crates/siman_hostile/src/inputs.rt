@@ -5,13 +5,13 @@ mod command_lines;
 mod datagrams;
 mod recordings;
 mod scripts;
-mod spoiling;
 
+use crate::input::{Input, begin_input};
 use crate::inputs::command_lines::try_command_line;
 use crate::inputs::datagrams::try_datagram;
 use crate::inputs::recordings::try_recording;
+pub(crate) use crate::inputs::scripts::is_tried;
 use crate::inputs::scripts::try_script;
-pub(crate) use crate::inputs::scripts::{is_tried, put_lines};
 use siman_fixtures::Random;
 use std::alloc::Global;
 use std::io;
@@ -24,6 +24,12 @@ pub(crate) struct Answer {
     /// Whether all holds that is asked of it.
     pub(crate) good: bool,
 }
+
+/// No answer to an input that could not be tried.
+const UNTRIED: Answer = Answer {
+    status: 3,
+    good: false,
+};
 
 /// The kinds of inputs, in the order of their counts.
 const KINDS: [&str; 4] = ["datagrams", "recordings", "scripts", "command lines"];
@@ -38,29 +44,37 @@ pub(crate) struct Ends {
 /// The kinds by the throw of a die: every second input is a datagram.
 const THROWS: [usize; 8] = [0, 0, 0, 0, 1, 2, 3, 3];
 
-/// Tries an input of a kind, which is put into `given`.
-fn try_kind(
-    alloc: Global,
-    random: &mut Random,
-    kind: usize,
-    given: &mut Vec<u8>,
-) -> io::Result<Answer> {
+/// Makes up an input of a kind and tries it.
+fn try_kind(alloc: Global, kind: usize, input: &mut Input) -> Answer {
     match kind {
-        0 => try_datagram(alloc, random, given),
-        1 => try_recording(alloc, random, given),
-        2 => try_script(alloc, random, given),
-        _ => try_command_line(alloc, random, given),
+        0 => try_datagram(alloc, input),
+        1 => try_recording(alloc, input),
+        2 => try_script(alloc, input),
+        _ => try_command_line(alloc, input),
     }
+}
+
+/// Prints an input that is answered otherwise.
+fn put_otherwise<W: Write>(
+    alloc: Global,
+    number: u64,
+    kind: usize,
+    status: u8,
+    input: &[u8],
+    out: &mut W,
+) -> io::Result<()> {
+    let (kind, input) = (KINDS[kind % 4], hex::encode(alloc, input)?);
+    writeln!(
+        out,
+        "input {number} of {kind}, status {status}, is answered otherwise: {input}"
+    )
 }
 
 impl Ends {
     /// Counts an end; whether it is one that is known.
     fn count(&mut self, kind: usize, status: u8) -> bool {
-        let count = match self.counts.get_mut(kind) {
-            Some(counts) => counts.get_mut(usize::from(status)),
-            None => None,
-        };
-        match count {
+        let counts = &mut self.counts[kind % 4];
+        match counts.get_mut(usize::from(status)) {
             Some(count) => {
                 *count = count.saturating_add(1);
                 true
@@ -76,18 +90,13 @@ impl Ends {
         };
         let _first = random.below(2);
         let kind = THROWS[random.below(8) % 8];
-        let mut given = Vec::new(alloc);
-        let Answer { status, good } = try_kind(alloc, &mut random, kind, &mut given)?;
-        if !self.count(kind, status) || !good {
-            self.otherwise = self.otherwise.saturating_add(1);
-            let given = hex::encode(alloc, &given)?;
-            let kind = KINDS[kind % 4];
-            writeln!(
-                out,
-                "input {number} of {kind}, status {status}, is answered otherwise: {given}"
-            )?;
+        let mut input = begin_input(alloc, random);
+        let Answer { status, good } = try_kind(alloc, kind, &mut input);
+        if self.count(kind, status) && good && !input.is_short {
+            return Ok(());
         }
-        Ok(())
+        self.otherwise = self.otherwise.saturating_add(1);
+        put_otherwise(alloc, number, kind, status, &input.bytes, out)
     }
 
     /// Prints how often each kind ended with each status.

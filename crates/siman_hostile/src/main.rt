@@ -10,6 +10,7 @@
 #![tactic(auto)]
 
 mod full;
+mod input;
 mod inputs;
 mod load;
 mod ran;

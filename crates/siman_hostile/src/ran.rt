@@ -129,6 +129,17 @@ pub(crate) fn run_words(alloc: Global, words: &[&str], files: Files<'_>, input: 
     }
 }
 
+/// What `audit` says of a recording; the file that it makes is the certificate.
+pub(crate) fn searched(alloc: Global, recording: &[u8]) -> Ran {
+    run_words(alloc, &["audit", "rec", "cert"], &[("rec", recording)], &[])
+}
+
+/// What `check` says of a recording and a certificate.
+pub(crate) fn checked(alloc: Global, recording: &[u8], certificate: &[u8]) -> Ran {
+    let files = [("rec", recording), ("cert", certificate)];
+    run_words(alloc, &["check", "rec", "cert"], &files, &[])
+}
+
 impl Ran {
     /// Whether it ended with an answer, 0 or 1, and told no fault.
     pub(crate) fn is_answer(&self) -> bool {

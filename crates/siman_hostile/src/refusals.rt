@@ -16,20 +16,38 @@ use crate::refusals::files::Judging;
 use crate::refusals::reasons::{Asking, AskingOfSteps};
 use crate::refusals::reviews::{Reviewing, make_streams};
 use crate::refusals::scripts::{Performing, ReadingScript, RunningWorld, Trying};
-use siman_refusals::{put_call, put_library_calls, room};
+use siman_refusals::{put_library_calls, room, told_of};
 use std::alloc::Global;
 use std::io;
 use std::io::Write;
 
+/// The calls, in their order.
+static CALLS: [&str; 8] = [
+    "check_files",
+    "review_command",
+    "why_command",
+    "why_not_command",
+    "read_script",
+    "run_world",
+    "perform",
+    "trial",
+];
+
 /// Makes each call, and prints what is told of it.
 pub(crate) fn put_calls<W: Write>(alloc: Global, out: &mut W) -> io::Result<()> {
     put_library_calls(alloc, out)?;
-    put_call::<Judging, _, _>(alloc, "check_files", room(alloc), out)?;
-    put_call::<Reviewing, _, _>(alloc, "review_command", make_streams(alloc), out)?;
-    put_call::<Asking, _, _>(alloc, "why_command", make_streams(alloc), out)?;
-    put_call::<AskingOfSteps, _, _>(alloc, "why_not_command", make_streams(alloc), out)?;
-    put_call::<ReadingScript, _, _>(alloc, "read_script", Ok(()), out)?;
-    put_call::<RunningWorld, _, _>(alloc, "run_world", Ok(()), out)?;
-    put_call::<Performing, _, _>(alloc, "perform", room(alloc), out)?;
-    put_call::<Trying, _, _>(alloc, "trial", room(alloc), out)
+    let told = [
+        told_of::<Judging, _>(alloc, room(alloc)),
+        told_of::<Reviewing, _>(alloc, make_streams(alloc)),
+        told_of::<Asking, _>(alloc, make_streams(alloc)),
+        told_of::<AskingOfSteps, _>(alloc, make_streams(alloc)),
+        told_of::<ReadingScript, _>(alloc, Ok(())),
+        told_of::<RunningWorld, _>(alloc, Ok(())),
+        told_of::<Performing, _>(alloc, room(alloc)),
+        told_of::<Trying, _>(alloc, room(alloc)),
+    ];
+    for place in 0..8usize {
+        writeln!(out, "{}: {}", CALLS[place], told[place])?;
+    }
+    Ok(())
 }

@@ -2,10 +2,9 @@
 
 use std::alloc::Global;
 use std::io;
-use std::io::Write;
 
 /// What a call said.
-#[derive(Drop)]
+#[derive(Clone, Copy)]
 pub enum Said {
     /// What it says where memory lasts.
     Usual,
@@ -35,30 +34,25 @@ pub trait Call<L> {
 
 /// What is told of a call: what it says, and where memory was refused, what it says again.
 fn told<L, C: Call<L>>(alloc: Global, lent: &mut L) -> &'static str {
-    match C::make(alloc, lent) {
-        Said::Usual => "usual",
-        Said::Otherwise => "otherwise",
-        Said::Memory => match C::make(alloc, lent) {
-            Said::Usual => "memory, then usual",
-            _ => "memory, then otherwise",
-        },
-        Said::Send => match C::make(alloc, lent) {
-            Said::Usual => "send, then usual",
-            _ => "send, then otherwise",
-        },
+    let said = C::make(alloc, lent);
+    match said {
+        Said::Usual => return "usual",
+        Said::Otherwise => return "otherwise",
+        Said::Memory | Said::Send => {}
+    }
+    let is_usual = matches!(C::make(alloc, lent), Said::Usual);
+    match said {
+        Said::Send if is_usual => "send, then usual",
+        Said::Send => "send, then otherwise",
+        _ if is_usual => "memory, then usual",
+        _ => "memory, then otherwise",
     }
 }
 
-/// Prints what is told of a call, if what it is lent could be made.
-pub fn put_call<C: Call<L>, L: Drop, W: Write>(
-    alloc: Global,
-    name: &str,
-    lent: io::Result<L>,
-    out: &mut W,
-) -> io::Result<()> {
-    let told = match lent {
+/// What is told of a call, if what it is lent could be made.
+pub fn told_of<C: Call<L>, L: Drop>(alloc: Global, lent: io::Result<L>) -> &'static str {
+    match lent {
         Ok(mut lent) => told::<L, C>(alloc, &mut lent),
         Err(_) => "not begun",
-    };
-    writeln!(out, "{name}: {told}")
+    }
 }

@@ -161,12 +161,17 @@ fn is_told(alloc: Global, log: &Recording) -> Result<bool, AllocError> {
     Ok(told && refused)
 }
 
+/// What was said of a log, which is as it was.
+fn said(told: Result<bool, AllocError>, log: &Recording) -> Said {
+    match told {
+        Ok(told) => usual(told),
+        Err(_) => refused(log.entry_count() == 5),
+    }
+}
+
 impl Call<Recording> for Contradicting {
     fn make(alloc: Global, log: &mut Recording) -> Said {
-        match is_told(alloc, log) {
-            Ok(told) => usual(told),
-            Err(_) => refused(log.entry_count() == 5),
-        }
+        said(is_told(alloc, log), log)
     }
 }
 
@@ -190,10 +195,7 @@ fn is_conflict_found(alloc: Global, log: &Recording) -> Result<bool, AllocError>
 
 impl Call<Recording> for FindingConflict {
     fn make(alloc: Global, log: &mut Recording) -> Said {
-        match is_conflict_found(alloc, log) {
-            Ok(told) => usual(told),
-            Err(_) => refused(log.entry_count() == 5),
-        }
+        said(is_conflict_found(alloc, log), log)
     }
 }
 
@@ -211,9 +213,6 @@ fn is_refusal_found(alloc: Global, log: &Recording) -> Result<bool, AllocError> 
 
 impl Call<Recording> for FindingRefusal {
     fn make(alloc: Global, log: &mut Recording) -> Said {
-        match is_refusal_found(alloc, log) {
-            Ok(told) => usual(told),
-            Err(_) => refused(log.entry_count() == 5),
-        }
+        said(is_refusal_found(alloc, log), log)
     }
 }

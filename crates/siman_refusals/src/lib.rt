@@ -25,46 +25,84 @@ use crate::recordings::{
 };
 use crate::reviews::Reviewing;
 use crate::stations::{Issuing, Nudging, Serving, to_issue, to_nudge, to_serve};
-pub use call::{Call, Said, put_call, refused, usual};
+pub use call::{Call, Said, refused, told_of, usual};
 pub use load::{put_halves, put_station};
 pub use recordings::{RECORDING, room, station, unmade};
 use std::alloc::Global;
 use std::io;
 use std::io::Write;
 
+/// The calls, in their order.
+static CALLS: [&str; 28] = [
+    "decode",
+    "encode",
+    "to_pdu",
+    "copy",
+    "read_recording",
+    "over",
+    "push",
+    "check",
+    "audit",
+    "review_of",
+    "draw",
+    "lacks_of",
+    "conflict_found",
+    "refusal_found",
+    "read_certificate",
+    "fetch_certificate",
+    "convert",
+    "join",
+    "add",
+    "end",
+    "begin",
+    "take, of fixed datums",
+    "take, of variable datums",
+    "take, of a creation",
+    "request",
+    "serve",
+    "issue",
+    "nudge",
+];
+
+/// What is told of each of these calls.
+fn calls_told(alloc: Global) -> [&'static str; 28] {
+    [
+        told_of::<Decoding, _>(alloc, Ok(())),
+        told_of::<Encoding, _>(alloc, to_encode(alloc)),
+        told_of::<Showing, _>(alloc, Ok(())),
+        told_of::<Copying, _>(alloc, pdu_of(alloc, &COMMENT)),
+        told_of::<Reading, _>(alloc, Ok(())),
+        told_of::<Seeing, _>(alloc, Ok(())),
+        told_of::<Pushing, _>(alloc, recording_of(alloc, &RECORDING)),
+        told_of::<Checking, _>(alloc, to_check(alloc)),
+        told_of::<Searching, _>(alloc, recording_of(alloc, &APART)),
+        told_of::<Reviewing, _>(alloc, recording_of(alloc, &APART)),
+        told_of::<Drawing, _>(alloc, recording_of(alloc, &APART)),
+        told_of::<Contradicting, _>(alloc, recording_of(alloc, &RING)),
+        told_of::<FindingConflict, _>(alloc, recording_of(alloc, &RING)),
+        told_of::<FindingRefusal, _>(alloc, recording_of(alloc, &RING)),
+        told_of::<ReadingSteps, _>(alloc, Ok(())),
+        told_of::<FetchingSteps, _>(alloc, Ok(())),
+        told_of::<Carrying, _>(alloc, room(alloc)),
+        told_of::<Bringing, _>(alloc, room(alloc)),
+        told_of::<Adding, _>(alloc, to_add(alloc)),
+        told_of::<Ending, _>(alloc, Ok(())),
+        told_of::<Beginning, _>(alloc, station(alloc, 2, 3)),
+        told_of::<Taking, _>(alloc, to_take(alloc, FIXED)),
+        told_of::<Taking, _>(alloc, to_take(alloc, VARIABLE)),
+        told_of::<Taking, _>(alloc, to_take(alloc, CREATION)),
+        told_of::<Ordering, _>(alloc, manager(alloc)),
+        told_of::<Serving, _>(alloc, to_serve(alloc)),
+        told_of::<Issuing, _>(alloc, to_issue(alloc)),
+        told_of::<Nudging, _>(alloc, to_nudge(alloc)),
+    ]
+}
+
 /// Makes each of these calls, and prints what is told of it.
 pub fn put_library_calls<W: Write>(alloc: Global, out: &mut W) -> io::Result<()> {
-    put_call::<Decoding, _, _>(alloc, "decode", Ok(()), out)?;
-    put_call::<Encoding, _, _>(alloc, "encode", to_encode(alloc), out)?;
-    put_call::<Showing, _, _>(alloc, "to_pdu", Ok(()), out)?;
-    put_call::<Copying, _, _>(alloc, "copy", pdu_of(alloc, &COMMENT), out)?;
-    put_call::<Reading, _, _>(alloc, "read_recording", Ok(()), out)?;
-    put_call::<Seeing, _, _>(alloc, "over", Ok(()), out)?;
-    put_call::<Pushing, _, _>(alloc, "push", recording_of(alloc, &RECORDING), out)?;
-    put_call::<Checking, _, _>(alloc, "check", to_check(alloc), out)?;
-    put_call::<Searching, _, _>(alloc, "audit", recording_of(alloc, &APART), out)?;
-    put_call::<Reviewing, _, _>(alloc, "review_of", recording_of(alloc, &APART), out)?;
-    put_call::<Drawing, _, _>(alloc, "draw", recording_of(alloc, &APART), out)?;
-    put_call::<Contradicting, _, _>(alloc, "lacks_of", recording_of(alloc, &RING), out)?;
-    put_call::<FindingConflict, _, _>(alloc, "conflict_found", recording_of(alloc, &RING), out)?;
-    put_call::<FindingRefusal, _, _>(alloc, "refusal_found", recording_of(alloc, &RING), out)?;
-    put_call::<ReadingSteps, _, _>(alloc, "read_certificate", Ok(()), out)?;
-    put_call::<FetchingSteps, _, _>(alloc, "fetch_certificate", Ok(()), out)?;
-    put_call::<Carrying, _, _>(alloc, "convert", room(alloc), out)?;
-    put_call::<Bringing, _, _>(alloc, "join", room(alloc), out)?;
-    put_call::<Adding, _, _>(alloc, "add", to_add(alloc), out)?;
-    put_call::<Ending, _, _>(alloc, "end", Ok(()), out)?;
-    put_call::<Beginning, _, _>(alloc, "begin", station(alloc, 2, 3), out)?;
-    put_call::<Taking, _, _>(alloc, "take, of fixed datums", to_take(alloc, FIXED), out)?;
-    put_call::<Taking, _, _>(
-        alloc,
-        "take, of variable datums",
-        to_take(alloc, VARIABLE),
-        out,
-    )?;
-    put_call::<Taking, _, _>(alloc, "take, of a creation", to_take(alloc, CREATION), out)?;
-    put_call::<Ordering, _, _>(alloc, "request", manager(alloc), out)?;
-    put_call::<Serving, _, _>(alloc, "serve", to_serve(alloc), out)?;
-    put_call::<Issuing, _, _>(alloc, "issue", to_issue(alloc), out)?;
-    put_call::<Nudging, _, _>(alloc, "nudge", to_nudge(alloc), out)
+    let told = calls_told(alloc);
+    for place in 0..28 {
+        writeln!(out, "{}: {}", CALLS[place], told[place])?;
+    }
+    Ok(())
 }

@@ -1,8 +1,8 @@
 //! Recordings that are drawn.
 
 use crate::call::{Call, Said, refused, usual};
+use crate::recordings::FOUND;
 use exercise_chart::{ChartFault, Rows};
-use exercise_check::{NO_LINK, Step};
 use exercise_findings::Findings;
 use exercise_model::{ExerciseLog, Recording};
 use exercise_review::Register;
@@ -12,17 +12,6 @@ use std::alloc::Global;
 /// A creation is drawn, the log of whose application stands first.
 pub(crate) struct Drawing;
 
-/// The order in which it happened.
-const STEPS: [Step; 4] = [
-    Step {
-        place: 2,
-        link: NO_LINK,
-    },
-    Step { place: 0, link: 2 },
-    Step { place: 1, link: 0 },
-    Step { place: 3, link: 1 },
-];
-
 /// Whether a picture has the arrow of the answer, and an end.
 fn is_of_creation(picture: &str) -> bool {
     picture.contains("data-from=\"1\" data-to=\"3\"") && picture.ends_with("</svg>\n")
@@ -31,7 +20,7 @@ fn is_of_creation(picture: &str) -> bool {
 /// The picture of a log.
 fn drawn(alloc: Global, log: &Recording) -> Result<String, ChartFault> {
     let register = Register::of(alloc, Findings::of(alloc, log)?)?;
-    draw(alloc, &register, &STEPS, Rows { first: 0, end: 4 })
+    draw(alloc, &register, &FOUND, Rows { first: 0, end: 4 })
 }
 
 impl Call<Recording> for Drawing {

@@ -1,7 +1,7 @@
 //! Pieces of a recording that are brought together.
 
 use crate::call::{Call, Said, refused, usual};
-use crate::recordings::{APART, room, unmade};
+use crate::recordings::{APART, is_carried, room, unmade};
 use exercise_model::Form;
 use exercise_recording::{FormWord, JoinFault, Joined, Joining, Joint, join};
 use std::alloc::Global;
@@ -33,10 +33,7 @@ const TOLD: Joined = Joined {
 
 /// Whether a file is that of both logs in the second format, closed, that of 2:3 first.
 fn is_joined(file: &[u8]) -> bool {
-    match file.strip_prefix(b"DSRC0002\x01\x00") {
-        Some(rest) => APART.as_slice().strip_prefix(b"DSRC0001\x01") == Some(rest),
-        None => false,
-    }
+    is_carried(file, &APART)
 }
 
 /// Both logs are read, brought together and written where there is room.

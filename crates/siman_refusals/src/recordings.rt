@@ -53,7 +53,7 @@ const STEPS: [u8; 44] = [
 ];
 
 /// The only order of [`APART`].
-const FOUND: [Step; 4] = [
+pub(crate) const FOUND: [Step; 4] = [
     Step {
         place: 2,
         link: NO_LINK,
@@ -222,10 +222,10 @@ fn steps_said(read: Result<Certificate, CertificateFault>) -> Said {
 /// A recording is carried over to the second format, and written where there is room.
 pub(crate) struct Carrying;
 
-/// Whether a file is that of the recording in the second format, closed.
-fn is_carried(file: &[u8]) -> bool {
+/// Whether a file is that of a recording of the first format in the second one, closed.
+pub(crate) fn is_carried(file: &[u8], recording: &[u8]) -> bool {
     match file.strip_prefix(b"DSRC0002\x01\x00") {
-        Some(rest) => RECORDING.as_slice().strip_prefix(b"DSRC0001\x01") == Some(rest),
+        Some(rest) => recording.strip_prefix(b"DSRC0001\x01") == Some(rest),
         None => false,
     }
 }
@@ -233,7 +233,7 @@ fn is_carried(file: &[u8]) -> bool {
 impl Call<Vec<u8>> for Carrying {
     fn make(alloc: Global, out: &mut Vec<u8>) -> Said {
         match convert(alloc, RECORDING.as_slice(), 1000, out) {
-            Ok(entries) => usual(entries == 4 && is_carried(out)),
+            Ok(entries) => usual(entries == 4 && is_carried(out, &RECORDING)),
             Err(fault) => refused(fault == ConvertFault::Memory && out.is_empty()),
         }
     }

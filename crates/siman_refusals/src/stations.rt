@@ -102,11 +102,7 @@ pub(crate) fn creations(
     let mut creations = Vec::new(alloc);
     let (mut id, mut bytes) = (first, CREATE);
     for _ in 0..count {
-        let [a, b, c, d] = id.to_be_bytes();
-        bytes[24] = a;
-        bytes[25] = b;
-        bytes[26] = c;
-        bytes[27] = d;
+        bytes[24..].copy_from_slice(&id.to_be_bytes());
         creations.push(Vec::from_slice(alloc, &bytes)?)?;
         id = id.wrapping_add(step);
     }

@@ -1,7 +1,7 @@
 //! A call of a station at its line, and what is told of its answer.
 
 use exercise_recording::RecordingWriter;
-use siman_fixtures::Call;
+use siman_fixtures::{Asked, Call};
 use siman_lines::{IssueFault, MemoryLine, ServeFault, Served, issue, nudge, serve};
 use siman_manager::OrderStatus;
 use siman_scripts::{Act, Move};
@@ -91,20 +91,34 @@ pub fn make_call<W: Write>(
     moves: &mut IntoIter<Move, Global>,
     told: &mut String,
 ) -> Result<(), AllocError> {
-    match call {
-        Call::Serve(now, turns) => tell_served(
+    let Call {
+        asked,
+        number: now,
+        turns,
+    } = call;
+    let (id, entity) = (now.min(0xFFFF_FFFF) as u32, now.min(0xFFFF) as u16);
+    match asked {
+        Asked::Serve => tell_served(
             told,
-            serve(alloc, line, node, recorder, station, now, turns),
+            serve(
+                alloc,
+                line,
+                node,
+                recorder,
+                station,
+                now,
+                turns.min(0xFFFF_FFFF) as u32,
+            ),
         ),
-        Call::Issue(now) => issue_next(alloc, station, line, node, recorder, moves, now, told),
-        Call::Nudge(now) => tell(
+        Asked::Issue => issue_next(alloc, station, line, node, recorder, moves, now, told),
+        Asked::Nudge => tell(
             told,
             "nudge",
             nudge(alloc, line, node, recorder, station, now),
         ),
-        Call::Order(id) => tell_order(told, node.manager.status(id)),
-        Call::Entity(number) => { writeln!(told, "entity: {}", node.application.state(number)) }
-        Call::Datum(id) => tell_datum(told, node.application.datum(id)),
-        Call::GivenUp => writeln!(told, "given up: {}", node.manager.given_up()),
+        Asked::Order => tell_order(told, node.manager.status(id)),
+        Asked::Entity => writeln!(told, "entity: {}", node.application.state(entity)),
+        Asked::Datum => tell_datum(told, node.application.datum(id)),
+        Asked::GivenUp => writeln!(told, "given up: {}", node.manager.given_up()),
     }
 }

@@ -2,7 +2,7 @@
 
 use crate::station_call::make_call;
 use exercise_recording::RecordingWriter;
-use siman_fixtures::{Calls, Case, Entries, WELL, Written, entries_of, found, write_to};
+use siman_fixtures::{Calls, Case, Entries, Stream, WELL, Written, entries_of, found, write_to};
 use siman_lines::MemoryLine;
 use siman_scripts::{Move, Script, read_script};
 use siman_stations::Node;
@@ -23,24 +23,20 @@ pub struct Left {
 
 /// What the file `script` says.
 fn script_of(alloc: Global, case: &Case) -> io::Result<Script> {
-    let Some(file) = found(&case.files, "script") else {
+    let Some(file) = found(&case.files, b"script") else {
         return Err(io::Error::from(ErrorKind::NotFound));
     };
-    match read_script(alloc, &file.bytes) {
+    match read_script(alloc, &file.stream.bytes) {
         Ok(script) => Ok(script),
         Err(_) => Err(io::Error::from(ErrorKind::InvalidData)),
     }
 }
 
 /// A line on which these come.
-fn line_with(
-    alloc: Global,
-    datagrams: &[Vec<u8>],
-    fails_at: Option<u64>,
-) -> io::Result<MemoryLine> {
+fn line_with(alloc: Global, datagrams: &[Stream], fails_at: Option<u64>) -> io::Result<MemoryLine> {
     let mut coming = Vec::new(alloc);
     for datagram in datagrams {
-        coming.push(Vec::from_slice(alloc, datagram)?)?;
+        coming.push(Vec::from_slice(alloc, &datagram.bytes)?)?;
     }
     Ok(MemoryLine::new(alloc, coming, fails_at))
 }
@@ -56,7 +52,7 @@ fn make_calls<W: Write>(
     moves: &mut IntoIter<Move, Global>,
     told: &mut String,
 ) -> io::Result<()> {
-    for call in &case.at_line.calls {
+    for call in &case.calls {
         make_call(alloc, *call, station, line, node, recorder, moves, told)?;
     }
     Ok(())
@@ -109,7 +105,7 @@ fn run_at_line(
     calls: Calls,
 ) -> io::Result<Left> {
     let mut left = Left {
-        line: line_with(alloc, &case.at_line.coming, fails_at)?,
+        line: line_with(alloc, &case.coming, fails_at)?,
         file: write_to(alloc, calls),
         told: String::new(alloc),
     };
@@ -149,7 +145,7 @@ fn tell_left(
 
 /// Lets each call of the line fail in turn, and tells what that leaves.
 fn fail_each_call(alloc: Global, case: &Case, station: u16, told: &mut String) -> io::Result<()> {
-    for number in 1..=case.at_line.each_call {
+    for number in 1..=case.each_call {
         writeln!(told, "call {number} fails")?;
         let left = run_at_line(alloc, case, station, Some(number), WELL)?;
         let written = entries_of(&left.file.bytes);
@@ -177,7 +173,7 @@ fn stands_before(alloc: Global, case: &Case, station: u16, byte: usize) -> io::R
 
 /// Lets each byte that is written fail in turn, and tells how often all stands as it must.
 fn fail_each_byte(alloc: Global, case: &Case, station: u16, told: &mut String) -> io::Result<()> {
-    if !case.at_line.each_byte {
+    if !case.each_byte {
         return Ok(());
     }
     let (mut stands, bytes) = (0usize, case.left.bytes.len());
@@ -224,7 +220,7 @@ fn compare_left<W: Write>(
     let name = &case.name;
     let is_told = compare(name, "out", left.told.as_bytes(), &case.out.bytes, out)?;
     let sent = sent_text(alloc, left.line.sent())?;
-    let is_sent = compare(name, "sent", sent.as_bytes(), &case.at_line.sent, out)?;
+    let is_sent = compare(name, "sent", sent.as_bytes(), &case.sent.bytes, out)?;
     let is_left = if case.is_left {
         compare(name, "left", &left.file.bytes, &case.left.bytes, out)?
     } else {
@@ -240,7 +236,7 @@ pub fn try_at_line<W: Write>(
     station: u16,
     out: &mut W,
 ) -> io::Result<bool> {
-    let mut left = run_at_line(alloc, case, station, case.at_line.fails_at, case.left.calls)?;
+    let mut left = run_at_line(alloc, case, station, case.fails_at, case.left.calls)?;
     tell_all(alloc, case, station, &mut left)?;
     compare_left(alloc, case, &left, out)
 }

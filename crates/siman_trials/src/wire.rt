@@ -3,6 +3,7 @@
 ghost use Rattle.std.specs.Prelude.{◌≡◌, IfOk, length};
 
 use http_server::Log;
+use siman_fixtures::Stream;
 use siman_lines::{Line, LineFault};
 use std::alloc::{AllocError, Global};
 use std::cell::RefCell;
@@ -151,7 +152,7 @@ impl WireLine {
 
     /// Puts what is to come on the other lines on the network, and counts no call. As often as these
     /// pauses have the number of a datagram, from 0, their receives find nothing before it.
-    fn begin_with(&self, coming: &[Vec<u8>], pauses: &[usize]) -> Result<(), AllocError> {
+    fn begin_with(&self, coming: &[Stream], pauses: &[usize]) -> Result<(), AllocError> {
         let Ok(mut wire) = self.wire.try_borrow_mut() else {
             return Ok(());
         };
@@ -161,7 +162,7 @@ impl WireLine {
                     wire.pause(self.line)?;
                 }
             }
-            wire.take(self.line, datagram)?;
+            wire.take(self.line, &datagram.bytes)?;
         }
         Ok(())
     }
@@ -188,7 +189,7 @@ impl WireLine {
 /// receive finds nothing before it.
 pub fn line_with(
     alloc: Global,
-    coming: &[Vec<u8>],
+    coming: &[Stream],
     pauses: &[usize],
     fails_at: Option<u64>,
 ) -> Result<Option<(WireLine, WireLine)>, AllocError> {

@@ -1,10 +1,9 @@
 //! Command lines that are made up.
 
+use crate::input::Input;
 use crate::inputs::Answer;
 use crate::ran::{Files, Ran, run_words};
-use siman_fixtures::Random;
-use std::alloc::{AllocError, Global};
-use std::io;
+use std::alloc::Global;
 
 /// The words of which a command line is made.
 const WORDS: [&str; 42] = [
@@ -82,31 +81,20 @@ fn is_named(ended: &Ran, words: &[&str]) -> bool {
     }
 }
 
-/// Puts the words of a command line, a line each.
-fn put_lines(lines: &mut Vec<u8>, words: &[&str]) -> Result<(), AllocError> {
-    for word in words {
-        lines.extend_from_slice(word.as_bytes())?;
-        lines.push(b'\n')?;
-    }
-    Ok(())
-}
-
 /// Tries a command line: it ends with a status that the pages name.
-pub(crate) fn try_command_line(
-    alloc: Global,
-    random: &mut Random,
-    given: &mut Vec<u8>,
-) -> io::Result<Answer> {
-    let (mut words, count) = ([""; 4], random.below(5).min(4));
+pub(crate) fn try_command_line(alloc: Global, input: &mut Input) -> Answer {
+    let (mut words, count) = ([""; 4], input.random.below(5).min(4));
     for place in 0..count {
-        words[place] = WORDS[random.below(42) % 42];
+        let word = WORDS[input.random.below(42) % 42];
+        words[place] = word;
+        input.put(word.as_bytes());
+        input.put(b"\n");
     }
     let words = &words[..count];
-    put_lines(given, words)?;
-    let input = INPUTS[random.below(5) % 5];
-    let ended = run_words(alloc, words, FILES, input);
-    Ok(Answer {
+    let given = INPUTS[input.random.below(5) % 5];
+    let ended = run_words(alloc, words, FILES, given);
+    Answer {
         status: ended.status,
         good: is_named(&ended, words),
-    })
+    }
 }

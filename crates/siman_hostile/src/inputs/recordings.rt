@@ -1,32 +1,28 @@
 //! Recordings that are made up and spoilt, and certificates of them.
 
+use crate::input::{Input, begin_input};
 use crate::inputs::Answer;
-use crate::inputs::spoiling::spoil_bytes;
-use crate::ran::{Ran, run_words};
+use crate::ran::{Ran, checked, run_words, searched};
 use exercise_model::{EntryView, ExerciseLog, Form, Station};
 use exercise_recording::{RecordingView, read_recording, write_recording};
 use siman_agreement::recording;
 use siman_fixtures::Random;
 use std::alloc::Global;
-use std::io;
-use std::io::ErrorKind;
 
 /// The forms by the throw of a die: every second one is the first.
 const FORMS: [Form; 4] = [Form::Closed, Form::Open, Form::First, Form::First];
 
 /// Puts the file of a recording that is made up and spoilt.
-fn put_recording(alloc: Global, random: &mut Random, bytes: &mut Vec<u8>) -> io::Result<()> {
-    let form = FORMS[random.below(4) % 4];
-    let written = match recording(alloc, form, *random) {
-        Ok(log) => write_recording(&log, bytes).is_ok(),
+fn put_recording(alloc: Global, input: &mut Input) {
+    let form = FORMS[input.random.below(4) % 4];
+    let is_written = match recording(alloc, form, false, input.random) {
+        Ok(log) => write_recording(&log, &mut input.bytes).is_ok(),
         Err(_) => false,
     };
-    if !written {
-        return Err(io::Error::from(ErrorKind::Other));
-    }
-    let _next = random.below(2);
-    let ways = random.below(3);
-    Ok(spoil_bytes(random, bytes, ways)?)
+    input.is_short = !is_written;
+    let _next = input.random.below(2);
+    let ways = input.random.below(3);
+    input.spoil(ways);
 }
 
 /// Whether two stations have the same address and the same entities.
@@ -97,6 +93,14 @@ fn told_state<L: ExerciseLog>(log: &L, random: &mut Random) -> Option<usize> {
     found
 }
 
+/// Where one of the entries of a file that tell a state has it, if one does.
+fn state_place(alloc: Global, random: &mut Random, bytes: &[u8]) -> Option<usize> {
+    match RecordingView::over(alloc, bytes) {
+        Ok(log) => told_state(&log, random),
+        Err(_) => None,
+    }
+}
+
 /// Makes another state of the one that stands at a place; whether one stands there.
 fn change_state(bytes: &mut [u8], place: usize, more: u8) -> bool {
     match bytes.get_mut(place) {
@@ -110,25 +114,22 @@ fn change_state(bytes: &mut [u8], place: usize, more: u8) -> bool {
     }
 }
 
-/// The same file with another state told in one entry, if one tells a state.
-fn with_other_state(
+/// Whether a copy of a recording with another state told in one entry gets a no, if one tells a state.
+fn is_other_refused(
     alloc: Global,
     random: &mut Random,
-    bytes: &[u8],
-) -> io::Result<Option<Vec<u8>>> {
+    recording: &[u8],
+    certificate: &[u8],
+) -> bool {
     let more = if random.one_in(2) { 1 } else { 2 };
-    let place = match RecordingView::over(alloc, bytes) {
-        Ok(log) => told_state(&log, random),
-        Err(_) => None,
+    let Some(place) = state_place(alloc, random, recording) else {
+        return true;
     };
-    let Some(place) = place else {
-        return Ok(None);
-    };
-    let mut copy = Vec::from_slice(alloc, bytes)?;
-    if change_state(&mut copy, place, more) {
-        Ok(Some(copy))
-    } else {
-        Err(io::Error::from(ErrorKind::Other))
+    match Vec::from_slice(alloc, recording) {
+        Ok(mut copy) => {
+            change_state(&mut copy, place, more) && checked(alloc, &copy, certificate).ends(1)
+        }
+        Err(_) => false,
     }
 }
 
@@ -148,10 +149,14 @@ fn swap_steps(random: &mut Random, bytes: &mut Vec<u8>) {
     }
 }
 
-/// What `check` says of a recording and a certificate.
-pub(crate) fn checked(alloc: Global, recording: &[u8], certificate: &[u8]) -> Ran {
-    let files = [("rec", recording), ("cert", certificate)];
-    run_words(alloc, &["check", "rec", "cert"], &files, &[])
+/// Spoils a certificate, which the input is, or swaps two of its steps.
+fn spoil_certificate(input: &mut Input) {
+    if input.random.one_in(2) {
+        swap_steps(&mut input.random, &mut input.bytes);
+    } else {
+        let ways = input.random.below(2).saturating_add(1);
+        input.spoil(ways);
+    }
 }
 
 /// Whether a certificate that is spoilt gets a no, a fault or the report.
@@ -161,71 +166,46 @@ fn is_spoilt_judged(
     recording: &[u8],
     certificate: &[u8],
     report: &[u8],
-) -> io::Result<bool> {
-    let mut spoilt = Vec::from_slice(alloc, certificate)?;
-    if random.one_in(2) {
-        swap_steps(random, &mut spoilt);
-    } else {
-        let ways = random.below(2).saturating_add(1);
-        spoil_bytes(random, &mut spoilt, ways)?;
-    }
-    let said = checked(alloc, recording, &spoilt);
-    Ok(match said.status {
+) -> bool {
+    let mut spoilt = begin_input(alloc, *random);
+    spoilt.put(certificate);
+    spoil_certificate(&mut spoilt);
+    *random = spoilt.random;
+    let said = checked(alloc, recording, &spoilt.bytes);
+    match said.status {
         0 => said.is_answer() && said.out.as_slice() == report,
         1 => said.is_answer() && said.out.starts_with(b"no step="),
         _ => said.is_fault() && said.errors.starts_with(b"certificate: "),
-    })
+    }
 }
 
 /// Whether a certificate that was found gets a yes, a spoilt one no other report, and a copy of the
 /// recording with another state told a no.
-fn is_judged(
-    alloc: Global,
-    random: &mut Random,
-    recording: &[u8],
-    certificate: &[u8],
-) -> io::Result<bool> {
-    let (yes, spoilt) = {
-        let said = checked(alloc, recording, certificate);
-        let report = said.out.as_slice();
-        let yes = said.ends(0) && report.starts_with(b"yes records=");
-        (
-            yes,
-            is_spoilt_judged(alloc, random, recording, certificate, report),
-        )
-    };
-    let spoilt = spoilt?;
-    let damaged = match with_other_state(alloc, random, recording)? {
-        Some(copy) => checked(alloc, &copy, certificate).ends(1),
-        None => true,
-    };
-    Ok(yes && spoilt && damaged)
+fn is_judged(alloc: Global, random: &mut Random, recording: &[u8], certificate: &[u8]) -> bool {
+    let said = checked(alloc, recording, certificate);
+    let report = said.out.as_slice();
+    said.ends(0)
+        && report.starts_with(b"yes records=")
+        && is_spoilt_judged(alloc, random, recording, certificate, report)
+        && is_other_refused(alloc, random, recording, certificate)
 }
 
-/// What `audit` answers to a file, and whether it ended as it should, of a recording or of what is
-/// none.
-fn search(
+/// Whether `audit` ended as it should, of a recording or of what is none.
+fn is_searched(
     alloc: Global,
     random: &mut Random,
     recording: &[u8],
     is_read: bool,
-) -> io::Result<Answer> {
-    let (status, good) = {
-        let found = run_words(alloc, &["audit", "rec", "cert"], &[("rec", recording)], &[]);
-        let good = match (&found.left, found.status) {
-            (Some(certificate), 0) if is_read && found.is_answer() => {
-                is_judged(alloc, random, recording, certificate)
-            }
-            (None, 1) => Ok(is_read && found.is_answer() && found.out.starts_with(b"blocked ")),
-            (None, 2) => Ok(!is_read && found.is_fault()),
-            _ => Ok(false),
-        };
-        (found.status, good)
-    };
-    Ok(Answer {
-        status,
-        good: good?,
-    })
+    found: &Ran,
+) -> bool {
+    match (&found.left, found.status) {
+        (Some(certificate), 0) if is_read && found.is_answer() => {
+            is_judged(alloc, random, recording, certificate)
+        }
+        (None, 1) => is_read && found.is_answer() && found.out.starts_with(b"blocked "),
+        (None, 2) => !is_read && found.is_fault(),
+        _ => false,
+    }
 }
 
 /// Whether `convert` carried a file over as it should: a recording of the first format byte by byte,
@@ -251,22 +231,19 @@ fn is_carried(bytes: &[u8], is_read: bool, carried: &Ran) -> bool {
 
 /// Tries a recording: it is read and seen in place alike, `show` and `audit` refuse it where it is
 /// none, what `audit` finds `check` takes, and `convert` carries over what is of the first format.
-pub(crate) fn try_recording(
-    alloc: Global,
-    random: &mut Random,
-    given: &mut Vec<u8>,
-) -> io::Result<Answer> {
-    put_recording(alloc, random, given)?;
-    let recording = given.as_slice();
+pub(crate) fn try_recording(alloc: Global, input: &mut Input) -> Answer {
+    put_recording(alloc, input);
+    let recording = input.bytes.as_slice();
     let (agrees, is_read) = wanted(alloc, recording);
-    let searched = search(alloc, random, recording, is_read)?;
+    let found = searched(alloc, recording);
+    let is_searched = is_searched(alloc, &mut input.random, recording, is_read, &found);
     let files = [("rec", recording)];
     let status = if is_read { 0 } else { 2 };
     let is_shown = run_words(alloc, &["show", "rec"], &files, &[]).ends(status);
     let carried = run_words(alloc, &["convert", "rec", "new"], &files, &[]);
     let is_carried = is_carried(recording, is_read, &carried);
-    Ok(Answer {
-        status: searched.status,
-        good: agrees && searched.good && is_shown && is_carried,
-    })
+    Answer {
+        status: found.status,
+        good: agrees && is_searched && is_shown && is_carried,
+    }
 }

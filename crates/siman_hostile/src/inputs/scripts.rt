@@ -1,31 +1,9 @@
 //! Scripts that are made up and spoilt.
 
+use crate::input::Input;
 use crate::inputs::Answer;
-use crate::inputs::recordings::checked;
-use crate::inputs::spoiling::spoil_bytes;
-use crate::ran::{Ran, run_words};
-use siman_fixtures::Random;
+use crate::ran::{Ran, checked, run_words, searched};
 use std::alloc::Global;
-use std::io;
-use std::io::Write;
-
-/// Puts lines, with numbers in the place of each `F`, `T` and `E`: from whom, to whom, of what.
-pub(crate) fn put_lines(text: &mut Vec<u8>, form: &str, numbers: [usize; 3]) -> io::Result<()> {
-    let [from, to, entity] = numbers;
-    for byte in form.as_bytes() {
-        let number = match *byte {
-            b'F' => from,
-            b'T' => to,
-            b'E' => entity,
-            other => {
-                text.push(other)?;
-                continue;
-            }
-        };
-        write!(text, "{number}")?;
-    }
-    Ok(())
-}
 
 /// What one of the stations has.
 const SETTINGS: [&str; 8] = [
@@ -51,62 +29,70 @@ const ORDERS: [&str; 8] = [
     "set F:1 T:1:0 5 E\n",
 ];
 
+/// What stands behind a station, by the throw of a die.
+const STATIONS: [&str; 4] = [
+    "station F:1 first=4294967294 tries=1 wait=0\n",
+    "station F:1 first=9 tries=2 wait=3\n",
+    "station F:1\n",
+    "station F:1\n",
+];
+
 /// Puts the lines of the stations 1:1 to 3:1, and of what one of them has.
-fn put_stations(random: &mut Random, text: &mut Vec<u8>) -> io::Result<()> {
-    put_lines(text, "exercise 1\n", [0; 3])?;
+fn put_stations(input: &mut Input) {
+    input.put(b"exercise 1\n");
     for site in 1..4usize {
-        let form = match random.below(4) {
-            0 => "station F:1 first=4294967294 tries=1 wait=0\n",
-            1 => "station F:1 first=9 tries=2 wait=3\n",
-            _ => "station F:1\n",
-        };
-        put_lines(text, form, [site, 0, 0])?;
+        let form = STATIONS[input.random.below(4) % 4];
+        input.put_lines(form, site, 0, 0);
     }
-    let (site, entity) = (random.below(4).saturating_add(1), random.below(4));
-    put_lines(text, SETTINGS[random.below(8) % 8], [site, 0, entity])
+    let (site, entity) = (input.random.below(4), input.random.below(4));
+    let form = SETTINGS[input.random.below(8) % 8];
+    input.put_lines(form, site.saturating_add(1), 0, entity);
 }
 
 /// Puts an order of a station to another.
-fn put_order(random: &mut Random, text: &mut Vec<u8>) -> io::Result<()> {
-    let from = random.below(3).saturating_add(1);
-    let to = random.below(4).saturating_add(1);
-    let entity = match random.below(6) {
+fn put_order(input: &mut Input) {
+    let from = input.random.below(3).saturating_add(1);
+    let to = input.random.below(4).saturating_add(1);
+    let entity = match input.random.below(6) {
         0 => 65535,
         1 => 65534,
         entity => entity,
     };
-    put_lines(text, ORDERS[random.below(8) % 8], [from, to, entity])
+    let form = ORDERS[input.random.below(8) % 8];
+    input.put_lines(form, from, to, entity);
 }
 
 /// Puts a line that moves something, behind lines that sent at least so many datagrams.
-fn put_move(random: &mut Random, text: &mut Vec<u8>, sends: usize) -> io::Result<()> {
-    let site = random.below(3).saturating_add(1);
-    let number = random.below(30);
-    let form = match random.below(8) {
+fn put_move(input: &mut Input, sends: usize) {
+    let site = input.random.below(3).saturating_add(1);
+    let mut number = input.random.below(30);
+    let form = match input.random.below(8) {
         0 => "at E\n",
         1 => "tick F:1\n",
         2 => "tell F:1 E\n",
-        _ if sends > 0 => return put_lines(text, "deliver E F:1\n", [site, 0, random.below(sends)]),
+        _ if sends > 0 => {
+            number = input.random.below(sends);
+            "deliver E F:1\n"
+        }
         _ => "# nothing is sent\n",
     };
-    put_lines(text, form, [site, 0, number])
+    input.put_lines(form, site, 0, number);
 }
 
 /// Puts a script that is made up and spoilt.
-fn put_script(random: &mut Random, text: &mut Vec<u8>) -> io::Result<()> {
-    put_stations(random, text)?;
+fn put_script(input: &mut Input) {
+    put_stations(input);
     let mut sends = 0usize;
-    for _ in 0..random.below(16) {
-        if random.one_in(3) {
-            put_order(random, text)?;
+    for _ in 0..input.random.below(16) {
+        if input.random.one_in(3) {
+            put_order(input);
             sends = sends.saturating_add(1);
         } else {
-            put_move(random, text, sends)?;
+            put_move(input, sends);
         }
     }
-    let ways = random.below(12).saturating_sub(9);
-    spoil_bytes(random, text, ways)?;
-    Ok(())
+    let ways = input.random.below(12).saturating_sub(9);
+    input.spoil(ways);
 }
 
 /// Whether bytes are these, one behind the other.
@@ -123,7 +109,7 @@ fn is_joined(bytes: &[u8], parts: &[&[u8]]) -> bool {
 
 /// Whether the recording of a world is explained, and a trial says what the three commands say.
 fn is_closed(alloc: Global, made: &Ran, recording: &[u8], tried: &Ran) -> bool {
-    let found = run_words(alloc, &["audit", "rec", "cert"], &[("rec", recording)], &[]);
+    let found = searched(alloc, recording);
     match &found.left {
         Some(certificate) => {
             let said = checked(alloc, recording, certificate);
@@ -150,16 +136,10 @@ pub(crate) fn is_tried(alloc: Global, made: &Ran, script: &[u8]) -> bool {
 /// Whether what the stations of a script record over lines that bring nothing is explained, or their
 /// fault is told.
 fn is_lived(alloc: Global, script: &[u8]) -> bool {
-    let lived = run_words(
-        alloc,
-        &["live", "script", "rec"],
-        &[("script", script)],
-        &[],
-    );
+    let files = [("script", script)];
+    let lived = run_words(alloc, &["live", "script", "rec"], &files, &[]);
     match (&lived.left, lived.status) {
-        (Some(recording), 0) if lived.is_answer() => {
-            run_words(alloc, &["audit", "rec", "cert"], &[("rec", recording)], &[]).ends(0)
-        }
+        (Some(recording), 0) if lived.is_answer() => searched(alloc, recording).ends(0),
         (_, 2) => lived.out.is_empty() && !lived.errors.is_empty(),
         _ => false,
     }
@@ -167,21 +147,13 @@ fn is_lived(alloc: Global, script: &[u8]) -> bool {
 
 /// Tries a script: its world and its trial end alike, what they make is explained, and what its
 /// stations record over lines is.
-pub(crate) fn try_script(
-    alloc: Global,
-    random: &mut Random,
-    given: &mut Vec<u8>,
-) -> io::Result<Answer> {
-    put_script(random, given)?;
-    let script = given.as_slice();
-    let made = run_words(
-        alloc,
-        &["world", "script", "rec"],
-        &[("script", script)],
-        &[],
-    );
-    Ok(Answer {
+pub(crate) fn try_script(alloc: Global, input: &mut Input) -> Answer {
+    put_script(input);
+    let script = input.bytes.as_slice();
+    let files = [("script", script)];
+    let made = run_words(alloc, &["world", "script", "rec"], &files, &[]);
+    Answer {
         status: made.status,
         good: is_tried(alloc, &made, script) && is_lived(alloc, script),
-    })
+    }
 }

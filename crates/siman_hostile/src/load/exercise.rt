@@ -1,9 +1,10 @@
 //! An exercise of 102,000 entries, from its script to the report.
 
-use crate::inputs::{is_tried, put_lines};
-use crate::ran::{Files, run_words};
-use siman_refusals::unmade;
-use std::alloc::{AllocError, Global};
+use crate::input::{Input, begin_input};
+use crate::inputs::is_tried;
+use crate::ran::{checked, run_words, searched};
+use siman_fixtures::Random;
+use std::alloc::Global;
 use std::io;
 use std::io::Write;
 
@@ -14,37 +15,31 @@ const EXCHANGES: usize = 12_000;
 const COPIES: u32 = 27_000;
 
 /// Puts the script of the exercise.
-fn put_script(text: &mut Vec<u8>) -> io::Result<()> {
-    let head = "exercise 1\nstation 1:1\nstation 2:3\nopening 2:3 7 stopped\n";
-    put_lines(text, head, [0; 3])?;
+fn put_script(script: &mut Input) {
+    script.put(b"exercise 1\nstation 1:1\nstation 2:3\nopening 2:3 7 stopped\n");
     for number in 0..EXCHANGES {
         let sent = number.saturating_mul(2);
-        let answer = sent.saturating_add(1);
         let exchange = "start 1:1 2:3:7\ndeliver F 2:3\ndeliver T 1:1\n";
-        put_lines(text, exchange, [sent, answer, 0])?;
+        script.put_lines(exchange, sent, sent.saturating_add(1), 0);
     }
     for _ in 0..COPIES {
-        put_lines(text, "deliver 0 2:3\n", [0; 3])?;
+        script.put(b"deliver 0 2:3\n");
     }
-    Ok(())
 }
 
-/// The same recording with one entry more: 2:3 tells that its entity 7, which is running, is absent.
-fn told_wrong(alloc: Global, recording: &[u8]) -> Result<Vec<u8>, AllocError> {
-    let mut file = Vec::from_slice(alloc, recording)?;
-    file.truncate(recording.len().saturating_sub(5));
-    file.extend_from_slice(&[3, 0, 1, 0, 7, 0, 0, 0, 1, 142, 113])?;
-    Ok(file)
+/// Puts the same recording with one entry more: 2:3 tells that its entity 7, which is running, is
+/// absent.
+fn put_told_wrong(file: &mut Input, recording: &[u8]) {
+    file.put(recording);
+    file.bytes.truncate(recording.len().saturating_sub(5));
+    file.put(&[3, 0, 1, 0, 7, 0, 0, 0, 1, 142, 113]);
 }
 
-/// The same certificate with one step more, for that entry.
-fn with_step(alloc: Global, certificate: &[u8]) -> Result<Vec<u8>, AllocError> {
-    let mut file = Vec::from_slice(alloc, b"DSCT0001\x00\x01\x8e\x71")?;
-    if let Some(steps) = certificate.get(12..) {
-        file.extend_from_slice(steps)?;
-    }
-    file.extend_from_slice(&[0, 1, 142, 112, 255, 255, 255, 255])?;
-    Ok(file)
+/// Puts the same certificate with one step more, for that entry.
+fn put_with_step(file: &mut Input, certificate: &[u8]) {
+    file.put(b"DSCT0001\x00\x01\x8e\x71");
+    file.put(certificate.get(12..).unwrap_or(b""));
+    file.put(&[0, 1, 142, 112, 255, 255, 255, 255]);
 }
 
 /// The last line of a text.
@@ -58,81 +53,48 @@ fn last_line(text: &[u8]) -> &[u8] {
     text.get(start..).unwrap_or(text)
 }
 
-/// Prints what a command says, or the last line of it.
-fn put_answer<W: Write>(
-    alloc: Global,
-    words: &[&str],
-    files: Files<'_>,
-    is_whole: bool,
-    out: &mut W,
-) -> io::Result<()> {
-    let said = run_words(alloc, words, files, &[]);
-    if is_whole {
-        out.write_all(&said.out)
-    } else {
-        out.write_all(last_line(&said.out))
-    }
+/// Puts what `check` and `audit` say of the wrong state.
+fn put_wrong(alloc: Global, recording: &[u8], certificate: &[u8], told: &mut Input) {
+    let mut wrong = begin_input(alloc, told.random);
+    put_told_wrong(&mut wrong, recording);
+    let mut longer = begin_input(alloc, told.random);
+    put_with_step(&mut longer, certificate);
+    told.put(&checked(alloc, &wrong.bytes, &longer.bytes).out);
+    told.put(&searched(alloc, &wrong.bytes).out);
 }
 
-/// Prints what `check` and `audit` say of the wrong state.
-fn put_wrong<W: Write>(
-    alloc: Global,
-    recording: &[u8],
-    certificate: &[u8],
-    out: &mut W,
-) -> io::Result<()> {
-    let wrong = told_wrong(alloc, recording)?;
-    let longer = with_step(alloc, certificate)?;
-    let files = [("rec", wrong.as_slice()), ("cert", longer.as_slice())];
-    put_answer(alloc, &["check", "rec", "cert"], &files, true, out)?;
-    put_answer(alloc, &["audit", "rec", "new"], &files, true, out)
-}
-
-/// Prints the last line of what `show` and `check` say of a recording, and what is said of the wrong
+/// Puts the last line of what `show` and `check` say of a recording, and what is said of the wrong
 /// state.
-fn put_judged<W: Write>(
-    alloc: Global,
-    recording: &[u8],
-    certificate: &[u8],
-    out: &mut W,
-) -> io::Result<()> {
-    let files = [("rec", recording), ("cert", certificate)];
-    put_answer(alloc, &["show", "rec"], &files, false, out)?;
-    put_answer(alloc, &["check", "rec", "cert"], &files, false, out)?;
-    put_wrong(alloc, recording, certificate, out)
+fn put_judged(alloc: Global, recording: &[u8], told: &mut Input) {
+    let found = searched(alloc, recording);
+    let Some(certificate) = &found.left else {
+        return;
+    };
+    let shown = run_words(alloc, &["show", "rec"], &[("rec", recording)], &[]);
+    told.put(last_line(&shown.out));
+    told.put(last_line(&checked(alloc, recording, certificate).out));
+    put_wrong(alloc, recording, certificate, told);
 }
 
-/// Prints what `world` and a trial told, and what is said of the recording.
-fn put_made<W: Write>(
-    alloc: Global,
-    told: &[u8],
-    alike: bool,
-    recording: &[u8],
-    out: &mut W,
-) -> io::Result<()> {
-    out.write_all(told)?;
-    writeln!(out, "explained, and its trial says the same: {alike}")?;
-    let found = run_words(alloc, &["audit", "rec", "cert"], &[("rec", recording)], &[]);
-    match &found.left {
-        Some(certificate) => put_judged(alloc, recording, certificate, out),
-        None => Err(unmade()),
-    }
-}
-
-/// Prints what the commands say of a script.
-fn put_tried<W: Write>(alloc: Global, script: &[u8], out: &mut W) -> io::Result<()> {
+/// Puts what the commands say of a script: what `world` and a trial told, and what is said of the
+/// recording.
+fn put_tried(alloc: Global, script: &[u8], told: &mut Input) {
     let files = [("script", script)];
     let made = run_words(alloc, &["world", "script", "rec"], &files, &[]);
-    let alike = is_tried(alloc, &made, script);
-    match &made.left {
-        Some(recording) => put_made(alloc, &made.out, alike, recording, out),
-        None => Err(unmade()),
+    told.put(&made.out);
+    if is_tried(alloc, &made, script) {
+        told.put(b"explained, and its trial says the same: true\n");
+    }
+    if let Some(recording) = &made.left {
+        put_judged(alloc, recording, told);
     }
 }
 
 /// Makes the exercise, and prints what the commands say of it.
 pub(crate) fn put_exercise<W: Write>(alloc: Global, out: &mut W) -> io::Result<()> {
-    let mut script = Vec::new(alloc);
-    put_script(&mut script)?;
-    put_tried(alloc, &script, out)
+    let mut script = begin_input(alloc, Random { state: 0 });
+    put_script(&mut script);
+    let mut told = begin_input(alloc, Random { state: 0 });
+    put_tried(alloc, &script.bytes, &mut told);
+    out.write_all(&told.bytes)
 }

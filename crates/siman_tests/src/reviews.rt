@@ -60,6 +60,50 @@ fn each_order_has_its_fate_at_each_of_its_parties(rt: HostRuntime) {
     }
 }
 
+/// Whether parties have just these addresses, of a site and an application each.
+fn are_at<L: ExerciseLog>(
+    register: &Register<'_, L>,
+    parties: &[Party],
+    wanted: &[(u16, u16)],
+) -> bool {
+    parties.len() == wanted.len()
+        && parties.iter().zip(wanted.iter()).all(|(party, &(site, application))| party.address(
+            register,
+        ) == Outsider { site, application })
+}
+
+/// Whether outcomes are those at just these parties.
+fn are_of(outcomes: &[Outcome], parties: &[Party]) -> bool {
+    outcomes.len() == parties.len()
+        && outcomes
+            .iter()
+            .zip(parties.iter())
+            .all(|(outcome, party)| outcome.party == Some(*party))
+}
+
+/// Whether an order stands at an entry, has parties of just these addresses, and comes to something at
+/// each of them.
+fn has_parties<L: ExerciseLog>(
+    alloc: Global,
+    register: &Register<'_, L>,
+    entry: usize,
+    wanted: &[(u16, u16)],
+) -> bool {
+    let Some(order) = order_at(register, entry) else {
+        return false;
+    };
+    let (parties, outcomes) = (
+        parties_of(alloc, register, &order),
+        outcomes_of(alloc, register, &order),
+    );
+    match (parties, outcomes) {
+        (Ok(parties), Ok(outcomes)) => {
+            are_at(register, &parties, wanted) && are_of(&outcomes, &parties)
+        }
+        _ => false,
+    }
+}
+
 /// The site and the application of each party of each order.
 #[test]
 fn parties_stand_by_rising_addresses(rt: HostRuntime) {
@@ -73,20 +117,7 @@ fn parties_stand_by_rising_addresses(rt: HostRuntime) {
         (29, &[(2, 4)]),
     ];
     for (entry, wanted) in rows {
-        let order = order_at(&register, entry).expect(&rt, "it is an order");
-        let parties = parties_of(rt.alloc(), &register, &order).expect(&rt, "there is memory");
-        let outcomes = outcomes_of(rt.alloc(), &register, &order).expect(&rt, "there is memory");
-        assert!(rt; parties.len() == wanted.len() && outcomes.len() == wanted.len());
-        for (party, (site, application)) in parties.iter().zip(wanted.iter()) {
-            let address = Outsider {
-                site: *site,
-                application: *application,
-            };
-            assert!(rt; party.address(&register) == address);
-        }
-        for (party, outcome) in parties.iter().zip(outcomes.iter()) {
-            assert!(rt; outcome.party == Some(*party));
-        }
+        assert!(rt; has_parties(rt.alloc(), &register, entry, wanted));
     }
 }
 

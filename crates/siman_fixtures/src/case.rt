@@ -207,6 +207,12 @@ impl Case {
 
     /// Takes what a line says of what is filled; false where it can't stand here.
     fn fill(&mut self, line: Line<'_>) -> io::Result<bool> {
+        // Words and what goes over a line are no files: no call of theirs fails so.
+        if matches!(line.says, Says::Calls)
+            && matches!(self.part, Part::Word | Part::Coming | Part::Sent)
+        {
+            return Ok(false);
+        }
         let Some(filled) = self.filled() else {
             return Ok(false);
         };

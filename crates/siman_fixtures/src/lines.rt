@@ -139,6 +139,18 @@ fn split(text: &str) -> (&str, &str) {
     }
 }
 
+/// The largest number that may stand last behind a word.
+fn largest(says: Says) -> u64 {
+    match says {
+        Says::Status => 255,
+        Says::Station | Says::Call(Asked::Entity) => 65_535,
+        Says::Times | Says::Each | Says::Call(Asked::Serve | Asked::Order | Asked::Datum) => {
+            4_294_967_295
+        }
+        _ => u64::MAX,
+    }
+}
+
 /// The line of a word, with so many numbers before its text.
 fn with_numbers<'a>(says: Says, numbers: usize, has_text: bool, text: &'a str) -> Option<Line<'a>> {
     let (mut first, mut last, mut text) = (0, 0, text);
@@ -153,7 +165,7 @@ fn with_numbers<'a>(says: Says, numbers: usize, has_text: bool, text: &'a str) -
             first = last;
         }
     }
-    if !has_text && !text.is_empty() {
+    if last > largest(says) || (!has_text && !text.is_empty()) {
         return None;
     }
     Some(Line {

@@ -5,7 +5,7 @@ use Rattle.std.specs.Option.{option_map_or}
 use Rattle.std.proofs.lemmas.Bool.{eqb-true, eq-eqb}
 use Rattle.siman_pdus.specs.declared.pdu.Pdu.{Pdu}
 use Rattle.exercise_model.specs.declared.cause.Cause.{Cause}
-use Rattle.exercise_model.specs.declared.cause.Cause.TheVariants.{NoSuchRecord, OutOfOrder, BadLink, NeverSent}
+use Rattle.exercise_model.specs.declared.cause.Cause.TheVariants.{NoSuchRecord, OutOfOrder, NeverSent}
 use Rattle.exercise_model.specs.Entry.{Entry}
 use Rattle.exercise_model.specs.Recording.{PlainRecording, IsRecording}
 use Rattle.exercise_model.specs.Setting.{SettingData, is_recorded}
@@ -20,7 +20,7 @@ use Rattle.exercise_check.specs.Goodness.{link_cause, event_cause, step_cause, G
 use Rattle.exercise_check.specs.declared.course.Progress.{Progress}
 use Rattle.exercise_check.specs.declared.course.Progress.TheVariants.{Taken, Barred}
 use Rattle.exercise_check.specs.declared.judgement.Judgement.TheVariants.{Allowed, Forbidden}
-use Rattle.exercise_check.specs.Course.{CourseData, with_step, IsNext, GoesOn, Judges}
+use Rattle.exercise_check.specs.Course.{CourseData, with_step, GoesOn, Judges}
 use Rattle.exercise_check.specs.Judging.{JudgesNext}
 use Rattle.exercise_check.proofs.Goodness.{is_ready, cause_none, good_logs}
 use Rattle.exercise_check.proofs.Orders.{is_some-first_sender}
@@ -141,6 +141,26 @@ pub allowed_cause : (r : PlainRecording) (steps : List Step) (step : Step) (e : 
     → step_cause r steps step ≡ link_cause step.link link
 allowed_cause r steps step e link at next is linked = here_cause r steps step e at ∙ rw (next, is) (ap (link_cause step.link) (sym linked))
 
+-- the same, by what an entry is judged to be that is its station's next one
+
+pub barred_at : (r : PlainRecording) (steps : List Step) (step : Step) (cause : Cause) → step.place < length r.entries
+    → IfSome (slice_get r.entries step.place) (λ e. is_next r steps step.place (event_of e) ≡ true)
+    → JudgesNext r steps step.place (Forbidden cause) → step_cause r steps step ≡ Some cause
+barred_at r steps step cause within next judged =
+    let e = entry_within r.entries step.place within in
+    barred_cause r steps step e.0 cause e.1 (from_entry _ e.0 (λ e. is_next r steps step.place (event_of e) ≡ true) e.1 next)
+    (from_entry _ e.0 (λ e. Judges (cause_of r.setting (order_of r steps) (event_of e)) (link_of r steps step.place (event_of e)) (length r.entries)
+    (Forbidden cause)) e.1 judged)
+
+pub allowed_at : (r : PlainRecording) (steps : List Step) (step : Step) (link : Option ℕ) → step.place < length r.entries
+    → IfSome (slice_get r.entries step.place) (λ e. is_next r steps step.place (event_of e) ≡ true)
+    → JudgesNext r steps step.place (Allowed link) → step_cause r steps step ≡ link_cause step.link link
+allowed_at r steps step link within next judged =
+    let e = entry_within r.entries step.place within in
+    let j = from_entry _ e.0 (λ e. Judges (cause_of r.setting (order_of r steps) (event_of e)) (link_of r steps step.place (event_of e)) (length r.entries)
+    (Allowed link)) e.1 judged in
+    allowed_cause r steps step e.0 link e.1 (from_entry _ e.0 (λ e. is_next r steps step.place (event_of e) ≡ true) e.1 next) j.0 j.1
+
 -- what going on by a step came to
 
 pub disordered : (r : PlainRecording) (steps : List Step) (step : Step) (next : Bool) → step.place < length r.entries
@@ -149,42 +169,6 @@ pub disordered : (r : PlainRecording) (steps : List Step) (step : Step) (next : 
 disordered r steps step next within is off =
     let e = entry_within r.entries step.place within in
     unordered_cause r steps step e.0 e.1 (sym (from_entry _ e.0 (λ e. next ≡ is_next r steps step.place (event_of e)) e.1 is) ∙ off)
-
--- what is known of the entry at which a course goes on
-record Going (old new : CourseData) (place : ℕ) (progress : Progress) : Type 0 where
-  entry : Entry
-  at : slice_get old.recording.entries place ≡ Some entry
-  next : is_next old.recording old.steps place (event_of entry) ≡ true
-  goes : GoesOn old new place progress entry
-
-going : (old new : CourseData) (place : ℕ) (progress : Progress) → place < length old.recording.entries → IsNext old place
-    → IfSome (slice_get old.recording.entries place) (GoesOn old new place progress) → Going old new place progress
-going old new place progress within next goes =
-    let e = entry_within old.recording.entries place within in
-    record {
-      entry = e.0;
-      at = e.1;
-      next = from_entry _ e.0 (λ e. is_next old.recording old.steps place (event_of e) ≡ true) e.1 next;
-      goes = from_entry _ e.0 (GoesOn old new place progress) e.1 goes;
-    }
-
-pub barred_step : (old new : CourseData) (step : Step) (cause : Cause) → step.place < length old.recording.entries → IsNext old step.place
-    → IfSome (slice_get old.recording.entries step.place) (GoesOn old new step.place (Barred cause))
-    → (step_cause old.recording old.steps step ≡ Some cause) × (new ≡ old)
-barred_step old new step cause within next goes =
-    let g = going old new step.place (Barred cause) within next goes in
-    (barred_cause old.recording old.steps step g.entry cause g.at g.next g.goes.cause_is, g.goes.new_is)
-
-pub taken_step : (old new : CourseData) (step : Step) (link : ℕ) → step.place < length old.recording.entries → IsNext old step.place
-    → IfSome (slice_get old.recording.entries step.place) (GoesOn old new step.place (Taken link))
-    → (step_cause old.recording old.steps step ≡ cond (nat_eq step.link link) None (Some BadLink)) ×
-    (new ≡ with_step old (record { place = step.place; link = link }))
-taken_step old new step link within next goes =
-    let g = going old new step.place (Taken link) within next goes in (
-      allowed_cause old.recording old.steps step g.entry (link_of old.recording old.steps step.place (event_of g.entry)) g.at g.next g.goes.allowed refl ∙ ap
-          (λ n. cond (nat_eq step.link n) None (Some BadLink)) (sym g.goes.link_is),
-      g.goes.new_is,
-    )
 
 -- what a call of `next_entry` that finds nothing says
 pub done_if : (r : PlainRecording) (steps : List Step) (s : ℕ) (found : Option ℕ) → GoodBelow r steps (length steps)

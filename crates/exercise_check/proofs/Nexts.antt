@@ -1,13 +1,13 @@
 -- Which entry of a station is its next one, by how many of it stand before an entry.
-use Rattle.std.proofs.Common.{◌≡◌, ℕ, zero, suc, ◌+◌, ◌-◌, ◌<◌, ◌≤◌, List, length, cond, Some, None, true, false, refl, sym, ap, ◌∙◌, ⊎_elim, arith}
-use Rattle.std.specs.Prelude.{is_some, slice_get, nat_eq, if◌then◌else◌, option_and_then}
+use Rattle.std.proofs.Common.{◌≡◌, ℕ, ◌<◌, ◌≤◌, List, length, cond, Some, None, true, false, refl, sym, ap, ◌∙◌, ⊎_elim, arith}
+use Rattle.std.specs.Prelude.{is_some, slice_get, nat_eq, option_and_then}
 use Rattle.std.proofs.lemmas.Bool.Decides.{nat_tests}
 use Rattle.std.proofs.lemmas.Bool.{cases_lt, eq-eqb}
 use Rattle.exercise_model.specs.Entry.{Entry}
 use Rattle.exercise_model.specs.Recording.{PlainRecording}
 use Rattle.exercise_model.specs.History.{event_of, station_of, log_at}
 use Rattle.exercise_model.specs.Place.{event_at, own_event, log_before}
-use Rattle.exercise_model.proofs.Offered.{length-entries-more, passes}
+use Rattle.exercise_model.proofs.Offered.{passes}
 use Rattle.exercise_check.specs.declared.certificate.Step.{Step}
 use Rattle.exercise_check.specs.Order.{order_of, is_next}
 use Rattle.exercise_check.specs.Cursors.{StandsFor}

@@ -1,17 +1,19 @@
-//! The checker: it folds a course over the steps of a certificate.
+//! The checker: it takes the steps of a certificate one after the other.
 
-ghost use Rattle.std.specs.Prelude.{◌≡◌, ◌≢◌, length, OnOk, IfOk, IfSome, IfNone, IfErr, Err};
+ghost use Rattle.std.specs.Prelude.{◌≡◌, ◌≢◌, ◌<◌, ◌+◌, [], length, take, OnOk, IfOk, IfSome, IfNone, IfErr, Err};
 ghost use Rattle.exercise_model.specs.Run.{Explains};
 ghost use Rattle.exercise_model.specs.Headline.{Holds};
 ghost use Rattle.exercise_model.specs.Alike.{IsAlwaysAsSaid};
 ghost use Rattle.exercise_check.specs.Order.{order_of};
-ghost use Rattle.exercise_check.specs.Goodness.{step_cause, IsGood, Refuses};
-ghost use Rattle.exercise_check.specs.Course.{begun, with_step};
+ghost use Rattle.exercise_check.specs.Goodness.{cause_at, IsGood, Refuses};
+ghost use Rattle.exercise_check.specs.Judging.{Keeps};
 ghost use Rattle.exercise_findings.specs.Account.{TellsAccount};
 ghost use Rattle.exercise_check.specs.Checked.{TellsKnowledge, TellsPairs};
 
 use crate::certificate::{Certificate, Step};
-use crate::course::{Course, Progress};
+use crate::cursors::{Cursors, first_cursors, is_next, pass};
+use crate::judgement::{Judgement, judge};
+use crate::number::link_number;
 use exercise_findings::{Account, Findings};
 use exercise_model::{Cause, ExerciseLog};
 use std::alloc::{AllocError, Global};
@@ -58,52 +60,57 @@ impl From<AllocError> for CheckFault {
     }
 }
 
-/// Goes on by a step, or tells the first cause against it.
+/// Takes a step of a certificate, where those before it were taken, or tells the first cause against
+/// it. It takes no memory.
 fn take_step<L: ExerciseLog>(
-    alloc: Global,
-    course: &mut Course<'_, L>,
-    entries: usize,
-    step: Step,
-) -> Result<Option<Cause>, AllocError>
-    requires { entries ≡ length course.old.recording.entries }
-    ensures good { IfOk result (λ cause. IfNone cause (course.new ≡ with_step course.old step)) }
-    ensures cause { IfOk result (λ cause. cause ≡ step_cause course.old.recording course.old.steps step) }
-    ensures recording { course.new.recording ≡ course.old.recording }
+    found: &mut Findings<'_, L>,
+    cursors: &mut Cursors,
+    steps: &[Step],
+    at: usize,
+) -> Option<Cause>
+    requires within { at < length steps.now }
+    requires kept { Keeps found.old (take at steps.now) cursors.old }
+    ensures cause { result ≡ cause_at found.old steps.now at }
+    ensures kept { IfNone result (Keeps found.old (take (at + 1) steps.now) cursors.new) }
+    ensures findings { found.new ≡ found.old }
 {
+    let step = steps[at];
     let place = step.place as usize;
-    if place >= entries {
-        return Ok(Some(Cause::NoSuchRecord));
+    if place >= found.log().entry_count() {
+        return Some(Cause::NoSuchRecord);
     }
-    if !course.is_next(place) {
-        return Ok(Some(Cause::OutOfOrder));
+    if !is_next(found.log(), cursors, place) {
+        return Some(Cause::OutOfOrder);
     }
-    match course.go_on(alloc, place)? {
-        Progress::Barred(cause) => Ok(Some(cause)),
-        Progress::Taken(link) if link == step.link => Ok(None),
-        Progress::Taken(_) => Ok(Some(Cause::BadLink)),
+    found.settle_source(place);
+    match judge(found, cursors, place) {
+        Judgement::Forbidden(cause) => Some(cause),
+        Judgement::Allowed(link) if link_number(link) == step.link => {
+            pass(cursors, found.log(), place);
+            None
+        }
+        Judgement::Allowed(_) => Some(Cause::BadLink),
     }
 }
 
-/// Goes on by steps one after the other, up to the first that is bad.
+/// Takes the steps of a certificate one after the other, up to the first that is bad.
 fn take_steps<L: ExerciseLog>(
-    alloc: Global,
-    course: &mut Course<'_, L>,
-    entries: usize,
+    found: &mut Findings<'_, L>,
+    cursors: &mut Cursors,
     steps: &[Step],
-) -> Result<(), CheckFault>
-    requires begun { course.old ≡ begun course.old.recording }
-    requires entries { entries ≡ length course.old.recording.entries }
-    requires count { length steps.now ≡ length course.old.recording.entries }
-    ensures ok { OnOk result (IsGood course.old.recording steps.now) }
-    ensures bad { IfErr result (Refuses course.old.recording steps.now) }
-    ensures recording { course.new.recording ≡ course.old.recording }
+) -> Option<BadStep>
+    requires begun { Keeps found.old [] cursors.old }
+    requires count { length steps.now ≡ length found.old.entries }
+    ensures good { IfNone result (IsGood found.old steps.now) }
+    ensures bad { IfSome result (λ bad. Refuses found.old steps.now (CheckFault.Bad bad.step bad.cause)) }
+    ensures findings { found.new ≡ found.old }
 {
     for i in 0..steps.len() {
-        if let Some(cause) = take_step(alloc, course, entries, steps[i])? {
-            return Err(CheckFault::Bad { step: i, cause });
+        if let Some(cause) = take_step(found, cursors, steps, i) {
+            return Some(BadStep { step: i, cause });
         }
     }
-    Ok(())
+    None
 }
 
 /// Checks a certificate against the logs of an exercise. A yes says that the order that it names is
@@ -114,8 +121,8 @@ fn take_steps<L: ExerciseLog>(
 /// A no names the first bad step and the first cause that holds there: for the step's entry 2 and
 /// 3, then 5 to 13 for its event, then 4 for its link; where the numbers of steps and entries
 /// differ, which is tested first, it is step 0 and cause 1. It is refused with Memory where there
-/// is none for the steps, for what is found in the log, or for what a yes reports; datagrams are
-/// looked at where they lie.
+/// is none for what is found in the log, for which entry follows which at its station, or for what a
+/// yes reports; taking the steps takes none, and datagrams are looked at where they lie.
 pub fn check<L: ExerciseLog>(
     alloc: Global,
     log: &L,
@@ -140,9 +147,12 @@ pub fn check<L: ExerciseLog>(
             cause: Cause::CountDiffers,
         });
     }
-    let mut course = Course::begin(alloc, log)?;
-    take_steps(alloc, &mut course, entries, steps)?;
-    Ok(course.into_account(alloc)?)
+    let mut found = Findings::of(alloc, log)?;
+    let mut cursors = first_cursors(alloc, log)?;
+    match take_steps(&mut found, &mut cursors, steps) {
+        None => Ok(found.into_account(alloc)?),
+        Some(BadStep { step, cause }) => Err(CheckFault::Bad { step, cause }),
+    }
 }
 
 /// A step of a certificate that is bad.
@@ -185,14 +195,8 @@ pub fn check_found<'a, L: ExerciseLog>(
             findings,
         });
     }
-    let mut course = Course::over(alloc, findings)?;
-    let bad = match take_steps(alloc, &mut course, entries, steps) {
-        Ok(_) => None,
-        Err(CheckFault::Bad { step, cause }) => Some(BadStep { step, cause }),
-        Err(CheckFault::Memory) => return Err(AllocError),
-    };
-    Ok(Stepped {
-        bad,
-        findings: course.into_found(),
-    })
+    let mut findings = findings;
+    let mut cursors = first_cursors(alloc, findings.log())?;
+    let bad = take_steps(&mut findings, &mut cursors, steps);
+    Ok(Stepped { bad, findings })
 }

@@ -10,7 +10,7 @@ ghost use Rattle.exercise_check.specs.Course.{CourseData, IsCourse, begun, so_fa
 ghost use Rattle.exercise_check.specs.Judging.{Keeps};
 
 use crate::certificate::{Certificate, Step};
-use crate::cursors::{Cursors, first_cursors, is_at, next_entry, pass};
+use crate::cursors::{Cursors, first_cursors, is_next, next_entry, pass};
 use crate::judgement::{Judgement, judge};
 use crate::number::link_number;
 use exercise_findings::{Account, Findings};
@@ -20,9 +20,8 @@ use std::marker::Model;
 
 /// The steps that were taken so far over a log, each good after those before it. Contracts see the
 /// recording and the steps; how the next event is judged by them is nobody else's business. The
-/// checker folds it over a certificate, the search sweeps with it, and what a yes reports is read
-/// from it at the end. What the log of each station says of its own entries is found in one pass when
-/// a course begins.
+/// search sweeps with it. What the log of each station says of its own entries is found in one pass
+/// when a course begins.
 #[derive(Drop)]
 pub struct Course<'a, L: ExerciseLog> {
     found: Findings<'a, L>,
@@ -84,8 +83,7 @@ impl<'a, L: ExerciseLog> Course<'a, L> {
         requires { place < length self.now.recording.entries }
         ensures { IfSome (slice_get self.now.recording.entries place) (λ e. result ≡ is_next self.now.recording self.now.steps place (event_of e)) }
     {
-        let station = usize::from(self.found.log().entry(place).station());
-        is_at(&self.cursors, station, place)
+        is_next(self.found.log(), &self.cursors, place)
     }
 
     /// The next entry of a station, or `None` where all its entries were taken.

@@ -75,11 +75,13 @@ pub(crate) fn next_entry<L: ExerciseLog>(
     }
 }
 
-/// Whether the next entry of a station is this one.
-pub(crate) fn is_at(cursors: &Cursors, station: usize, place: usize) -> bool
-    requires { station < length cursors.now.next.items }
-    ensures { result ≡ (slice_index_or cursors.now.next.items station 0 == place) }
+/// Whether an entry is its station's next one.
+pub(crate) fn is_next<L: ExerciseLog>(log: &L, cursors: &Cursors, place: usize) -> bool
+    requires within { place < length (L.recording log.now).entries }
+    requires next { length cursors.now.next.items ≡ length (L.recording log.now).setting.stations }
+    ensures { let r = L.recording log.now in (steps : List Step) → AreCursors r steps cursors.now → IfSome (slice_get r.entries place) (λ e. result ≡ is_next r steps place (event_of e)) }
 {
+    let station = usize::from(log.entry(place).station());
     cursors.next[station] as usize == place
 }
 

@@ -5,9 +5,9 @@
 //! and a no names the first bad step and the first cause that holds there; [`check_found`] does so
 //! where what the log says is found already, and gives that back;
 //! [`good_steps_have_no_cause`] ties the causes to good steps, and [`conversion_keeps_checks`] is the
-//! law of a recording that is carried over to the second format. It folds a [`Course`]: the steps taken
-//! so far over a log, which judges the next event of a station by them; the search of the crate
-//! above sweeps with it. [`read_certificate`] answers the certificate whose text was read or the
+//! law of a recording that is carried over to the second format. The search of the crate above sweeps
+//! with a [`Course`]: the steps taken so far over a log, which judges the next event of a station by
+//! them as the checker does. [`read_certificate`] answers the certificate whose text was read or the
 //! first field that is bad, missing or past the limit, [`write_certificate`] writes that text, and
 //! [`text_and_reading_agree`] and [`refusals_hold`] are the laws that tie them. By the law
 //! [`links_are_of_the_logs`] good certificates of a recording differ in order alone.

@@ -149,7 +149,9 @@ pub fn check<L: ExerciseLog>(
     }
     let mut found = Findings::of(alloc, log)?;
     let mut cursors = first_cursors(alloc, log)?;
-    match take_steps(&mut found, &mut cursors, steps) {
+    let bad = take_steps(&mut found, &mut cursors, steps);
+    drop(cursors);
+    match bad {
         None => Ok(found.into_account(alloc)?),
         Some(BadStep { step, cause }) => Err(CheckFault::Bad { step, cause }),
     }

@@ -10,8 +10,8 @@ use Rattle.exercise_check.proofs.Explained.{good_explains}
 use Rattle.exercise_check.proofs.Known.{account_known, account_paired}
 use Rattle.exercise_check.proofs.checker.check.Goals as goal
 
-pub take_steps-requires-clause-begun : goal.take_steps-requires-clause-begun
-take_steps-requires-clause-begun g c =
+pub take_steps-bad-requires-clause-begun : goal.take_steps-bad-requires-clause-begun
+take_steps-bad-requires-clause-begun g c =
     subst (λ (r : PlainRecording). Keeps r [] c.in_ok-cursors.cursors) (sym c.in_ok-found.ensures.findings) (record {
       course = record { limits = c.entry_count-entries.ensures.limits; good = λ k l. absurd (omega arith) };
       next = c.in_ok-cursors.ensures;

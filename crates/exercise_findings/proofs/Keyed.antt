@@ -1,13 +1,12 @@
 -- What is looked up under a key is what a look through the log finds.
 use Rattle.std.proofs.Common.{◌≡◌, ℕ, zero, suc, ◌+◌, ◌-◌, ◌<◌, ◌≤◌, ◌∷◌, length, cond, Option, Some, None, Bool, true, false, refl, sym, ap, ◌∙◌, subst, arith}
-use Rattle.std.specs.Prelude.{IfSome, ◌≢◌, is_some, slice_get, nat_eq, ◌&&◌, ◌||◌, option_map, option_and_then, unwrap_or, if◌then◌else◌}
+use Rattle.std.specs.Prelude.{IfSome, ◌≢◌, is_some, slice_get, nat_eq, nat_lt, ◌&&◌, ◌||◌, option_map, option_and_then, if◌then◌else◌}
 use Rattle.std.specs.Option.{option_map_or, option_or}
 use Rattle.std.specs.List.{list_any}
 use Rattle.std.proofs.Math.Numerals.{add-one}
 use Rattle.std.proofs.lemmas.Bool.{eqb-true, eq-eqb, lt-ltb, le-ltb}
 use Rattle.std.proofs.lemmas.Bool.Decides.{nat_tests, Decides-like, same_from_decides}
 use Rattle.exercise_findings.specs.Decided.{key_decides}
-use Rattle.indexmap.specs.IndexMap.{get}
 use Rattle.std.proofs.lemmas.Option.{same_Some}
 use Rattle.dis_records.specs.Address.{Pair}
 use Rattle.dis_records.specs.Entity.{is_addressed}
@@ -25,7 +24,7 @@ use Rattle.exercise_model.specs.Place.{event_at, own_event, log_before, first_be
 use Rattle.exercise_model.specs.Account.{sends_able, first_able}
 use Rattle.exercise_model.proofs.Offered.{log_before-more, log_before-none}
 use Rattle.exercise_findings.specs.declared.key.Key.{Key}
-use Rattle.exercise_findings.specs.Firsts.{same_key, acknowledged_key, request_key, sent_key, received_key, answered_key, event_key, key_at, has_key, first_under, before_entry, Firsts, AreFirsts, TellFirsts}
+use Rattle.exercise_findings.specs.Firsts.{same_key, acknowledged_key, request_key, sent_key, received_key, answered_key, event_key, key_at, has_key, first_under, AreFirsts}
 
 nat_eq-comm : (a b : ℕ) → nat_eq a b ≡ nat_eq b a
 nat_eq-comm a b = grind (arith, nat_tests)
@@ -431,41 +430,6 @@ pub first_able_by_key : (r : PlainRecording) (s : ℕ) (k : AcknowledgeKey)
 unfolding first_able first_under
 first_able_by_key r s k = same_first (sends_able r s k) (has_key r (acknowledged_key s able k)) (sent_at r s able k (sent_able s k)) (length r.entries)
 
--- ---- one entry on
-
-key-comm : (k l : Key) → same_key k l ≡ same_key l k
-key-comm k l = same_from_decides _ _ (key_decides k l) (Decides-like (same_key l k) sym sym (key_decides l k))
-
-or_some : (o : Option ℕ) (n : ℕ) → Some (unwrap_or o n) ≡ option_or o (Some n)
-or_some None n = refl
-or_some (Some m) n = refl
-
-under_on : (r : PlainRecording) (k : Key) (n : ℕ) → first_under r k (n + 1) ≡ option_or (first_under r k n) (if has_key r k n then Some n else None)
-unfolding first_under first_below
-under_on r k n = ap (first_below (has_key r k)) (add-one n)
-
--- an entry that has a key
-pub firsts_more : (r : PlainRecording) (n : ℕ) (l : Key) (old new : Firsts) → Some l ≡ key_at r n
-    → ((k : Key) → get same_key new k ≡ (if same_key l k then Some (unwrap_or (get same_key old l) n) else get same_key old k))
-    → AreFirsts r n old → AreFirsts r (n + 1) new
-firsts_more r n l old new has writes tied k =
-    let o : Option ℕ = first_under r k n in
-    writes k
-    ∙ elim (same_key l k) as (λ b. same_key l k ≡ b → cond b (Some (unwrap_or (get same_key old l) n)) (get same_key old k)
-    ≡ option_or o (cond b (Some n) None)) [
-      | false ↦ λ _. tied k ∙ sym (or_none o)
-      | true ↦ λ same. ap (λ m. Some (unwrap_or m n)) (tied l ∙ ap (λ m. first_under r m n) ((key_decides l k).0 same)) ∙ or_some o n
-    ] refl
-    ∙ ap (λ b. option_or o (if b then Some n else None)) (key-comm l k ∙ ap (λ m. option_map_or (same_key k) m false) has)
-    ∙ sym (under_on r k n)
-
--- an entry that has none
-pub firsts_still : (r : PlainRecording) (n : ℕ) (firsts : Firsts) → None ≡ key_at r n → AreFirsts r n firsts → AreFirsts r (n + 1) firsts
-firsts_still r n firsts has tied k =
-    let o : Option ℕ = first_under r k n in
-    tied k ∙ sym (or_none o) ∙ ap (λ b. option_or o (if b then Some n else None)) (ap (λ m. option_map_or (same_key k) m false) has)
-    ∙ sym (under_on r k n)
-
 -- ---- what the code asks
 
 taken_below : (r : PlainRecording) (s : ℕ) (p : Pdu) (n j : ℕ) → entry_taken_up r s p n ≡ Some j → (j < n) × (brings_request r s p j ≡ true)
@@ -484,10 +448,6 @@ pub taken_brings : (r : PlainRecording) (s : ℕ) (p : Pdu) (n j : ℕ) → entr
     → option_and_then (request_brought r.setting.exercise (station_at r s).address p) (own_event r s j) ≢ None
 taken_brings r s p n j e none = absurd (cc (sym (taken_below r s p n j e).1 ∙ ap is_some none))
 
-pub first_under-none : (r : PlainRecording) (k : Key) → first_under r k 0 ≡ None
-unfolding first_under first_below
-first_under-none r k = refl
-
 under_below : (r : PlainRecording) (k : Key) (n j : ℕ) → first_under r k n ≡ Some j → j < n
 unfolding first_under
 under_below r k n j e = (passes (has_key r k) n j e).0
@@ -501,6 +461,10 @@ under_earlier r k n =
     ] refl
 
 -- ---- the first entry before an entry, by what is known of later ones
+
+-- an entry, where it comes before entry n
+abbrev pub before_entry : ℕ → Option ℕ → Option ℕ
+before_entry n o = option_and_then (λ e. if nat_lt e n then Some e else None) o
 
 before_itself : (n : ℕ) (o : Option ℕ) → IfSome o (λ e. e < n) → before_entry n o ≡ o
 before_itself n None below = refl
@@ -528,12 +492,5 @@ first_before f n (suc d) =
     ap (λ m. before_entry n (first_below f m)) same
     ∙ before_or n (first_below f (n + d)) (if f (n + d) then Some (n + d) else None) (before_later n d (f (n + d)))
     ∙ first_before f n d
-
--- what is kept of more entries tells the first ones before each of them
-pub firsts_tell : (r : PlainRecording) (m n : ℕ) (firsts : Firsts) → n ≤ m → AreFirsts r m firsts → TellFirsts r n firsts
-unfolding first_under
-firsts_tell r m n firsts le tied k =
-    let same : m ≡ n + (m - n) = omega (arith, le) in
-    ap (before_entry n) (tied k ∙ ap (first_below (has_key r k)) same) ∙ first_before (has_key r k) n (m - n)
 
 pub ruleset key_steps = (taken_up_by_key, taken_earlier, able_by_key, unable_by_key, first_able_by_key)

@@ -5,11 +5,14 @@ mod Recorded
 mod Changed
 mod EntityStates
 mod Standing
-mod Kept
+mod Keeping
 mod Tied
+mod FirstEntries
 mod Reported
 mod Reused
 mod Sources
+mod FirstSends
+mod NewRequests
 mod Looks
 mod EarlierEntries
 pub mod Offered

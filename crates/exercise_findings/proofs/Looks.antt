@@ -27,6 +27,7 @@ use Rattle.exercise_findings.specs.Firsts.{sent_key, received_key, event_key, ke
 use Rattle.exercise_findings.specs.Behind.{key_behind, event_behind, behind_at}
 use Rattle.exercise_findings.specs.Requests.{IsSendOf}
 use Rattle.exercise_findings.specs.Source.{source_by, source_at}
+use Rattle.exercise_findings.specs.FirstSends.{IsNewSend}
 use Rattle.exercise_findings.specs.Tables.{event_own_cause, own_cause, other_at, IsFound}
 
 pub cause_here : (r : PlainRecording) (n : ℕ) (e : Entry) → slice_get r.entries n ≡ Some e → own_cause r n ≡ event_own_cause r n (event_of e)
@@ -87,31 +88,32 @@ pair_number r n few = number_back (pair_of r n) (below (pair_of r n) n 429496729
 
 found : (r : PlainRecording) (n : ℕ) (e : Entry) (f : Found) → slice_get r.entries n ≡ Some e → f.cause ≡ event_own_cause r n (event_of e)
     → f.pair ≡ pair_of_entry r n e → f.change ≡ changed_by r n (event_of e) → f.key ≡ event_key r (event_of e)
-    → f.behind ≡ event_behind r (event_of e) → f.is_source ≡ source_by r n e → f.other ≡ is_other r.setting.exercise e → IsFound r n f
-found r n e f at cause pair change key behind source other = record {
+    → f.behind ≡ event_behind r (event_of e) → f.is_source ≡ source_by r n e → (f.is_new ≡ true → IsNewSend r n) → f.other ≡ is_other r.setting.exercise e → IsFound r n f
+found r n e f at cause pair change key behind source fresh other = record {
   cause = cause ∙ sym (cause_here r n e at);
   pair = pair ∙ sym (pair_here r n e at);
   change = change ∙ sym (change_here r n e at);
   key = key ∙ sym (key_here r n e at);
   behind = behind ∙ sym (behind_here r n e at);
   source = source ∙ sym (source_here r n e at);
+  fresh = fresh;
   other = other ∙ sym (other_here r n e at);
 }
 
 -- an entry that this cause speaks against, or none, and of which nothing else is found
 abbrev pub plain : Option Cause → Found
-plain x = record { cause = x; pair = None; change = None; key = None; behind = None; is_source = false; other = false }
+plain x = record { cause = x; pair = None; change = None; key = None; behind = None; is_source = false; is_new = false; other = false }
 
 -- an "other" datagram
 abbrev pub other_found : Found
-other_found = record { cause = None; pair = None; change = None; key = None; behind = None; is_source = false; other = true }
+other_found = record { cause = None; pair = None; change = None; key = None; behind = None; is_source = false; is_new = false; other = true }
 
 -- a PDU that was sent
 pub sent_found : (r : PlainRecording) (n s : ℕ) (p : Pdu) (f : Found) → IsRecording r → s < length r.setting.stations → IsSendOf r n s p
     → f.cause ≡ send_cause r.setting.exercise (station_at r s) (log_before r s n) p
     → f.pair ≡ pair_of_sent r s n p → f.change ≡ change_by r.setting.exercise (station_at r s) (log_before r s n) p → f.key ≡ sent_key s p
-    → f.behind ≡ None → f.is_source ≡ is_from (station_at r s).address p → f.other ≡ false → IsFound r n f
-sent_found r n s p f limits here send cause pair change key behind source other =
+    → f.behind ≡ None → f.is_source ≡ is_from (station_at r s).address p → (f.is_new ≡ true → IsNewSend r n) → f.other ≡ false → IsFound r n f
+sent_found r n s p f limits here send cause pair change key behind source fresh other =
     found r n (Sent s send.stamp send.bytes) f send.at
     (cause ∙ sym (ap (option_and_then (send_cause r.setting.exercise (station_at r s) (log_before r s n))) send.means))
     (pair ∙ sym (ap (option_and_then (pair_of_sent r s n)) send.means))
@@ -119,6 +121,7 @@ sent_found r n s p f limits here send cause pair change key behind source other 
     (key ∙ sym (ap (option_and_then (sent_key s)) send.means))
     behind
     (source ∙ sym (sent_from r n s send.stamp send.bytes p limits here send.at send.means))
+    fresh
     (other ∙ sym (ap is_none send.means))
 
 -- an "other" datagram that was sent
@@ -132,6 +135,7 @@ other_sent r n s stamp b at other =
     (sym (ap (option_and_then (sent_key s)) other))
     refl
     (sym (unmeant r b n other))
+    (λ e. absurd (cc e))
     (sym (ap is_none other))
 
 get_here : (r : PlainRecording) (s : ℕ) (b : List ℕ) → cause_of r.setting [] (event_of (Received s 0 b)) ≡
@@ -142,15 +146,16 @@ get_here r s b = refl
 -- a PDU that was received
 pub received_found : (r : PlainRecording) (n s stamp : ℕ) (b : List ℕ) (p : Pdu) (f : Found) → slice_get r.entries n ≡ Some (Received s stamp b)
     → meaning r.setting.exercise b ≡ Some p → f.cause ≡ get_cause r.setting [] b p → f.pair ≡ None → f.change ≡ None
-    → f.key ≡ received_key s (station_at r s).address p → f.behind ≡ key_behind (sender_of r p) p → f.is_source ≡ false → f.other ≡ false
+    → f.key ≡ received_key s (station_at r s).address p → f.behind ≡ key_behind (sender_of r p) p → f.is_source ≡ false → f.is_new ≡ false → f.other ≡ false
     → IsFound r n f
-received_found r n s stamp b p f at means cause pair change key behind source other =
+received_found r n s stamp b p f at means cause pair change key behind source new other =
     found r n (Received s stamp b) f at
     (cause ∙ sym (get_here r s b ∙ ap (option_and_then (get_cause r.setting [] b)) means))
     pair change
     (key ∙ sym (ap (option_and_then (received_key s (station_at r s).address)) means))
     (behind ∙ sym (ap (option_and_then (λ p. key_behind (sender_of r p) p)) means))
     source
+    (λ e. absurd (cc (sym new ∙ e)))
     (other ∙ sym (ap is_none means))
 
 -- an "other" datagram that was received
@@ -163,12 +168,13 @@ other_received r n s stamp b at other =
     (sym (ap (option_and_then (received_key s (station_at r s).address)) other))
     (sym (ap (option_and_then (λ p. key_behind (sender_of r p) p)) other))
     refl
+    (λ e. absurd (cc e))
     (sym (ap is_none other))
 
 -- a state that was told
 pub told_found : (r : PlainRecording) (n s e : ℕ) (y : EntityState) (x : Option Cause) → slice_get r.entries n ≡ Some (Told s e y)
     → x ≡ first_cause (tell_rows y (state_after r.setting.exercise (station_at r s) (log_before r s n) e)) → IsFound r n (plain x)
-told_found r n s e y x at cause = found r n (Told s e y) (plain x) at cause refl refl refl refl refl refl
+told_found r n s e y x at cause = found r n (Told s e y) (plain x) at cause refl refl refl refl refl (λ e. absurd (cc e)) refl
 
 -- ---- how many are "other"
 

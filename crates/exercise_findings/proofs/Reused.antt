@@ -164,7 +164,7 @@ first_none : (r : PlainRecording) (k : Identifier) → first_request r k 0 ≡ N
 unfolding first_request first_below
 first_none r k = refl
 
-first_is : (r : PlainRecording) (k : Identifier) (n j : ℕ) → first_request r k n ≡ Some j → (j < n) × (is_some (request_at r k j) ≡ true)
+pub first_is : (r : PlainRecording) (k : Identifier) (n j : ℕ) → first_request r k n ≡ Some j → (j < n) × (is_some (request_at r k j) ≡ true)
 unfolding first_request
 first_is r k n j e = passes (λ i. is_some (request_at r k i)) n j e
 

@@ -15,17 +15,16 @@ use Rattle.exercise_model.specs.Cause.{sends}
 use Rattle.exercise_model.specs.Place.{event_at, own_event, first_below}
 use Rattle.exercise_model.specs.Account.{sender_of}
 use Rattle.exercise_model.proofs.Offered.{first_found, sender_found}
-use Rattle.exercise_findings.specs.declared.senders.Senders.{Senders}
+use Rattle.exercise_findings.specs.declared.kept.Kept.{Kept}
 use Rattle.exercise_findings.specs.Hashed.{datagram_hash}
 use Rattle.exercise_findings.specs.Slots.{IsReached, Stands}
-use Rattle.exercise_findings.specs.Firsts.{before_entry}
-use Rattle.exercise_findings.proofs.Keyed.{first_before}
+use Rattle.exercise_findings.specs.Kept.{IsKeptBehind}
+use Rattle.exercise_findings.proofs.Keyed.{before_entry, first_before}
 use Rattle.exercise_findings.specs.Senders.{sends_at, AreSenders}
 use Rattle.exercise_findings.specs.Source.{sends_here, first_send, source_of_pdu, source_of_bytes, source_of_entry, source_of, is_source, first_source, source_by, source_at}
 use Rattle.exercise_findings.proofs.Keyed.{no_first, first_earlier}
-use Rattle.exercise_findings.proofs.Standing.{stands_none, reached_stands}
-use Rattle.exercise_findings.proofs.Kept.{first_none, first_still, first_later, first_kept, none_here, looked_up}
-use Rattle.exercise_findings.proofs.Tied.{get-pushed_here, get-pushed_other}
+use Rattle.exercise_findings.proofs.Standing.{stands_none}
+use Rattle.exercise_findings.proofs.Keeping.{looked_up, kept_none, kept_still, kept_later, kept_more, order_stands, order_first}
 
 -- the entry of a place
 pub entry_within : (entries : List Entry) (i : ℕ) → i < length entries → (e : Entry) × (slice_get entries i ≡ Some e)
@@ -96,13 +95,21 @@ other_bytes r j s stamp c b at apart = no_source r b j (λ t. sends_there r j s 
     never true = refl
     never false = refl
 
+sends_nowhere : (r : PlainRecording) (b : List ℕ) (t j : ℕ) → slice_get r.entries j ≡ None → sends_here r b t j ≡ false
+unfolding own_event
+sends_nowhere r b t j at = ap (λ o. option_map_or (sends b) (option_and_then (λ e. event_at t (event_of e)) o) false) at
+
+sends_never : (r : PlainRecording) (b : List ℕ) (t j : ℕ) (e : Entry) → slice_get r.entries j ≡ Some e → sends b (event_of e) ≡ false
+    → sends_here r b t j ≡ false
+unfolding own_event
+sends_never r b t j e at none =
+    ap (λ o. option_map_or (sends b) (option_and_then (λ e. event_at t (event_of e)) o) false) at
+    ∙ elim (nat_eq (station_of (event_of e)) t) as (λ q. option_map_or (sends b) (cond q (Some (event_of e)) None) false ≡ false)
+    [ true ↦ none | false ↦ refl ]
+
 pub not_sent : (r : PlainRecording) (j : ℕ) (e : Entry) → slice_get r.entries j ≡ Some e → ((b : List ℕ) → sends b (event_of e) ≡ false)
     → (b : List ℕ) → is_source r b j ≡ false
-unfolding own_event
-not_sent r j e at none b =
-    no_source r b j (λ t. ap (λ o. option_map_or (sends b) (option_and_then (λ e. event_at t (event_of e)) o) false) at
-    ∙ elim (nat_eq (station_of (event_of e)) t) as (λ q. option_map_or (sends b) (cond q (Some (event_of e)) None) false ≡ false)
-    [ true ↦ none b | false ↦ refl ])
+not_sent r j e at none b = no_source r b j (λ t. sends_never r b t j e at (none b))
 
 pub never_source : (r : PlainRecording) (j : ℕ) (e : Entry) → slice_get r.entries j ≡ Some e → source_at r j ≡ false
     → (b : List ℕ) → is_source r b j ≡ false
@@ -118,73 +125,69 @@ never_source r j e at off b = of_entry e at (sym (ap (λ o. option_map_or (sourc
     of_entry (Received s stamp c) at off = not_sent r j (Received s stamp c) at (λ b. refl) b
     of_entry (Told s e y) at off = not_sent r j (Told s e y) at (λ b. refl) b
 
--- ---- the table, entry by entry
-
-pub no_senders : (r : PlainRecording) (senders : Senders) → length senders.kept.slots.items ≡ 0 → length senders.order.items ≡ 0 → AreSenders r 0 senders
-no_senders r senders none empty = record {
-  kept = first_none (is_source r) datagram_hash senders.kept.slots.items none;
-  sources = λ e stands. stands_none senders.kept.slots.items e none stands (source_at r e ≡ true);
-  order = λ i e at. absurd (omega (arith, empty, slice_get_within senders.order.items i e at));
-}
-
-pub senders_still : (r : PlainRecording) (n : ℕ) (senders : Senders) → ((b : List ℕ) → is_source r b n ≡ false)
-    → AreSenders r n senders → AreSenders r (n + 1) senders
-senders_still r n senders none tied = record {
-  kept = first_still (is_source r) datagram_hash n senders.kept.slots.items tied.kept (λ b. none_here (is_source r b) n (none b));
-  sources = tied.sources;
-  order = tied.order;
-}
+-- ---- what an entry is a source of
 
 -- an entry is a source of nothing but what it sends
-source_own : (r : PlainRecording) (n s stamp : ℕ) (c : List ℕ) → slice_get r.entries n ≡ Some (Sent s stamp c) → (b : List ℕ) → is_source r b n ≡ true → b ≡ c
+pub source_own : (r : PlainRecording) (n s stamp : ℕ) (c : List ℕ) → slice_get r.entries n ≡ Some (Sent s stamp c) → (b : List ℕ) → is_source r b n ≡ true → b ≡ c
 source_own r n s stamp c at b is =
     elim (bytes_eq b c) as (λ q. bytes_eq b c ≡ q → b ≡ c) [
       | true ↦ λ same. (bytes_decides b c).0 same
       | false ↦ λ apart. absurd (cc (sym is ∙ other_bytes r n s stamp c b at apart))
     ] refl
 
-source_is : (r : PlainRecording) (n s stamp : ℕ) (c : List ℕ) → slice_get r.entries n ≡ Some (Sent s stamp c) → source_at r n ≡ true → is_source r c n ≡ true
+pub source_is : (r : PlainRecording) (n s stamp : ℕ) (c : List ℕ) → slice_get r.entries n ≡ Some (Sent s stamp c) → source_at r n ≡ true → is_source r c n ≡ true
 unfolding source_at
 source_is r n s stamp c at source = sym (ap (λ o. option_map_or (source_by r n) o false) at) ∙ source
 
--- a source of what another one sent before
-pub senders_later : (r : PlainRecording) (n s stamp m : ℕ) (c : List ℕ) (senders : Senders) → slice_get r.entries n ≡ Some (Sent s stamp c)
-    → first_source r c n ≡ Some m → AreSenders r n senders → AreSenders r (n + 1) senders
-unfolding first_source
-senders_later r n s stamp m c senders at first tied = record {
-  kept = first_later (is_source r) datagram_hash n m senders.kept.slots.items c tied.kept (source_own r n s stamp c at) first;
-  sources = tied.sources;
-  order = tied.order;
-}
+-- what is a source is a send
+pub sent_at : (r : PlainRecording) (j : ℕ) → source_at r j ≡ true
+    → (s : ℕ) × ((stamp : ℕ) × ((b : List ℕ) × (slice_get r.entries j ≡ Some (Sent s stamp b))))
+unfolding source_at
+sent_at r j source = by_entry (slice_get r.entries j) refl
+  where
+    by : (o : Option Entry) → slice_get r.entries j ≡ o → option_map_or (source_by r j) o false ≡ true
+    by o at = sym (ap (λ o. option_map_or (source_by r j) o false) at) ∙ source
 
--- the first source of what it sends
-pub senders_kept : (r : PlainRecording) (n s stamp : ℕ) (c : List ℕ) (old new : Senders) → slice_get r.entries n ≡ Some (Sent s stamp c)
-    → source_at r n ≡ true → first_source r c n ≡ None → IsReached new.kept.slots.items (datagram_hash c) n
-    → ((h e : ℕ) → IsReached old.kept.slots.items h e → IsReached new.kept.slots.items h e)
-    → ((e : ℕ) → Stands new.kept.slots.items e → Stands old.kept.slots.items e ⊎ (e ≡ n))
-    → new.order.items ≡ old.order.items ++ n ∷ [] → AreSenders r n old → AreSenders r (n + 1) new
-unfolding first_source
-senders_kept r n s stamp c old new at source none reached kept only pushed tied = record {
-  kept = first_kept (is_source r) datagram_hash n old.kept.slots.items new.kept.slots.items c tied.kept (source_own r n s stamp c at)
-      (source_is r n s stamp c at source) none reached kept only;
-  sources = λ e stands. ⊎_elim (λ (stood : Stands old.kept.slots.items e). tied.sources e stood)
-      (λ (same : e ≡ n). subst (λ j. source_at r j ≡ true) (sym same) source) (only e stands);
-  order = λ i e here.
-      let placed : slice_get (old.order.items ++ n ∷ []) i ≡ Some e = ap (λ xs. slice_get xs i) (sym pushed) ∙ here in
-      ⊎_elim
-      (λ (last : i ≡ length old.order.items).
-      let same : n ≡ e = same_Some n e (sym (ap (slice_get (old.order.items ++ n ∷ [])) last ∙ get-pushed_here old.order.items n) ∙ placed) in
-      (datagram_hash c, subst (IsReached new.kept.slots.items (datagram_hash c)) same reached))
-      (λ apart.
-      let was = tied.order i e (sym (get-pushed_other old.order.items n i apart) ∙ placed) in
-      (was.0, kept was.0 e was.1))
-      (cases_eq i (length old.order.items));
-}
+    by_entry : (o : Option Entry) → slice_get r.entries j ≡ o → (s : ℕ) × ((stamp : ℕ) × ((b : List ℕ) × (slice_get r.entries j ≡ Some (Sent s stamp b))))
+    by_entry None at = absurd (cc (by None at))
+    by_entry (Some (Sent s stamp b)) at = (s, (stamp, (b, at)))
+    by_entry (Some (Received s stamp b)) at = absurd (cc (by (Some (Received s stamp b)) at))
+    by_entry (Some (Told s e y)) at = absurd (cc (by (Some (Told s e y)) at))
+
+-- what is a source of bytes is a send of these bytes, by the station that they come from
+pub source_entry : (r : PlainRecording) (b : List ℕ) (j : ℕ) → is_source r b j ≡ true
+    → (t : ℕ) × ((option_and_then (sender_of r) (meaning r.setting.exercise b) ≡ Some t) × ((stamp : ℕ) × (slice_get r.entries j ≡ Some (Sent t stamp b))))
+source_entry r b j is = by_meaning (meaning r.setting.exercise b) refl
+  where
+    Entry_of : Type 0
+    Entry_of = (t : ℕ) × ((option_and_then (sender_of r) (meaning r.setting.exercise b) ≡ Some t) × ((stamp : ℕ) × (slice_get r.entries j ≡ Some (Sent t stamp b))))
+
+    by_entry : (t : ℕ) → sends_here r b t j ≡ true → (o : Option Entry) → slice_get r.entries j ≡ o → (stamp : ℕ) × (slice_get r.entries j ≡ Some (Sent t stamp b))
+    by_entry t sent None at = absurd (cc (sym (sends_nowhere r b t j at) ∙ sent))
+    by_entry t sent (Some (Sent s stamp c)) at =
+        let both : cond (nat_eq s t) (bytes_eq b c) false ≡ true = sym (sends_there r j s stamp c b t at) ∙ sent in
+        elim (nat_eq s t) as (λ q. nat_eq s t ≡ q → cond q (bytes_eq b c) false ≡ true → (stamp : ℕ) × (slice_get r.entries j ≡ Some (Sent t stamp b))) [
+          | false ↦ λ _ none. absurd (cc none)
+          | true ↦ λ same eq.
+              (stamp, at ∙ ap (λ u. Some (Sent u stamp c)) (eqb-true s t same) ∙ ap (λ (x : List ℕ). Some (Sent t stamp x)) (sym ((bytes_decides b c).0 eq)))
+        ] refl both
+    by_entry t sent (Some (Received s stamp c)) at = absurd (cc (sym (sends_never r b t j (Received s stamp c) at refl) ∙ sent))
+    by_entry t sent (Some (Told s e y)) at = absurd (cc (sym (sends_never r b t j (Told s e y) at refl) ∙ sent))
+
+    by_sender_of : (p : Pdu) → meaning r.setting.exercise b ≡ Some p → (o : Option ℕ) → sender_of r p ≡ o → by_sender r b j o ≡ true → Entry_of
+    by_sender_of p means None from passes = absurd (cc passes)
+    by_sender_of p means (Some t) from passes =
+        (t, (ap (option_and_then (sender_of r)) means ∙ from, by_entry t passes (slice_get r.entries j) refl))
+
+    by_meaning : (o : Option Pdu) → meaning r.setting.exercise b ≡ o → Entry_of
+    by_meaning None means = absurd (cc (sym (unmeant r b j means) ∙ is))
+    by_meaning (Some p) means =
+        by_sender_of p means (sender_of r p) refl (sym (ap (λ o. option_map_or (λ p. by_sender r b j (sender_of r p)) o false) means) ∙ is)
 
 -- ---- what is looked up
 
 -- among sources, those of the bytes of a datagram are the entries that send them
-sends_source : (r : PlainRecording) (b : List ℕ) (j : ℕ) → source_at r j ≡ true → sends_at r b j ≡ is_source r b j
+pub sends_source : (r : PlainRecording) (b : List ℕ) (j : ℕ) → source_at r j ≡ true → sends_at r b j ≡ is_source r b j
 unfolding source_at
 sends_source r b j source = of_entry (slice_get r.entries j) refl
   where
@@ -202,22 +205,26 @@ sends_source r b j source = of_entry (slice_get r.entries j) refl
     of_entry (Some (Received s stamp c)) at = absurd (cc (by (Some (Received s stamp c)) at))
     of_entry (Some (Told s e y)) at = absurd (cc (by (Some (Told s e y)) at))
 
-pub senders_looked_up : (r : PlainRecording) (n : ℕ) (senders : Senders) (b : List ℕ) (o : Option ℕ) → AreSenders r n senders
-    → IfSome o (λ e. Stands senders.kept.slots.items e × (sends_at r b e ≡ true))
-    → IfNone o ((e : ℕ) → IsReached senders.kept.slots.items (datagram_hash b) e → sends_at r b e ≡ false) → o ≡ first_source r b n
+pub senders_looked_up : (r : PlainRecording) (n : ℕ) (senders : Kept) (b : List ℕ) (o : Option ℕ) → AreSenders r n senders
+    → IfSome o (λ e. Stands senders.slots.slots.items e × (sends_at r b e ≡ true))
+    → IfNone o ((e : ℕ) → IsReached senders.slots.slots.items (datagram_hash b) e → sends_at r b e ≡ false) → o ≡ first_source r b n
 unfolding first_source
 senders_looked_up r n senders b o tied found absent =
-    looked_up (is_source r) datagram_hash n senders.kept.slots.items b (sends_at r b) tied.kept
+    looked_up (is_source r) datagram_hash n senders.slots.slots.items b (sends_at r b) tied.kept.first
     (λ e stands. sends_source r b e (tied.sources e stands)) o found absent
 
 -- an entry that was kept is the first source of what it sends
-pub kept_found : (r : PlainRecording) (n : ℕ) (senders : Senders) (b : List ℕ) (i e : ℕ) → AreSenders r n senders
+kept_found : (r : PlainRecording) (n : ℕ) (senders : Kept) (b : List ℕ) (i e : ℕ) → AreSenders r n senders
     → slice_get senders.order.items i ≡ Some e → sends_at r b e ≡ true → first_source r b n ≡ Some e
 unfolding first_source
 kept_found r n senders b i e tied at sends =
-    let reached = tied.order i e at in
-    let stands = reached_stands senders.kept.slots.items reached.0 e reached.1 in
-    tied.kept.only b e stands (sym (sends_source r b e (tied.sources e stands)) ∙ sends)
+    order_first (is_source r) datagram_hash n senders b i e tied.kept at
+    (sym (sends_source r b e (tied.sources e (order_stands (is_source r) datagram_hash n senders i e tied.kept at))) ∙ sends)
+
+pub order_found : (r : PlainRecording) (n : ℕ) (senders : Kept) (b : List ℕ) (i : ℕ) (o : Option ℕ) → AreSenders r n senders
+    → IfSome o (λ e. (slice_get senders.order.items i ≡ Some e) × (sends_at r b e ≡ true)) → IfSome o (λ e. first_source r b n ≡ Some e)
+order_found r n senders b i None tied here = tt
+order_found r n senders b i (Some e) tied here = kept_found r n senders b i e tied here.0 here.1
 
 -- ---- what the whole table says
 

@@ -1,9 +1,6 @@
 -- The first entry under each key: requests that a station received, and Ables and Unables that it sent (profile).
 use Rattle.std.specs.Prelude.{◌≡◌, ℕ, Bool, false, ◌&&◌, ◌==◌, Option, Some, None, option_map, option_and_then, slice_get, if◌then◌else◌, nat_lt}
 use Rattle.std.specs.Option.{option_map_or}
-use Rattle.std.specs.declared.hash.BuildHasherDefault.{BuildHasherDefault}
-use Rattle.std.specs.declared.hash.DefaultHasher.{DefaultHasher}
-use Rattle.indexmap.specs.IndexMap.{IndexMap, get}
 use Rattle.dis_records.specs.Address.{Pair}
 use Rattle.dis_records.specs.Entity.{is_addressed}
 use Rattle.siman_pdus.specs.declared.pdu.Pdu.{Pdu}
@@ -15,6 +12,9 @@ use Rattle.exercise_model.specs.Meaning.{meaning}
 use Rattle.exercise_model.specs.Change.{able, unable, responds, key_of}
 use Rattle.exercise_model.specs.Place.{first_below}
 use Rattle.exercise_findings.specs.declared.key.Key.{Key}
+use Rattle.exercise_findings.specs.declared.kept.Kept.{Kept}
+use Rattle.exercise_findings.specs.Hashed.{key_hash}
+use Rattle.exercise_findings.specs.Kept.{AreKept}
 
 -- two keys are the same
 abbrev pub same_key : Key → Key → Bool
@@ -83,18 +83,6 @@ has_key r k i = option_map_or (same_key k) (key_at r i) false
 unfoldable pub first_under : PlainRecording → Key → ℕ → Option ℕ
 first_under r k n = first_below (has_key r k) n
 
--- what notes the first entries under keys
-abbrev pub Firsts : Type 0
-Firsts = IndexMap Key ℕ (BuildHasherDefault DefaultHasher)
-
--- THE TIE: under each key the table has the first entry below n that has it
-abbrev pub AreFirsts : PlainRecording → ℕ → Firsts → Type 0
-AreFirsts r n firsts = (k : Key) → get same_key firsts k ≡ first_under r k n
-
--- an entry, where it comes before entry n
-abbrev pub before_entry : ℕ → Option ℕ → Option ℕ
-before_entry n o = option_and_then (λ e. if nat_lt e n then Some e else None) o
-
--- THE TIE UP TO AN ENTRY: under each key the table has the first entry that has it, where that one comes before entry n
-abbrev pub TellFirsts : PlainRecording → ℕ → Firsts → Type 0
-TellFirsts r n firsts = (k : Key) → before_entry n (get same_key firsts k) ≡ first_under r k n
+-- THE TIE: under each key the first entry below n is kept that has it
+abbrev pub AreFirsts : PlainRecording → ℕ → Kept → Type 0
+AreFirsts r n firsts = AreKept (has_key r) key_hash n firsts

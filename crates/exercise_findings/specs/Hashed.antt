@@ -20,6 +20,10 @@ identifier_fed k = u64 (word k.request k.station 0)
 abbrev pub hash_fed : HashWrites → ℕ
 hash_fed writes = sip.finish (fold sip.write sip.initial writes) % 2 ^ 32
 
+-- the hash of a key
+abbrev pub key_hash : Key → ℕ
+key_hash k = hash_fed (key_fed k)
+
 -- the hash of a datagram
 abbrev pub datagram_hash : List ℕ → ℕ
 datagram_hash bytes = hash_fed (bytes ∷ [])

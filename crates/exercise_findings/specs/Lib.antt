@@ -2,6 +2,7 @@ pub mod Number
 pub mod Column
 pub mod Sent
 pub mod Slots
+pub mod Kept
 pub mod Hashed
 pub mod Firsts
 pub mod Behind
@@ -11,6 +12,7 @@ pub mod Decided
 pub mod Source
 pub mod Missing
 pub mod Senders
+pub mod FirstSends
 pub mod Earlier
 pub mod State
 pub mod States

@@ -1,20 +1,20 @@
 -- Which entry sent a datagram first, kept in a table (profile).
-use Rattle.std.specs.Prelude.{◌≡◌, ℕ, List, Bool, true, false, Some, slice_get}
+use Rattle.std.specs.Prelude.{◌≡◌, ℕ, List, Bool, true, false, slice_get}
 use Rattle.std.specs.Option.{option_map_or}
 use Rattle.exercise_model.specs.Recording.{PlainRecording}
 use Rattle.exercise_model.specs.History.{event_of}
 use Rattle.exercise_model.specs.Cause.{sends}
-use Rattle.exercise_findings.specs.declared.senders.Senders.{Senders}
+use Rattle.exercise_findings.specs.declared.kept.Kept.{Kept}
 use Rattle.exercise_findings.specs.Hashed.{datagram_hash}
-use Rattle.exercise_findings.specs.Slots.{IsReached, Stands, AreFirst}
+use Rattle.exercise_findings.specs.Slots.{Stands}
+use Rattle.exercise_findings.specs.Kept.{AreKept}
 use Rattle.exercise_findings.specs.Source.{is_source, source_at}
 
 -- entry j sends a datagram of these bytes
 abbrev pub sends_at : PlainRecording → List ℕ → ℕ → Bool
 sends_at r b j = option_map_or (λ e. sends b (event_of e)) (slice_get r.entries j) false
 
--- THE TIE: of the bytes of each datagram the table has the first entry below n that sends it from the station that it comes from
-pub record AreSenders (r : PlainRecording) (n : ℕ) (senders : Senders) : Type 0 where
-  pub kept : AreFirst (is_source r) datagram_hash n senders.kept.slots.items
-  pub sources : (e : ℕ) → Stands senders.kept.slots.items e → source_at r e ≡ true
-  pub order : (i : ℕ) (e : ℕ) → slice_get senders.order.items i ≡ Some e → (hash : ℕ) × IsReached senders.kept.slots.items hash e
+-- THE TIE: of the bytes of each datagram the first entry below n is kept that sends it from the station that it comes from
+pub record AreSenders (r : PlainRecording) (n : ℕ) (senders : Kept) : Type 0 where
+  pub kept : AreKept (is_source r) datagram_hash n senders
+  pub sources : (e : ℕ) → Stands senders.slots.slots.items e → source_at r e ≡ true

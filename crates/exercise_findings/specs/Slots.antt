@@ -1,5 +1,5 @@
 -- Entries under hashes, kept in slots: an entry stands in the first slot that was free, from the home of its hash on (profile).
-use Rattle.std.specs.Prelude.{◌≡◌, ◌≢◌, ◌<◌, ◌+◌, ◌-◌, ◌==◌, ℕ, zero, suc, Bool, true, List, length, Some, slice_get, if◌then◌else◌, bit_and}
+use Rattle.std.specs.Prelude.{◌≡◌, ◌≢◌, ◌<◌, ◌+◌, ◌-◌, ◌==◌, ◌⊎◌, ℕ, zero, suc, Bool, true, List, length, Some, slice_get, if◌then◌else◌, bit_and}
 use Rattle.exercise_model.specs.Place.{first_below}
 use Rattle.exercise_findings.specs.declared.slots.Slot.{Slot}
 
@@ -43,6 +43,12 @@ pub record IsReached (slots : List Slot) (hash entry : ℕ) : Type 0 where
 -- an entry stands in a slot
 abbrev pub Stands : List Slot → ℕ → Type 0
 Stands slots entry = (i : ℕ) × (hash : ℕ) × HasEntry slots i hash entry
+
+-- An entry is put under a hash, and all that stood before stays.
+pub record IsPut (hash entry : ℕ) (old new : List Slot) : Type 0 where
+  pub reached : IsReached new hash entry
+  pub kept : (h e : ℕ) → IsReached old h e → IsReached new h e
+  pub only : (e : ℕ) → Stands new e → Stands old e ⊎ (e ≡ entry)
 
 -- THE TIE: of the entries that stand in slots, that under a key is the first below n that has the key, and it is found under the hash of the key
 pub record AreFirst {K : Type 0} (has : K → ℕ → Bool) (hash : K → ℕ) (n : ℕ) (slots : List Slot) : Type 0 where

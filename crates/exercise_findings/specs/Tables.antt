@@ -1,5 +1,5 @@
 -- What a pass over a log finds, entry by entry, and how it is kept (profile).
-use Rattle.std.specs.Prelude.{◌≡◌, ◌≤◌, ℕ, Bool, false, [], length, take, slice_get, Option, None, IfSome, IfNone, option_and_then}
+use Rattle.std.specs.Prelude.{◌≡◌, ◌≤◌, ℕ, Bool, true, false, [], length, take, slice_get, Option, None, IfSome, IfNone, option_and_then}
 use Rattle.std.specs.Option.{option_map_or}
 use Rattle.exercise_model.specs.declared.cause.Cause.{Cause}
 use Rattle.exercise_model.specs.declared.state.Change.{Change}
@@ -19,6 +19,7 @@ use Rattle.exercise_findings.specs.Column.{IsColumn}
 use Rattle.exercise_findings.specs.Behind.{behind_at, AreBehind}
 use Rattle.exercise_findings.specs.Source.{source_at}
 use Rattle.exercise_findings.specs.Earlier.{IsEarlierAt, IsSoFarAt}
+use Rattle.exercise_findings.specs.FirstSends.{AreFirstSends, IsNewSend}
 use Rattle.exercise_findings.specs.Senders.{AreSenders}
 use Rattle.exercise_findings.specs.States.{AreStates}
 
@@ -54,6 +55,7 @@ pub record IsFound (r : PlainRecording) (n : ℕ) (f : Found) : Type 0 where
   pub key : f.key ≡ key_at r n
   pub behind : f.behind ≡ behind_at r n
   pub source : f.is_source ≡ source_at r n
+  pub fresh : f.is_new ≡ true → IsNewSend r n
   pub other : f.other ≡ other_at r n
 
 -- WHAT A PASS FINDS in the entries below n
@@ -64,7 +66,7 @@ pub record IsPass (r : PlainRecording) (n : ℕ) (f : Pass) : Type 0 where
   pub earlier : IsColumn 0 (IsSoFarAt r) n f.earlier.items
   pub later : f.looks.later ≡ 0 → IsColumn 0 (IsEarlierAt r) n f.earlier.items
   pub ables : AreBehind r n f.ables.items
-  pub senders : AreSenders r n f.senders
+  pub sends : AreFirstSends r n f.sends
   pub others : f.others ≡ others_among r.setting.exercise (take n r.entries)
   pub few : f.others ≤ n
 

@@ -75,10 +75,11 @@ pub(crate) fn changes_behind<L: ExerciseLog>(
     requires ables { let r = L.recording log.now in AreBehind r (length r.entries) ables.now }
     ensures { let r = L.recording log.now in IfOk result (λ changes. IsColumn 0 (IsNumberOf (change_behind r)) (length r.entries) changes.items) }
 {
-    let mut changes = vec![in alloc; NO_ENTRY; log.entry_count()]?;
+    let end = log.entry_count();
+    let mut changes = vec![in alloc; NO_ENTRY; end]?;
     let mut hint = Hint::new();
     for able in ables {
-        let change = entry_number(first_near(firsts, &able.key, &mut hint));
+        let change = entry_number(first_near(firsts, log, &able.key, end, &mut hint));
         replace(&mut changes, able.entry as usize, change);
     }
     Ok(changes)

@@ -11,7 +11,7 @@ ghost use Rattle.exercise_model.specs.State.{state_after};
 ghost use Rattle.exercise_model.specs.Change.{is_change};
 ghost use Rattle.exercise_model.specs.Cause.{is_reused, is_changed_answer, is_hopeless, is_hopeless_for, is_impossible, send_cause, get_cause, tell_rows, first_cause};
 ghost use Rattle.exercise_model.specs.Place.{log_before};
-ghost use Rattle.exercise_findings.specs.Firsts.{TellFirsts};
+ghost use Rattle.exercise_findings.specs.Firsts.{AreFirsts};
 ghost use Rattle.exercise_findings.specs.TakenUp.{request_of_sent};
 ghost use Rattle.exercise_findings.specs.Tables.{AreTied};
 
@@ -34,7 +34,7 @@ fn is_changed_answer<L: ExerciseLog>(
     pdu: &PduView<'_>,
 ) -> bool
     requires at { station < length (L.recording log.now).setting.stations }
-    requires tied { TellFirsts (L.recording log.now) before firsts.now }
+    requires tied { AreFirsts (L.recording log.now) before firsts.now }
     ensures { let r = L.recording log.now in result ≡ is_changed_answer r.setting.exercise (pdu_of pdu.now) (log_before r station before) }
 {
     let Some(key) = key_of(pdu) else {

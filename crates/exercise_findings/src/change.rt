@@ -5,9 +5,9 @@ ghost use Rattle.siman_pdus.specs.Reading.{pdu_of};
 ghost use Rattle.exercise_model.specs.Change.{able, unable, was_acknowledged, is_change};
 ghost use Rattle.exercise_model.specs.Place.{log_before, own_event};
 ghost use Rattle.exercise_findings.specs.Sent.{meant_by_send};
-ghost use Rattle.exercise_findings.specs.Firsts.{TellFirsts};
+ghost use Rattle.exercise_findings.specs.Firsts.{AreFirsts};
 
-use crate::firsts::{Firsts, first_before};
+use crate::firsts::{Firsts, first_under};
 use crate::key::acknowledged_key;
 use exercise_model::{AcknowledgeKey, EntryView, ExerciseLog, key_of, meaning_view, responds};
 use siman_pdus::{ABLE, PduView, UNABLE};
@@ -38,10 +38,10 @@ pub(crate) fn was_able<L: ExerciseLog>(
     key: &AcknowledgeKey,
 ) -> bool
     requires at { station < length (L.recording log.now).setting.stations }
-    requires tied { TellFirsts (L.recording log.now) before firsts.now }
+    requires tied { AreFirsts (L.recording log.now) before firsts.now }
     ensures { let r = L.recording log.now in result ≡ was_acknowledged r.setting.exercise able key.now (log_before r station before) }
 {
-    first_before(firsts, &acknowledged_key(station, ABLE, key), before).is_some()
+    first_under(firsts, log, &acknowledged_key(station, ABLE, key), before).is_some()
 }
 
 /// Whether a station sent, before an entry, an Unable under this key.
@@ -54,10 +54,10 @@ pub(crate) fn was_unable<L: ExerciseLog>(
     key: &AcknowledgeKey,
 ) -> bool
     requires at { station < length (L.recording log.now).setting.stations }
-    requires tied { TellFirsts (L.recording log.now) before firsts.now }
+    requires tied { AreFirsts (L.recording log.now) before firsts.now }
     ensures { let r = L.recording log.now in result ≡ was_acknowledged r.setting.exercise unable key.now (log_before r station before) }
 {
-    first_before(firsts, &acknowledged_key(station, UNABLE, key), before).is_some()
+    first_under(firsts, log, &acknowledged_key(station, UNABLE, key), before).is_some()
 }
 
 /// Whether a PDU that a station sends at an entry is the first Able under its key.
@@ -70,7 +70,7 @@ pub(crate) fn is_change<L: ExerciseLog>(
     pdu: &PduView<'_>,
 ) -> bool
     requires at { station < length (L.recording log.now).setting.stations }
-    requires tied { TellFirsts (L.recording log.now) before firsts.now }
+    requires tied { AreFirsts (L.recording log.now) before firsts.now }
     ensures { let r = L.recording log.now in result ≡ is_change r.setting.exercise (pdu_of pdu.now) (log_before r station before) }
 {
     match key_of(pdu) {

@@ -1,18 +1,21 @@
 //! The earlier entry that each entry goes back to, in one column: what was sent to the request that
 //! it takes up, what was received to its source.
 
-ghost use Rattle.std.specs.Prelude.{◌≡◌, ◌≢◌, ◌<◌, ◌+◌, ℕ, length, slice_index_or, IfSome, IfNone, Some, None, is_some, true, unwrap_or, option_map};
+ghost use Rattle.std.specs.Prelude.{◌≡◌, ◌≢◌, ◌<◌, ◌≤◌, ◌+◌, ℕ, length, slice_index_or, IfSome, IfNone, IfOk, OnOk, Some, None, is_some, true, unwrap_or, option_map};
 ghost use Rattle.exercise_model.specs.Recording.{IsRecording};
 ghost use Rattle.exercise_findings.specs.Column.{IsColumn};
 ghost use Rattle.exercise_findings.specs.Earlier.{request_in, source_in, IsEarlierAt, IsSoFarAt};
+ghost use Rattle.exercise_findings.specs.FirstSends.{AreFirstSends};
 ghost use Rattle.exercise_findings.specs.Senders.{AreSenders};
 ghost use Rattle.exercise_findings.specs.Sent.{Receives};
 ghost use Rattle.exercise_findings.specs.Source.{first_source, source_of};
 
 use crate::column::replace;
 use crate::number::NO_ENTRY;
-use crate::senders::{Hints, Senders, first_source, latest_source, next_source};
+use crate::first_sends::{FirstSends, latest_source};
+use crate::senders::{Hints, Senders, first_source, next_source};
 use exercise_model::{EntryView, ExerciseLog};
+use std::alloc::AllocError;
 
 /// Stands for entry 0 as a source; no entry has a number as large.
 const FIRST_SOURCE: u32 = 0x8000_0000;
@@ -80,45 +83,57 @@ fn is_looked_for(looks: &Looks, entry: usize) -> bool {
     looks.later <= looks.most && (looks.misses < MISSES || entry % RARE == 0)
 }
 
+/// Keeps that one more source is yet to be found.
+fn leave_one(looks: &mut Looks)
+    ensures { looks.new.later ≢ 0 }
+{
+    looks.misses = looks.misses.saturating_add(1);
+    looks.later = looks.later.saturating_add(1);
+}
+
 /// Where a datagram was sent first so far by the station that it comes from, if that is looked for.
 fn source_so_far<L: ExerciseLog>(
-    senders: &Senders,
+    sends: &mut FirstSends,
     looks: &mut Looks,
     log: &L,
     datagram: &[u8],
     entry: usize,
-) -> Option<u32>
-    ensures source { let r = L.recording log.now in (n : ℕ) → AreSenders r n senders.now → IfSome result (λ source. first_source r datagram.now n ≡ Some source) }
-    ensures later { looks.new.later ≡ 0 → (looks.old.later ≡ 0) × (is_some result ≡ true) }
+) -> Result<Option<u32>, AllocError>
+    requires few { entry ≤ 4294967295 }
+    requires tied { AreFirstSends (L.recording log.now) entry sends.old }
+    ensures source { let r = L.recording log.now in IfOk result (λ found. IfSome found (λ source. first_source r datagram.now entry ≡ Some source)) }
+    ensures later { IfOk result (λ found. looks.new.later ≡ 0 → (looks.old.later ≡ 0) × (is_some found ≡ true)) }
+    ensures tied { OnOk result (AreFirstSends (L.recording log.now) entry sends.new) }
 {
     if is_looked_for(looks, entry) {
-        let source = latest_source(senders, log, datagram);
+        let source = latest_source(sends, log, datagram, entry)?;
         if source.is_some() {
             looks.misses = 0;
-            return source;
+            return Ok(source);
         }
     }
-    looks.misses = looks.misses.saturating_add(1);
-    looks.later = looks.later.saturating_add(1);
-    None
+    leave_one(looks);
+    Ok(None)
 }
 
 /// The number of the source of what the next entry receives, as far as that is found.
 pub(crate) fn earlier_so_far<L: ExerciseLog>(
-    senders: &Senders,
+    sends: &mut FirstSends,
     looks: &mut Looks,
     log: &L,
     entry: usize,
     datagram: &[u8],
-) -> u32
+) -> Result<u32, AllocError>
     requires limits { IsRecording (L.recording log.now) }
     requires within { entry < length (L.recording log.now).entries }
     requires receives { (s : ℕ) × Receives (L.recording log.now) entry s datagram.now }
-    requires tied { AreSenders (L.recording log.now) entry senders.now }
-    ensures so_far { IsSoFarAt (L.recording log.now) entry result }
-    ensures later { looks.new.later ≡ 0 → (looks.old.later ≡ 0) × IsEarlierAt (L.recording log.now) entry result }
+    requires tied { AreFirstSends (L.recording log.now) entry sends.old }
+    ensures so_far { IfOk result (IsSoFarAt (L.recording log.now) entry) }
+    ensures later { IfOk result (λ earlier. looks.new.later ≡ 0 → (looks.old.later ≡ 0) × IsEarlierAt (L.recording log.now) entry earlier) }
+    ensures tied { OnOk result (AreFirstSends (L.recording log.now) entry sends.new) }
 {
-    source_number(source_so_far(senders, looks, log, datagram, entry), LATER)
+    let source = source_so_far(sends, looks, log, datagram, entry)?;
+    Ok(source_number(source, LATER))
 }
 
 /// What an entry receives.
@@ -225,25 +240,19 @@ pub(crate) fn settle_source<L: ExerciseLog>(
     }
 }
 
-/// The number of what each entry goes back to, of which this was found while the log was passed, with
-/// so many sources that are yet to be found.
+/// The number of what each entry goes back to, of which this was found while the log was passed.
 pub(crate) fn all_earlier<L: ExerciseLog>(
     senders: &Senders,
     hints: &mut Hints,
     log: &L,
     so_far: Vec<u32>,
-    later: u32,
 ) -> Vec<u32>
     requires limits { IsRecording (L.recording log.now) }
     requires senders { let r = L.recording log.now in AreSenders r (length r.entries) senders.now }
     requires so_far { let r = L.recording log.now in IsColumn 0 (IsSoFarAt r) (length r.entries) so_far.items }
-    requires found { let r = L.recording log.now in later ≡ 0 → IsColumn 0 (IsEarlierAt r) (length r.entries) so_far.items }
     ensures { let r = L.recording log.now in IsColumn 0 (IsEarlierAt r) (length r.entries) result.items }
 {
     let mut column = so_far;
-    if later == 0 {
-        return column;
-    }
     for entry in 0..log.entry_count() {
         find_source(&mut column, senders, hints, log, entry);
     }

@@ -7,9 +7,9 @@ ghost use Rattle.exercise_model.specs.Account.{pair_of_sent};
 ghost use Rattle.exercise_model.specs.Exchange.{request_brought, request_taken_up};
 ghost use Rattle.exercise_model.specs.Place.{log_before, own_event, entry_taken_up};
 ghost use Rattle.exercise_findings.specs.TakenUp.{request_of_sent};
-ghost use Rattle.exercise_findings.specs.Firsts.{TellFirsts};
+ghost use Rattle.exercise_findings.specs.Firsts.{AreFirsts};
 
-use crate::firsts::{Firsts, first_near_before};
+use crate::firsts::{Firsts, first_near};
 use crate::hint::Hint;
 use crate::key::answered_key;
 use dis_records::Address;
@@ -53,12 +53,12 @@ fn entry_taken_up<L: ExerciseLog>(
     answer: &PduView<'_>,
 ) -> Option<u32>
     requires at { station < length (L.recording log.now).setting.stations }
-    requires tied { TellFirsts (L.recording log.now) before firsts.now }
+    requires tied { AreFirsts (L.recording log.now) before firsts.now }
     ensures entry { result ≡ entry_taken_up (L.recording log.now) station (pdu_of answer.now) before }
     ensures earlier { IfSome result (λ e. e < before) }
 {
     match answered_key(station, answer) {
-        Some(key) => first_near_before(firsts, &key, hint, before),
+        Some(key) => first_near(firsts, log, &key, before, hint),
         None => None,
     }
 }
@@ -74,7 +74,7 @@ fn request_taken_up<'a, L: ExerciseLog>(
 ) -> Option<(u32, PduView<'a>)>
     requires at { station < length (L.recording log.now).setting.stations }
     requires within { before ≤ length (L.recording log.now).entries }
-    requires tied { TellFirsts (L.recording log.now) before firsts.now }
+    requires tied { AreFirsts (L.recording log.now) before firsts.now }
     ensures request { let r = L.recording log.now in option_map (λ t. pdu_of t.1) result ≡ request_taken_up r.setting.exercise (station_at r station).address (pdu_of answer.now) (log_before r station before) }
     ensures entry { let r = L.recording log.now in option_map (λ t. t.0) result ≡ entry_taken_up r station (pdu_of answer.now) before }
     ensures earlier { IfSome result (λ t. t.0 < before) }
@@ -101,7 +101,7 @@ pub(crate) fn taken_up<'a, L: ExerciseLog>(
 ) -> Option<(u32, PduView<'a>)>
     requires at { station < length (L.recording log.now).setting.stations }
     requires within { before ≤ length (L.recording log.now).entries }
-    requires tied { TellFirsts (L.recording log.now) before firsts.now }
+    requires tied { AreFirsts (L.recording log.now) before firsts.now }
     ensures request { option_map (λ t. pdu_of t.1) result ≡ request_of_sent (L.recording log.now) station before (pdu_of pdu.now) }
     ensures entry { option_map (λ t. t.0) result ≡ pair_of_sent (L.recording log.now) station before (pdu_of pdu.now) }
 {

@@ -1,99 +1,178 @@
-//! The first entry under each key, kept in a table.
+//! The first entry under each key. What is kept under the hash of a key is an entry alone: its key is
+//! read from the log, where it is looked for.
 
-ghost use Rattle.std.specs.Prelude.{◌≡◌, ◌<◌, ◌+◌, length, OnOk, IfSome, None, Some};
-ghost use Rattle.indexmap.specs.IndexMap.{get};
-ghost use Rattle.exercise_findings.specs.declared.key.Key.{Key};
-ghost use Rattle.exercise_findings.specs.Firsts.{same_key, key_at, before_entry, AreFirsts};
+ghost use Rattle.std.specs.Prelude.{◌≡◌, ◌<◌, ◌+◌, length, Some, true, IfOk, OnOk};
+ghost use Rattle.exercise_findings.specs.Hashed.{key_hash};
+ghost use Rattle.exercise_findings.specs.FirstSends.{IsNewKey};
+ghost use Rattle.exercise_findings.specs.Firsts.{key_at, has_key, first_under, AreFirsts};
 
+use crate::hashed::word;
 use crate::hint::Hint;
-use crate::key::Key;
-use crate::table::{Table, keep_first};
-use exercise_model::ExerciseLog;
-use std::alloc::{AllocError, Global};
-use std::hash::BuildHasherDefault;
+use crate::kept::{Kept, keep_behind, kept_at, kept_place};
+use crate::key::{Key, received_key, sent_key};
+use crate::slots::{Sought, find};
+use exercise_model::{EntryView, ExerciseLog, meaning_view};
+use std::alloc::AllocError;
+use std::hash::{DefaultHasher, Hasher};
 
 /// The first entry under each key.
-pub(crate) type Firsts = Table<Key, u32>;
+pub(crate) type Firsts = Kept;
 
-/// No entries. It takes no memory.
-pub(crate) fn no_firsts(alloc: Global) -> Firsts
-    ensures { (k : Key) → get same_key result k ≡ None }
+/// The hash of a key: of neither its role nor its response, since the three keys that differ in nothing
+/// else are mostly looked up one after the other, and stand together so.
+fn key_hash(key: &Key) -> u32
+    ensures { result ≡ key_hash key.now }
 {
-    Firsts::with_hasher(alloc, BuildHasherDefault::default())
+    let mut hasher = DefaultHasher::new();
+    hasher.write_u64(word(key.request, key.site, key.application));
+    hasher.write_u64(word(u32::from(key.flag), key.entity, key.station));
+    (hasher.finish() % 0x1_0000_0000) as u32
 }
 
-/// Keeps the next entry of a log, which has this key.
+/// The key of an entry.
+#[tactic(auto, unfolding(crate::specs::Firsts::key_at))]
+fn key_at<L: ExerciseLog>(log: &L, entry: usize) -> Option<Key>
+    requires { entry < length (L.recording log.now).entries }
+    ensures { result ≡ key_at (L.recording log.now) entry }
+{
+    match log.entry(entry) {
+        EntryView::Sent { station, bytes, .. } => match meaning_view(log.exercise(), bytes) {
+            Some(pdu) => sent_key(station, &pdu),
+            None => None,
+        },
+        EntryView::Received { station, bytes, .. } => match meaning_view(log.exercise(), bytes) {
+            Some(pdu) => {
+                let address = log.station(usize::from(station)).address();
+                received_key(station, address, &pdu)
+            }
+            None => None,
+        },
+        EntryView::Told { .. } => None,
+    }
+}
+
+/// Whether an entry has a key.
+#[tactic(auto, unfolding(crate::specs::Firsts::key_at))]
+fn has_key<L: ExerciseLog>(log: &L, key: &Key, entry: usize) -> bool
+    ensures { result ≡ has_key (L.recording log.now) key.now entry }
+{
+    if entry >= log.entry_count() {
+        return false;
+    }
+    match key_at(log, entry) {
+        Some(other) => *key == other,
+        None => false,
+    }
+}
+
+/// The entries that have a key.
+#[derive(Drop)]
+struct Keyed<'a, L: ExerciseLog> {
+    log: &'a L,
+    key: &'a Key,
+}
+
+impl<'a, L: ExerciseLog> Sought for Keyed<'a, L> {
+    ghost is_sought = { λ s. has_key (L.recording s.log.now) s.key.now };
+
+    fn is_sought(&self, entry: u32) -> bool {
+        has_key(self.log, self.key, entry as usize)
+    }
+}
+
+/// The first entry under a key of this hash, of those before an entry.
+fn first_hashed<L: ExerciseLog>(
+    firsts: &Firsts,
+    log: &L,
+    hash: u32,
+    key: &Key,
+    before: usize,
+) -> Option<u32>
+    requires hash { hash ≡ key_hash key.now }
+    requires tied { AreFirsts (L.recording log.now) before firsts.now }
+    ensures { result ≡ first_under (L.recording log.now) key.now before }
+{
+    let _before = before;
+    find(&firsts.slots, hash, &Keyed { log, key })
+}
+
+/// The first entry under a key, of those before an entry.
+pub(crate) fn first_under<L: ExerciseLog>(
+    firsts: &Firsts,
+    log: &L,
+    key: &Key,
+    before: usize,
+) -> Option<u32>
+    requires { AreFirsts (L.recording log.now) before firsts.now }
+    ensures { result ≡ first_under (L.recording log.now) key.now before }
+{
+    first_hashed(firsts, log, key_hash(key), key, before)
+}
+
+/// The same, looked for where a hint leads first: keys are mostly looked for in the order in which they
+/// came.
+pub(crate) fn first_near<L: ExerciseLog>(
+    firsts: &Firsts,
+    log: &L,
+    key: &Key,
+    before: usize,
+    hint: &mut Hint,
+) -> Option<u32>
+    requires { AreFirsts (L.recording log.now) before firsts.now }
+    ensures { result ≡ first_under (L.recording log.now) key.now before }
+{
+    let place = hint.next();
+    if let Some(entry) = kept_at(firsts, place, &Keyed { log, key }) {
+        hint.found(place);
+        return Some(entry);
+    }
+    let Some(entry) = first_under(firsts, log, key, before) else {
+        return None;
+    };
+    hint.found(kept_place(firsts, entry));
+    Some(entry)
+}
+
+/// Keeps the next entry of a log, which has this key, where it is the first, and tells whether it is.
+fn keep_first<L: ExerciseLog>(
+    firsts: &mut Firsts,
+    log: &L,
+    entry: usize,
+    key: &Key,
+) -> Result<bool, AllocError>
+    requires few { entry < 4294967295 }
+    requires key { Some key.now ≡ key_at (L.recording log.now) entry }
+    requires tied { AreFirsts (L.recording log.now) entry firsts.old }
+    ensures tied { OnOk result (AreFirsts (L.recording log.now) (entry + 1) firsts.new) }
+    ensures new { IfOk result (λ new. new ≡ true → IsNewKey (L.recording log.now) entry) }
+{
+    let hash = key_hash(key);
+    match first_hashed(firsts, log, hash, key, entry) {
+        Some(_) => Ok(false),
+        None => {
+            keep_behind(firsts, hash, entry as u32)?;
+            Ok(true)
+        }
+    }
+}
+
+/// Keeps the next entry of a log, which has this key, if it has one, and tells whether it is the first
+/// that has it.
 pub(crate) fn note_entry<L: ExerciseLog>(
     firsts: &mut Firsts,
     log: &L,
     entry: usize,
     key: Option<Key>,
-) -> Result<(), AllocError>
+) -> Result<bool, AllocError>
     requires few { entry < 4294967295 }
     requires within { entry < length (L.recording log.now).entries }
     requires key { key ≡ key_at (L.recording log.now) entry }
     requires tied { AreFirsts (L.recording log.now) entry firsts.old }
-    ensures { OnOk result (AreFirsts (L.recording log.now) (entry + 1) firsts.new) }
+    ensures tied { OnOk result (AreFirsts (L.recording log.now) (entry + 1) firsts.new) }
+    ensures new { IfOk result (λ new. new ≡ true → IsNewKey (L.recording log.now) entry) }
 {
     match key {
-        Some(key) => {
-            keep_first(firsts, key, entry as u32)?;
-            Ok(())
-        }
-        None => Ok(()),
-    }
-}
-
-/// The first entry under a key, where it comes before an entry.
-pub(crate) fn first_before(firsts: &Firsts, key: &Key, before: usize) -> Option<u32>
-    ensures { result ≡ before_entry before (get same_key firsts.now key.now) }
-{
-    match firsts.get(key) {
-        Some(entry) if (*entry as usize) < before => Some(*entry),
-        _ => None,
-    }
-}
-
-/// The first entry under a key, if that stands at a place of the table.
-fn first_at(firsts: &Firsts, place: usize, key: &Key) -> Option<u32>
-    ensures { IfSome result (λ e. get same_key firsts.now key.now ≡ Some e) }
-{
-    match firsts.get_index(place) {
-        Some((kept, entry)) if *kept == *key => Some(*entry),
-        _ => None,
-    }
-}
-
-/// The first entry under a key, looked for where a hint leads first: keys are mostly looked for in the
-/// order in which they came.
-pub(crate) fn first_near(firsts: &Firsts, key: &Key, hint: &mut Hint) -> Option<u32>
-    ensures { result ≡ get same_key firsts.now key.now }
-{
-    let place = hint.next();
-    if let Some(entry) = first_at(firsts, place, key) {
-        hint.found(place);
-        return Some(entry);
-    }
-    match firsts.get_full(key) {
-        Some((place, _, entry)) => {
-            hint.found(place);
-            Some(*entry)
-        }
-        None => None,
-    }
-}
-
-/// The first entry under a key, looked for where a hint leads first, where it comes before an entry.
-pub(crate) fn first_near_before(
-    firsts: &Firsts,
-    key: &Key,
-    hint: &mut Hint,
-    before: usize,
-) -> Option<u32>
-    ensures { result ≡ before_entry before (get same_key firsts.now key.now) }
-{
-    match first_near(firsts, key, hint) {
-        Some(entry) if (entry as usize) < before => Some(entry),
-        _ => None,
+        Some(key) => keep_first(firsts, log, entry, &key),
+        None => Ok(false),
     }
 }

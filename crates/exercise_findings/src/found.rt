@@ -22,7 +22,7 @@ use crate::change::is_change;
 use crate::exchange::taken_up;
 use crate::hint::Hint;
 use crate::key::{Key, received_key, sent_key};
-use crate::requests::{Requests, note_request};
+use crate::requests::{IdentifierUse, Requests, note_request};
 use crate::sender::{Places, sender_of};
 use crate::state::change_by;
 use crate::tables::Tables;
@@ -45,13 +45,15 @@ pub(crate) struct Found {
     pub behind: Option<Key>,
     /// Whether it sends what comes from its own station.
     pub is_source: bool,
+    /// Whether what it sends is known to be new by that.
+    pub is_new: bool,
     /// Whether its datagram is "other".
     pub other: bool,
 }
 
 /// An entry that this cause speaks against, or none, and of which nothing else is found.
 fn judged(cause: Option<Cause>) -> Found
-    ensures { result ≡ record { cause = cause; pair = None; change = None; key = None; behind = None; is_source = false; other = false } }
+    ensures { result ≡ record { cause = cause; pair = None; change = None; key = None; behind = None; is_source = false; is_new = false; other = false } }
 {
     Found {
         cause,
@@ -60,13 +62,14 @@ fn judged(cause: Option<Cause>) -> Found
         key: None,
         behind: None,
         is_source: false,
+        is_new: false,
         other: false,
     }
 }
 
 /// An entry with a datagram that is "other".
 fn found_other() -> Found
-    ensures { result ≡ record { cause = None; pair = None; change = None; key = None; behind = None; is_source = false; other = true } }
+    ensures { result ≡ record { cause = None; pair = None; change = None; key = None; behind = None; is_source = false; is_new = false; other = true } }
 {
     Found {
         other: true,
@@ -84,8 +87,7 @@ fn pair_of(taken: &Option<(u32, PduView<'_>)>) -> Option<u32>
     }
 }
 
-/// What a PDU is found to be that a station sends at an entry, a request that reuses its identifier
-/// or not.
+/// What a PDU is found to be that a station sends at an entry and that uses its identifier so.
 fn found_sent<L: ExerciseLog>(
     log: &L,
     tables: &Tables,
@@ -93,18 +95,19 @@ fn found_sent<L: ExerciseLog>(
     station: u16,
     entry: usize,
     pdu: &PduView<'_>,
-    reused: bool,
+    asked: IdentifierUse,
 ) -> Found
     requires at { station < length (L.recording log.now).setting.stations }
     requires within { entry < length (L.recording log.now).entries }
     requires tied { AreTied (L.recording log.now) entry tables.now }
-    requires reused { let r = L.recording log.now in reused ≡ (is_request_body (pdu_of pdu.now).body && is_reused r.setting.exercise (pdu_of pdu.now) (log_before r station entry)) }
+    requires reused { let r = L.recording log.now in asked.reused ≡ (is_request_body (pdu_of pdu.now).body && is_reused r.setting.exercise (pdu_of pdu.now) (log_before r station entry)) }
     ensures cause { let r = L.recording log.now in result.cause ≡ send_cause r.setting.exercise (station_at r station) (log_before r station entry) (pdu_of pdu.now) }
     ensures pair { result.pair ≡ pair_of_sent (L.recording log.now) station entry (pdu_of pdu.now) }
     ensures change { let r = L.recording log.now in result.change ≡ change_by r.setting.exercise (station_at r station) (log_before r station entry) (pdu_of pdu.now) }
     ensures key { result.key ≡ sent_key station (pdu_of pdu.now) }
     ensures behind { result.behind ≡ None }
     ensures source { result.is_source ≡ is_from (station_at (L.recording log.now) station).address (pdu_of pdu.now) }
+    ensures new { result.is_new ≡ asked.first }
     ensures other { result.other ≡ false }
 {
     let address = log.station(usize::from(station)).address();
@@ -113,13 +116,22 @@ fn found_sent<L: ExerciseLog>(
     let first = is_change(log, &tables.firsts, station, entry, pdu);
     Found {
         cause: judge_sent(
-            log, tables, station, entry, pdu, from, reused, first, &taken,
+            log,
+            tables,
+            station,
+            entry,
+            pdu,
+            from,
+            asked.reused,
+            first,
+            &taken,
         ),
         pair: pair_of(&taken),
         change: change_by(log, station, entry, pdu, first, &taken),
         key: sent_key(station, pdu),
         behind: None,
         is_source: from,
+        is_new: asked.first,
         other: false,
     }
 }
@@ -138,6 +150,7 @@ fn found_received<L: ExerciseLog>(
     ensures key { let r = L.recording log.now in result.key ≡ received_key station (station_at r station).address (pdu_of pdu.now) }
     ensures behind { let p = pdu_of pdu.now in result.behind ≡ key_behind (sender_of (L.recording log.now) p) p }
     ensures source { result.is_source ≡ false }
+    ensures new { result.is_new ≡ false }
     ensures other { result.other ≡ false }
 {
     let address = log.station(usize::from(station)).address();
@@ -171,8 +184,8 @@ pub(crate) fn find_sent<L: ExerciseLog>(
 {
     match meaning_view(log.exercise(), bytes) {
         Some(pdu) => {
-            let reused = note_request(requests, log, station, entry, &pdu)?;
-            Ok(found_sent(log, tables, hint, station, entry, &pdu, reused))
+            let asked = note_request(requests, log, station, entry, &pdu)?;
+            Ok(found_sent(log, tables, hint, station, entry, &pdu, asked))
         }
         None => Ok(found_other()),
     }

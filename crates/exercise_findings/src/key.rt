@@ -1,17 +1,12 @@
 //! What entries of a station are looked up by.
 
 ghost use Rattle.std.specs.Prelude.{◌≡◌};
-ghost use Rattle.std.proofs.Common.{ap};
 ghost use Rattle.siman_pdus.specs.Reading.{pdu_of};
 ghost use Rattle.exercise_findings.specs.Firsts.{acknowledged_key, sent_key, received_key, answered_key};
-ghost use Rattle.exercise_findings.specs.Hashed.{key_fed};
-ghost use Rattle.exercise_findings.specs.Decided.{key_decides};
 
-use crate::hashed::word;
 use dis_records::{Address, addressed};
 use exercise_model::{AcknowledgeKey, key_of, responds};
 use siman_pdus::{ABLE, Message, PduView, UNABLE, is_request, request_id};
-use std::hash::{Hash, Hasher};
 
 /// What entries of one station have in common that are looked up together: requests that it
 /// received, or Acknowledges that it sent.
@@ -33,19 +28,6 @@ pub(crate) struct Key {
     pub application: u16,
     /// The originating entity number of an Acknowledge, 0 for a request.
     pub entity: u16,
-}
-
-// Role and response are not hashed: the three keys that differ in nothing else are mostly looked up
-// one after the other, and stand together so.
-impl Hash for Key {
-    ghost hash_input = { key_fed };
-
-    ghost respects_eq = { λ k l same. ap key_fed ((key_decides k l).0 same) };
-
-    fn hash<H: Hasher>(&self, state: &mut H) {
-        state.write_u64(word(self.request, self.site, self.application));
-        state.write_u64(word(u32::from(self.flag), self.entity, self.station));
-    }
 }
 
 /// The key of an Acknowledge that a station sends with this response flag under a key.

@@ -4,18 +4,20 @@ ghost use Rattle.std.specs.Prelude.{◌≡◌, ◌<◌, ◌+◌, length, slice_g
 ghost use Rattle.exercise_model.specs.Entry.{Told};
 ghost use Rattle.exercise_model.specs.Recording.{IsRecording};
 ghost use Rattle.exercise_findings.specs.Requests.{AreRequests};
+ghost use Rattle.exercise_findings.specs.Senders.{AreSenders};
 ghost use Rattle.exercise_findings.specs.Sent.{Sends, Receives};
 ghost use Rattle.exercise_findings.specs.Tables.{IsPass, AreFound, AreFindings};
 
 use crate::behind::{Able, note_behind};
 use crate::cause::judge_told;
 use crate::earlier::{Looks, all_earlier, earlier_so_far, settle_source};
+use crate::first_sends::{FirstSends, hash_all, no_sends, note_send};
 use crate::found::{find_received, find_sent};
 use crate::hint::Hint;
 use crate::number::{NO_ENTRY, entry_number};
 use crate::requests::{Requests, no_requests};
 use crate::sender::{Places, places_of};
-use crate::senders::{Hints, Senders, no_hints, no_senders, note_sender};
+use crate::senders::{Hints, Senders, no_hints};
 use crate::tables::{Tables, no_tables, note_key, note_tables};
 use dis_records::EntityState;
 use exercise_model::{Cause, Change, EntryView, ExerciseLog};
@@ -45,7 +47,7 @@ pub(crate) struct Pass {
     /// What the changes behind the Ables that were received are looked up by.
     pub ables: Vec<Able>,
     /// The entry by which each datagram was sent first by the station that it comes from.
-    pub senders: Senders,
+    pub sends: FirstSends,
     /// How many datagrams are "other".
     pub others: u32,
 }
@@ -133,7 +135,7 @@ fn nothing_found<L: ExerciseLog>(alloc: Global, log: &L) -> Result<Pass, AllocEr
             most: (entries / MANY) as u32,
         },
         ables: Vec::new(alloc),
-        senders: no_senders(alloc, entries),
+        sends: no_sends(alloc, entries),
         others: 0,
     })
 }
@@ -174,8 +176,9 @@ fn keep_sent<L: ExerciseLog>(
     found.changes.push(here.change)?;
     found.earlier.push(entry_number(here.pair))?;
     found.others += one_if(here.other);
-    note_sender(&mut found.senders, log, entry, bytes, here.is_source)?;
-    note_tables(&mut found.tables, log, entry, here.change, here.key)
+    let first = note_tables(&mut found.tables, log, entry, here.change, here.key)?;
+    let is_new = here.is_new || first;
+    note_send(&mut found.sends, log, entry, bytes, here.is_source, is_new)
 }
 
 /// Keeps what the next entry is found to be, by which a station receives a datagram.
@@ -197,7 +200,7 @@ fn keep_received<L: ExerciseLog>(
     let here = find_received(log, &found.places, entry, station, bytes);
     found.causes.push(here.cause)?;
     found.changes.push(here.change)?;
-    let earlier = earlier_so_far(&found.senders, &mut found.looks, log, entry, bytes);
+    let earlier = earlier_so_far(&mut found.sends, &mut found.looks, log, entry, bytes)?;
     found.earlier.push(earlier)?;
     found.others += one_if(here.other);
     note_behind(&mut found.ables, log, entry, here.behind)?;
@@ -270,11 +273,11 @@ fn pass_over<L: ExerciseLog>(alloc: Global, log: &L) -> Result<Pass, AllocError>
     Ok(found)
 }
 
-/// What all entries were found to be, with all sources. It is not asked for any more where a datagram
-/// was sent first.
-fn with_all_sources<L: ExerciseLog>(log: &L, pass: Pass, hints: Hints) -> Passed
-    requires limits { IsRecording (L.recording log.now) }
+/// What all entries were found to be, where all sources were found. It is not asked for any more where a
+/// datagram was sent first.
+fn with_sources<L: ExerciseLog>(log: &L, pass: Pass, hints: Hints) -> Passed
     requires pass { let r = L.recording log.now in IsPass r (length r.entries) pass }
+    requires found { pass.looks.later ≡ 0 }
     ensures { AreFound (L.recording log.now) result }
 {
     let Pass {
@@ -282,9 +285,36 @@ fn with_all_sources<L: ExerciseLog>(log: &L, pass: Pass, hints: Hints) -> Passed
         causes,
         changes,
         earlier,
-        looks,
         ables,
-        senders,
+        others,
+        ..
+    } = pass;
+    Passed {
+        tables,
+        causes,
+        changes,
+        earlier,
+        senders: None,
+        hints,
+        ables,
+        others,
+    }
+}
+
+/// The same, where sources are yet to be found: they are looked up now.
+fn with_all_sources<L: ExerciseLog>(log: &L, pass: Pass, hints: Hints) -> Passed
+    requires limits { IsRecording (L.recording log.now) }
+    requires pass { let r = L.recording log.now in IsPass r (length r.entries) pass }
+    requires senders { let r = L.recording log.now in AreSenders r (length r.entries) pass.sends.kept }
+    ensures { AreFound (L.recording log.now) result }
+{
+    let Pass {
+        tables,
+        causes,
+        changes,
+        earlier,
+        ables,
+        sends,
         others,
         ..
     } = pass;
@@ -293,7 +323,7 @@ fn with_all_sources<L: ExerciseLog>(log: &L, pass: Pass, hints: Hints) -> Passed
         tables,
         causes,
         changes,
-        earlier: all_earlier(&senders, &mut hints, log, earlier, looks.later),
+        earlier: all_earlier(&sends.kept, &mut hints, log, earlier),
         senders: None,
         hints,
         ables,
@@ -303,7 +333,8 @@ fn with_all_sources<L: ExerciseLog>(log: &L, pass: Pass, hints: Hints) -> Passed
 
 /// What all entries were found to be, where sources are looked up when they are asked for.
 fn with_senders<L: ExerciseLog>(log: &L, pass: Pass, hints: Hints) -> Passed
-    requires { let r = L.recording log.now in IsPass r (length r.entries) pass }
+    requires pass { let r = L.recording log.now in IsPass r (length r.entries) pass }
+    requires senders { let r = L.recording log.now in AreSenders r (length r.entries) pass.sends.kept }
     ensures { AreFound (L.recording log.now) result }
 {
     let Pass {
@@ -312,7 +343,7 @@ fn with_senders<L: ExerciseLog>(log: &L, pass: Pass, hints: Hints) -> Passed
         changes,
         earlier,
         ables,
-        senders,
+        sends,
         others,
         ..
     } = pass;
@@ -321,21 +352,34 @@ fn with_senders<L: ExerciseLog>(log: &L, pass: Pass, hints: Hints) -> Passed
         causes,
         changes,
         earlier,
-        senders: Some(senders),
+        senders: Some(sends.kept),
         hints,
         ables,
         others,
     }
 }
 
-/// What all entries are found to be. Where few sources are yet to be found they are looked up at once,
-/// and what that takes is given back; where many are, each is found faster when it is asked for, since
-/// what sent it was asked for right before.
+/// Keeps all that was sent under the hashes of its bytes, so that each source can be looked up.
+fn hash_sends<L: ExerciseLog>(pass: &mut Pass, log: &L) -> Result<(), AllocError>
+    requires { let r = L.recording log.now in IsPass r (length r.entries) pass.old }
+    ensures pass { let r = L.recording log.now in OnOk result (IsPass r (length r.entries) pass.new) }
+    ensures senders { let r = L.recording log.now in OnOk result (AreSenders r (length r.entries) pass.new.sends.kept) }
+{
+    hash_all(&mut pass.sends, log, log.entry_count())
+}
+
+/// What all entries are found to be. Where all sources were found, or few are yet to be found, which are
+/// looked up at once, what that takes is given back; where many are, each is found faster when it is
+/// asked for, since what sent it was asked for right before.
 pub(crate) fn find<L: ExerciseLog>(alloc: Global, log: &L) -> Result<Passed, AllocError>
     ensures { IfOk result (AreFindings (L.recording log.now)) }
 {
-    let pass = pass_over(alloc, log)?;
+    let mut pass = pass_over(alloc, log)?;
     let hints = no_hints(alloc)?;
+    if pass.looks.later == 0 {
+        return Ok(with_sources(log, pass, hints));
+    }
+    hash_sends(&mut pass, log)?;
     if pass.looks.later > pass.looks.most {
         Ok(with_senders(log, pass, hints))
     } else {

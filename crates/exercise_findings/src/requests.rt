@@ -12,6 +12,7 @@ ghost use Rattle.exercise_model.specs.Place.{log_before, own_event};
 ghost use Rattle.exercise_findings.specs.Sent.{meant_by_send};
 ghost use Rattle.exercise_findings.specs.declared.requests.Identifier.{Identifier};
 ghost use Rattle.exercise_findings.specs.declared.requests.KeptIdentifier.{KeptIdentifier};
+ghost use Rattle.exercise_findings.specs.FirstSends.{IsNewSend};
 ghost use Rattle.exercise_findings.specs.Requests.{same_identifier, identifier_of, AreRequests, IsSendOf};
 ghost use Rattle.exercise_findings.specs.Hashed.{identifier_fed};
 ghost use Rattle.exercise_findings.specs.Decided.{identifier_decides};
@@ -94,24 +95,37 @@ fn differs<L: ExerciseLog>(log: &L, station: u16, entry: usize, pdu: &PduView<'_
     }
 }
 
-/// Keeps what an entry of a station sends, and tells whether that is a request under an identifier
-/// that the station used for another order before.
+/// What an entry of a station sends, beside what the station sent under the same identifier.
+#[derive(Clone, Copy)]
+pub(crate) struct IdentifierUse {
+    /// Whether it is a request under an identifier that the station used for another order before.
+    pub reused: bool,
+    /// Whether it is known to be the first request of the station under its identifier.
+    pub first: bool,
+}
+
+/// Keeps what an entry of a station sends, and tells how it uses its identifier, where it is a request:
+/// what is sent first under an identifier is new.
 pub(crate) fn note_request<L: ExerciseLog>(
     requests: &mut Requests,
     log: &L,
     station: u16,
     entry: usize,
     pdu: &PduView<'_>,
-) -> Result<bool, AllocError>
+) -> Result<IdentifierUse, AllocError>
     requires few { entry < 4294967295 }
     requires within { entry < length (L.recording log.now).entries }
     requires sends { IsSendOf (L.recording log.now) entry station (pdu_of pdu.now) }
     requires tied { AreRequests (L.recording log.now) entry requests.old }
     ensures tied { OnOk result (AreRequests (L.recording log.now) (entry + 1) requests.new) }
-    ensures reused { let r = L.recording log.now in IfOk result (λ reused. reused ≡ (is_request_body (pdu_of pdu.now).body && is_reused r.setting.exercise (pdu_of pdu.now) (log_before r station entry))) }
+    ensures reused { let r = L.recording log.now in IfOk result (λ u. u.reused ≡ (is_request_body (pdu_of pdu.now).body && is_reused r.setting.exercise (pdu_of pdu.now) (log_before r station entry))) }
+    ensures first { IfOk result (λ u. u.first ≡ true → IsNewSend (L.recording log.now) entry) }
 {
     let Some(identifier) = identifier_of(station, pdu) else {
-        return Ok(false);
+        return Ok(IdentifierUse {
+            reused: false,
+            first: false,
+        });
     };
     let only = KeptIdentifier {
         first: entry as u32,
@@ -120,11 +134,17 @@ pub(crate) fn note_request<L: ExerciseLog>(
     let kept = keep_first(requests, identifier, only)?;
     let first = kept.first as usize;
     if kept.mixed || first == entry {
-        return Ok(kept.mixed);
+        return Ok(IdentifierUse {
+            reused: kept.mixed,
+            first: first == entry,
+        });
     }
     let reused = differs(log, station, first, pdu);
     if reused {
         keep_mixed(requests, identifier, kept.first)?;
     }
-    Ok(reused)
+    Ok(IdentifierUse {
+        reused,
+        first: false,
+    })
 }

@@ -2,7 +2,7 @@
 //! its hash on. What it is looked for by is read from the log, so a slot keeps a hash and a number.
 
 ghost use Rattle.std.specs.Prelude.{◌≡◌, ◌≢◌, ◌<◌, ◌⊎◌, ℕ, Bool, false, true, length, IfSome, IfNone, IfOk, OnOk};
-ghost use Rattle.exercise_findings.specs.Slots.{home, slot_behind, IsFirstFree, IsReached, Stands};
+ghost use Rattle.exercise_findings.specs.Slots.{home, slot_behind, IsFirstFree, IsReached, IsPut, Stands};
 
 use crate::number::NO_ENTRY;
 use std::alloc::{AllocError, Global};
@@ -191,10 +191,8 @@ fn make_room(slots: &mut Slots) -> Result<(), AllocError>
 
 /// Keeps an entry under a hash.
 pub(crate) fn keep(slots: &mut Slots, hash: u32, entry: u32) -> Result<(), AllocError>
-    requires some { entry ≢ 4294967295 }
-    ensures reached { OnOk result (IsReached slots.new.slots.items hash entry) }
-    ensures kept { OnOk result ((h e : ℕ) → IsReached slots.old.slots.items h e → IsReached slots.new.slots.items h e) }
-    ensures only { OnOk result ((e : ℕ) → Stands slots.new.slots.items e → Stands slots.old.slots.items e ⊎ (e ≡ entry)) }
+    requires { entry ≢ 4294967295 }
+    ensures { OnOk result (IsPut hash entry slots.old.slots.items slots.new.slots.items) }
 {
     make_room(slots)?;
     put(&mut slots.slots, hash, entry)?;

@@ -1,11 +1,13 @@
 //! What a pass over a log keeps of the entries behind it, to look it up for the entries ahead.
 
-ghost use Rattle.std.specs.Prelude.{◌≡◌, ◌<◌, ◌+◌, length, None, OnOk, IfOk};
+ghost use Rattle.std.specs.Prelude.{◌≡◌, ◌<◌, ◌+◌, length, None, true, OnOk, IfOk};
 ghost use Rattle.exercise_model.specs.Account.{change_at};
 ghost use Rattle.exercise_findings.specs.Firsts.{key_at};
+ghost use Rattle.exercise_findings.specs.FirstSends.{IsNewSend};
 ghost use Rattle.exercise_findings.specs.Tables.{AreTied};
 
-use crate::firsts::{Firsts, no_firsts, note_entry};
+use crate::firsts::{Firsts, note_entry};
+use crate::kept::nothing_kept;
 use crate::key::Key;
 use crate::states::{States, no_changes, note_change};
 use exercise_model::{Change, ExerciseLog};
@@ -35,25 +37,28 @@ pub(crate) fn no_tables<L: ExerciseLog>(alloc: Global, log: &L) -> Result<Tables
 {
     let states = no_changes(alloc, log)?;
     Ok(Tables {
-        firsts: no_firsts(alloc),
+        firsts: nothing_kept(alloc, log.entry_count()),
         states,
     })
 }
 
-/// Keeps the next entry of a log, which makes this change and has this key.
+/// Keeps the next entry of a log, which makes this change and has this key, and tells whether it is the
+/// first that has the key: what it sends is new then.
+#[tactic(auto, using(crate::proofs::FirstSends::new_key))]
 pub(crate) fn note_tables<L: ExerciseLog>(
     tables: &mut Tables,
     log: &L,
     entry: usize,
     change: Option<Change>,
     key: Option<Key>,
-) -> Result<(), AllocError>
+) -> Result<bool, AllocError>
     requires few { entry < 4294967295 }
     requires within { entry < length (L.recording log.now).entries }
     requires tied { AreTied (L.recording log.now) entry tables.old }
     requires change { change ≡ change_at (L.recording log.now) entry }
     requires key { key ≡ key_at (L.recording log.now) entry }
-    ensures { OnOk result (AreTied (L.recording log.now) (entry + 1) tables.new) }
+    ensures tied { OnOk result (AreTied (L.recording log.now) (entry + 1) tables.new) }
+    ensures new { IfOk result (λ new. new ≡ true → IsNewSend (L.recording log.now) entry) }
 {
     note_change(&mut tables.states, log, change, entry)?;
     note_entry(&mut tables.firsts, log, entry, key)
@@ -73,5 +78,6 @@ pub(crate) fn note_key<L: ExerciseLog>(
     requires key { key ≡ key_at (L.recording log.now) entry }
     ensures { OnOk result (AreTied (L.recording log.now) (entry + 1) tables.new) }
 {
-    note_entry(&mut tables.firsts, log, entry, key)
+    note_entry(&mut tables.firsts, log, entry, key)?;
+    Ok(())
 }

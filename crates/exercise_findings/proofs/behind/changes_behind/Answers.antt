@@ -3,6 +3,7 @@ use Rattle.std.proofs.lemmas.List.{take_more, take_all}
 use Rattle.exercise_findings.specs.declared.behind.Able.{Able}
 use Rattle.exercise_findings.specs.Column.{IsColumn}
 use Rattle.exercise_findings.specs.Number.{entry_number, IsNumberOf}
+use Rattle.exercise_findings.specs.Firsts.{first_under}
 use Rattle.exercise_findings.proofs.Ables.{no_able, change_among, kept_within, among_more, among_all}
 use Rattle.exercise_findings.proofs.behind.changes_behind.Goals as goal
 use Rattle.std.proofs.lemmas.Grind.{common_steps}
@@ -22,8 +23,8 @@ loop-able-preserved g c =
     subst (λ ys. IsColumn 0 (IsNumberOf (change_among r ys)) (length r.entries) c.replace.new.column.items)
     (sym (take_more xs i no_able c.loop-able-test.true))
     (among_more r (length r.entries) (take i xs) x c.entry_number-change.result c.loop-able.changes.items c.replace.new.column.items
-    c.entry_count.ensures.limits.count
-    (c.entry_number-change.ensures ∙ ap entry_number (c.first_near.ensures ∙ c.requires.firsts x.key))
+    c.entry_count-end.ensures.limits.count
+    (c.entry_number-change.ensures ∙ ap entry_number (c.first_near.ensures ∙ ap (first_under r x.key) c.entry_count-end.ensures.count))
     c.replace.ensures.count c.replace.ensures.each c.loop-able.invariant)
 
 pub returns : goal.returns

@@ -4,9 +4,6 @@ use borrow.Author.Count.{below_more}
 use Rattle.exercise_findings.specs.Earlier.{IsEarlierAt}
 use Rattle.exercise_findings.proofs.earlier.all_earlier.Goals as goal
 
-pub returns-then-later-eq0 : goal.returns-then-later-eq0
-returns-then-later-eq0 g c = c.requires.found c.if-later-eq0.true
-
 pub loop-entry-init : goal.loop-entry-init
 loop-entry-init g c = record { so_far = c.requires.so_far; found = λ j l. absurd (omega (arith, l)) }
 

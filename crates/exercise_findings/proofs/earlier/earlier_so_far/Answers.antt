@@ -8,7 +8,7 @@ pub source_number-requires : goal.source_number-requires
 source_number-requires g c =
     let r = g.L.ExerciseLog.recording c.args.log.now in
     let n = c.args.entry in
-    found_below r c.args.datagram.now n c.source_so_far.result (omega (arith, c.requires.within, c.requires.limits.count)) (c.source_so_far.ensures.source n c.requires.tied)
+    found_below r c.args.datagram.now n c.in_ok-source.source (omega (arith, c.requires.within, c.requires.limits.count)) c.in_ok-source.ensures.source
 
 pub returns-clause-so_far : goal.returns-clause-so_far
 returns-clause-so_far g c =
@@ -16,17 +16,17 @@ returns-clause-so_far g c =
     let n = c.args.entry in
     let here = c.requires.receives in
     subst (IsSoFarAt r n) (sym c.source_number.ensures)
-    (received_so_far r n here.0 here.1.0 n c.args.datagram.now c.source_so_far.result here.1.1
-    (omega (arith, c.requires.within)) c.requires.limits.count (c.source_so_far.ensures.source n c.requires.tied))
+    (received_so_far r n here.0 here.1.0 n c.args.datagram.now c.in_ok-source.source here.1.1
+    (omega (arith, c.requires.within)) c.requires.limits.count c.in_ok-source.ensures.source)
 
 pub returns-clause-later : goal.returns-clause-later
 returns-clause-later g c none =
     let r = g.L.ExerciseLog.recording c.args.log.now in
     let n = c.args.entry in
     let here = c.requires.receives in
-    let o = c.source_so_far.result in
-    let source = c.source_so_far.ensures.source n c.requires.tied in
-    let looked = c.source_so_far.ensures.later none in
+    let o = c.in_ok-source.source in
+    let source = c.in_ok-source.ensures.source in
+    let looked = c.in_ok-source.ensures.later none in
     let few = found_below r c.args.datagram.now n o (omega (arith, c.requires.within, c.requires.limits.count)) source in
     let apart : c.source_number.result ≢ 4294967294 = λ same. numbered_apart o looked.1 few (sym c.source_number.ensures ∙ same) in
     let kept : IsSoFarAt r n c.source_number.result = subst (IsSoFarAt r n) (sym c.source_number.ensures)

@@ -10,8 +10,8 @@ use Rattle.exercise_findings.proofs.Looks.{sent_found, other_sent}
 use Rattle.exercise_findings.proofs.Reused.{requests_pass, other_unasked}
 use Rattle.exercise_findings.proofs.found.find_sent.Goals as goal
 
-pub returns-in_ok-reused-in-Some-clause-found : goal.returns-in_ok-reused-in-Some-clause-found
-returns-in_ok-reused-in-Some-clause-found g c =
+pub returns-in_ok-asked-in-Some-clause-found : goal.returns-in_ok-asked-in-Some-clause-found
+returns-in_ok-asked-in-Some-clause-found g c =
     let r = g.L.ExerciseLog.recording c.args.log.now in
     let p : Pdu = pdu_of c.in-Some.pdu in
     let b = c.args.bytes.now in
@@ -23,7 +23,8 @@ returns-in_ok-reused-in-Some-clause-found g c =
       means = ap (λ x. meaning x b) (sym c.exercise.ensures) ∙ sym c.meaning_view.ensures ∙ ap (option_map pdu_of) c.in-Some.is;
     })
     c.found_sent.ensures.cause c.found_sent.ensures.pair c.found_sent.ensures.change c.found_sent.ensures.key c.found_sent.ensures.behind
-    c.found_sent.ensures.source c.found_sent.ensures.other
+    c.found_sent.ensures.source
+    (λ new. c.in_ok-asked-in-Some.ensures.first (sym c.found_sent.ensures.new ∙ new)) c.found_sent.ensures.other
 
 pub returns-in-None-clause-found : goal.returns-in-None-clause-found
 returns-in-None-clause-found g c =

@@ -8,11 +8,12 @@ use Rattle.exercise_findings.specs.Earlier.{IsEarlierAt, IsSoFarAt}
 use Rattle.exercise_findings.specs.Tables.{IsOwnCause, IsChangeAt, other_at}
 use Rattle.exercise_findings.proofs.Columns.{column_more, on_ok}
 use Rattle.exercise_findings.proofs.Looks.{change_here, at_most_one, others_next}
-use Rattle.exercise_findings.proofs.Sources.{not_sent, senders_still}
+use Rattle.exercise_findings.proofs.FirstSends.{sends_still}
+use Rattle.exercise_findings.proofs.Sources.{not_sent}
 use Rattle.exercise_findings.proofs.pass.keep_received.Goals as goal
 
-pub earlier_so_far-earlier-requires-clause-receives : goal.earlier_so_far-earlier-requires-clause-receives
-earlier_so_far-earlier-requires-clause-receives g c = (c.args.station, c.requires.receives)
+pub earlier_so_far-requires-clause-receives : goal.earlier_so_far-requires-clause-receives
+earlier_so_far-requires-clause-receives g c = (c.args.station, c.requires.receives)
 
 pub note_key-requires-clause-change : goal.note_key-requires-clause-change
 note_key-requires-clause-change g c =
@@ -26,7 +27,7 @@ returns g c =
     let got : Entry = Received c.args.station c.requires.receives.0 c.args.bytes.now in
     let at : slice_get r.entries n ≡ Some got = c.requires.receives.1 in
     let here = c.find_received-here.ensures in
-    let earlier = c.earlier_so_far-earlier.ensures in
+    let earlier = c.in_ok-earlier.ensures in
     let one : c.one_if.result ≡ cond {A = ℕ} (other_at r n) 1 0 = c.one_if.ensures ∙ ap (λ b. cond {A = ℕ} b 1 0) here.other in
     on_ok c.note_key.result (λ tied. record {
       tied = tied;
@@ -35,11 +36,11 @@ returns g c =
       changes = subst (λ (xs : List (Option Change)). IsColumn None (IsChangeAt r) (n + 1) xs) (sym c.in_ok-push-2.ensures.items)
           (column_more None (IsChangeAt r) n _ c.find_received-here.result.change was.changes here.change);
       earlier = subst (λ (xs : List ℕ). IsColumn 0 (IsSoFarAt r) (n + 1) xs) (sym c.in_ok-push-3.ensures.items)
-          (column_more 0 (IsSoFarAt r) n _ c.earlier_so_far-earlier.result was.earlier earlier.so_far);
+          (column_more 0 (IsSoFarAt r) n _ c.in_ok-earlier.earlier was.earlier earlier.so_far);
       later = λ none. subst (λ (xs : List ℕ). IsColumn 0 (IsEarlierAt r) (n + 1) xs) (sym c.in_ok-push-3.ensures.items)
-          (column_more 0 (IsEarlierAt r) n _ c.earlier_so_far-earlier.result (was.later (earlier.later none).0) (earlier.later none).1);
+          (column_more 0 (IsEarlierAt r) n _ c.in_ok-earlier.earlier (was.later (earlier.later none).0) (earlier.later none).1);
       ables = c.in_ok-note_behind.ensures;
-      senders = senders_still r n c.args.found.now.senders (not_sent r n got at (λ b. refl)) was.senders;
+      sends = sends_still r n c.earlier_so_far.new.sends (not_sent r n got at (λ b. refl)) earlier.tied;
       others = omega (arith, one, others_next r n c.requires.within, was.others);
       few = omega (arith, one, at_most_one (other_at r n), was.few);
     }) c.note_key.ensures

@@ -6,15 +6,28 @@ use Rattle.exercise_model.specs.Entry.{Entry, Sent}
 use Rattle.exercise_findings.specs.Column.{IsColumn}
 use Rattle.exercise_findings.specs.Number.{entry_number}
 use Rattle.exercise_findings.specs.Earlier.{IsEarlierAt, IsSoFarAt}
+use Rattle.exercise_findings.specs.FirstSends.{IsNewSend}
 use Rattle.exercise_findings.specs.Tables.{IsOwnCause, IsChangeAt, other_at}
 use Rattle.exercise_findings.proofs.Ables.{behind_still}
 use Rattle.exercise_findings.proofs.Columns.{column_more, on_ok}
 use Rattle.exercise_findings.proofs.EarlierEntries.{sent_earlier, known_so_far}
 use Rattle.exercise_findings.proofs.Looks.{behind_here, at_most_one, others_next}
+use Rattle.exercise_findings.proofs.Sources.{source_is}
+use Rattle.exercise_findings.proofs.pass.keep_sent.Goals.{then-here, else-here}
 use Rattle.exercise_findings.proofs.pass.keep_sent.Goals as goal
 
-pub note_sender-requires-clause-sends : goal.note_sender-requires-clause-sends
-note_sender-requires-clause-sends g c = (c.args.station, c.requires.sends)
+pub note_send-requires-clause-sends : goal.note_send-requires-clause-sends
+note_send-requires-clause-sends g c = (c.args.station, c.requires.sends)
+
+pub note_send-requires-clause-new : goal.note_send-requires-clause-new
+note_send-requires-clause-new g c new source =
+    let r = g.L.ExerciseLog.recording c.args.log.now in
+    let n = c.args.entry in
+    let fresh : IsNewSend r n = elim c.if-here.branch [
+      | then-here w ↦ c.in_ok-here.ensures.found.fresh w.if-here.true
+      | else-here w ↦ c.in_ok-first.ensures.new (sym w.is_new-is ∙ new)
+    ] in
+    fresh c.args.bytes.now (source_is r n c.args.station c.requires.sends.0 c.args.bytes.now c.requires.sends.1 source)
 
 pub returns-clause-found : goal.returns-clause-found
 returns-clause-found g c =
@@ -28,8 +41,8 @@ returns-clause-found g c =
     subst (IsEarlierAt r n) (sym (c.entry_number.ensures ∙ ap entry_number here.pair))
     (sent_earlier r n c.args.station c.requires.sends.0 c.args.bytes.now at (omega (arith, c.requires.within, c.requires.limits.count))) in
     let one : c.one_if.result ≡ cond {A = ℕ} (other_at r n) 1 0 = c.one_if.ensures ∙ ap (λ b. cond {A = ℕ} b 1 0) here.other in
-    on_ok c.note_tables.result (λ tied. record {
-      tied = tied;
+    on_ok c.note_send.result (λ sends. record {
+      tied = c.in_ok-first.ensures.tied;
       causes = subst (λ (xs : List (Option Cause)). IsColumn None (IsOwnCause r) (n + 1) xs) (sym c.in_ok-push.ensures.items)
           (column_more None (IsOwnCause r) n _ c.in_ok-here.here.cause was.causes here.cause);
       changes = subst (λ (xs : List (Option Change)). IsColumn None (IsChangeAt r) (n + 1) xs) (sym c.in_ok-push-2.ensures.items)
@@ -39,10 +52,10 @@ returns-clause-found g c =
       later = λ none. subst (λ (xs : List ℕ). IsColumn 0 (IsEarlierAt r) (n + 1) xs) (sym c.in_ok-push-3.ensures.items)
           (column_more 0 (IsEarlierAt r) n _ c.entry_number.result (was.later none) earlier);
       ables = behind_still r n c.args.found.now.ables.items (sym (behind_here r n sent at)) was.ables;
-      senders = c.in_ok-note_sender.ensures;
+      sends = sends;
       others = omega (arith, one, others_next r n c.requires.within, was.others);
       few = omega (arith, one, at_most_one (other_at r n), was.few);
-    }) c.note_tables.ensures
+    }) c.note_send.ensures
 
 pub returns-clause-requests : goal.returns-clause-requests
-returns-clause-requests g c = on_ok c.note_tables.result (λ _. c.in_ok-here.ensures.requests) c.note_tables.ensures
+returns-clause-requests g c = on_ok c.note_send.result (λ _. c.in_ok-here.ensures.requests) c.note_send.ensures

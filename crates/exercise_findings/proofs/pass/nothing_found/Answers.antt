@@ -8,7 +8,6 @@ use Rattle.exercise_findings.specs.Earlier.{IsEarlierAt, IsSoFarAt}
 use Rattle.exercise_findings.specs.Tables.{IsOwnCause, IsChangeAt}
 use Rattle.exercise_findings.proofs.Ables.{behind_none}
 use Rattle.exercise_findings.proofs.Columns.{column_none}
-use Rattle.exercise_findings.proofs.Sources.{no_senders}
 use Rattle.exercise_findings.proofs.pass.nothing_found.Goals as goal
 
 pub returns : goal.returns
@@ -21,7 +20,7 @@ returns g c =
       earlier = subst (λ (xs : List ℕ). IsColumn 0 (IsSoFarAt r) 0 xs) (sym c.in_ok-earlier.ensures.items) (column_none 0 (IsSoFarAt r));
       later = λ _. subst (λ (xs : List ℕ). IsColumn 0 (IsEarlierAt r) 0 xs) (sym c.in_ok-earlier.ensures.items) (column_none 0 (IsEarlierAt r));
       ables = subst (λ (xs : List Able). AreBehind r 0 xs) (sym c.new.ensures.items) (behind_none r);
-      senders = no_senders r c.no_senders.result c.no_senders.ensures.kept c.no_senders.ensures.order;
+      sends = c.no_sends.ensures r;
       others = refl;
       few = omega arith;
     }

@@ -2,12 +2,12 @@ use Rattle.exercise_findings.proofs.pass.with_senders.Goals as goal
 
 pub returns : goal.returns
 returns g c = record {
-  tied = c.requires.tied;
-  causes = c.requires.causes;
-  changes = c.requires.changes;
-  earlier = c.requires.earlier;
+  tied = c.requires.pass.tied;
+  causes = c.requires.pass.causes;
+  changes = c.requires.pass.changes;
+  earlier = c.requires.pass.earlier;
   senders = c.requires.senders;
   sources = tt;
-  ables = c.requires.ables;
-  others = c.requires.others;
+  ables = c.requires.pass.ables;
+  others = c.requires.pass.others;
 }

@@ -2,6 +2,7 @@ use Rattle.std.proofs.Common.{◌≡◌, cond, Some, Bool, true, false, sym, ap,
 use Rattle.std.specs.Prelude.{nat_eq, not, unwrap_or, option_and_then}
 use Rattle.std.specs.Option.{option_map_or}
 use Rattle.indexmap.specs.IndexMap.{get}
+use Rattle.std.proofs.lemmas.Bool.{eqb-true}
 use Rattle.std.proofs.lemmas.Bool.Decides.{nat_tests}
 use Rattle.siman_pdus.specs.declared.pdu.Pdu.{Pdu}
 use Rattle.siman_pdus.specs.Reading.{pdu_of}
@@ -12,6 +13,7 @@ use Rattle.exercise_findings.specs.Sent.{meant_by_send}
 use Rattle.exercise_findings.specs.Requests.{same_identifier}
 use Rattle.exercise_findings.specs.declared.requests.KeptIdentifier.{KeptIdentifier}
 use Rattle.exercise_findings.proofs.Reused.{taken_first, requests_still, requests_more, request_own, settled, unsettled, identified, reused_here, either_test, written_twice}
+use Rattle.exercise_findings.proofs.NewRequests.{new_request}
 use Rattle.exercise_findings.proofs.requests.note_request.Goals as goal
 
 pub returns-in_default-clause-tied : goal.returns-in_default-clause-tied
@@ -145,3 +147,13 @@ returns-else-reused-clause-reused g c =
     ∙ ap (λ t. option_map_or (λ p. not (is_same_order q p)) (option_and_then (meant_by_send r.setting.exercise) (own_event r t kept.first)) false)
     (sym (identified c.args.station q k is).1) ∙ all.reused in
     reused_here r n c.args.station q k c.differs-reused.result is reused
+
+pub returns-then-kept-clause-first : goal.returns-then-kept-clause-first
+returns-then-kept-clause-first g c new =
+    let r = g.L.ExerciseLog.recording c.args.log.now in
+    let n = c.args.entry in
+    let k = c.in-Some.identifier in
+    let is = sym c.identifier_of.ensures ∙ c.in-Some.is in
+    let first : c.in_ok-kept.kept ≡ taken_first r k n =
+    c.in_ok-kept.ensures.kept ∙ ap (λ o. unwrap_or o (record { first = n; mixed = false })) (c.requires.tied k) in
+    new_request r n c.args.station (pdu_of c.args.pdu.now) k c.requires.sends is (ap (λ (x : KeptIdentifier). x.first) (sym first) ∙ eqb-true c.in_ok-kept.kept.first n new)

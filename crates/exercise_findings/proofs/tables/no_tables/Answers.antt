@@ -1,11 +1,10 @@
-use Rattle.std.proofs.Common.{sym, ◌∙◌}
-use Rattle.exercise_findings.proofs.Keyed.{first_under-none}
+use Rattle.exercise_findings.proofs.FirstEntries.{firsts_none}
 use Rattle.exercise_findings.proofs.tables.no_tables.Goals as goal
 
 pub returns : goal.returns
 returns g c =
     let r = g.L.ExerciseLog.recording c.args.log.now in
     record {
-      firsts = λ k. c.no_firsts.ensures k ∙ sym (first_under-none r k);
+      firsts = firsts_none r c.nothing_kept.result c.nothing_kept.ensures.slots c.nothing_kept.ensures.order;
       states = c.in_ok-states.ensures;
     }

@@ -1,0 +1,31 @@
+-- Which entry sent a datagram first, while a log is passed: kept in order, and under hashes as far as one had to be looked for among all (profile).
+use Rattle.std.specs.Prelude.{◌≡◌, ◌≤◌, ◌<◌, ℕ, List, true, Some, None, length, slice_get}
+use Rattle.exercise_model.specs.Recording.{PlainRecording}
+use Rattle.exercise_findings.specs.declared.first_sends.FirstSends.{FirstSends}
+use Rattle.exercise_findings.specs.Firsts.{key_at, first_under}
+use Rattle.exercise_findings.specs.declared.key.Key.{Key}
+use Rattle.exercise_findings.specs.Hashed.{datagram_hash}
+use Rattle.exercise_findings.specs.Slots.{IsReached, Stands}
+use Rattle.exercise_findings.specs.Source.{is_source, source_at, first_source}
+
+-- Entry e is a source, and the first below n of what it sends.
+pub record IsFirstSend (r : PlainRecording) (n e : ℕ) : Type 0 where
+  pub source : source_at r e ≡ true
+  pub first : (b : List ℕ) → is_source r b e ≡ true → first_source r b n ≡ Some e
+
+-- THE TIE: the first entries below n that send each datagram from the station that it comes from stand in order, and nothing else does; the first so many of them are found under the hashes of what they send, and nothing else stands in slots
+pub record AreFirstSends (r : PlainRecording) (n : ℕ) (s : FirstSends) : Type 0 where
+  pub all : (b : List ℕ) (e : ℕ) → first_source r b n ≡ Some e → (i : ℕ) × (slice_get s.kept.order.items i ≡ Some e)
+  pub each : (i e : ℕ) → slice_get s.kept.order.items i ≡ Some e → IsFirstSend r n e
+  pub within : s.hashed ≤ length s.kept.order.items
+  pub reached : (b : List ℕ) (i e : ℕ) → i < s.hashed → slice_get s.kept.order.items i ≡ Some e → is_source r b e ≡ true
+      → IsReached s.kept.slots.slots.items (datagram_hash b) e
+  pub only : (e : ℕ) → Stands s.kept.slots.slots.items e → (i : ℕ) × (slice_get s.kept.order.items i ≡ Some e)
+
+-- what entry n sends from the station that it comes from was not sent before
+abbrev pub IsNewSend : PlainRecording → ℕ → Type 0
+IsNewSend r n = (b : List ℕ) → is_source r b n ≡ true → first_source r b n ≡ None
+
+-- entry n is the first under its key
+abbrev pub IsNewKey : PlainRecording → ℕ → Type 0
+IsNewKey r n = (k : Key) × ((Some k ≡ key_at r n) × (first_under r k n ≡ None))

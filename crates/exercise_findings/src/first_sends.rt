@@ -1,0 +1,207 @@
+//! The entries by which each datagram was sent first by the station that it comes from, while a log is
+//! passed. Mostly one looks for what was sent last, and what is sent is known to be new by what it asks
+//! or answers. So what is sent is kept in order, and under the hash of its bytes only once an entry has
+//! to be looked for among all.
+
+ghost use Rattle.std.specs.Prelude.{◌≡◌, ◌<◌, ◌≤◌, ◌+◌, ℕ, List, true, Some, None, is_some, length, IfOk, OnOk, IfSome};
+ghost use Rattle.exercise_model.specs.Recording.{PlainRecording};
+ghost use Rattle.exercise_findings.specs.FirstSends.{AreFirstSends};
+ghost use Rattle.exercise_findings.specs.Hashed.{datagram_hash};
+ghost use Rattle.exercise_findings.specs.Senders.{AreSenders};
+ghost use Rattle.exercise_findings.specs.Sent.{Sends};
+ghost use Rattle.exercise_findings.specs.Slots.{IsPut};
+ghost use Rattle.exercise_findings.specs.Source.{is_source, source_at, first_source};
+
+use crate::kept::{Kept, kept_at, nothing_kept};
+use crate::senders::{Sending, datagram_hash, first_source};
+use crate::slots::{Slots, keep};
+use exercise_model::{EntryView, ExerciseLog};
+use std::alloc::{AllocError, Global};
+
+/// The entries by which each datagram was sent first so far.
+#[derive(Drop)]
+pub(crate) struct FirstSends {
+    /// The entries in order, the first so many of them under the hashes of what they send, too.
+    pub kept: Kept,
+    /// How many of them are kept under hashes.
+    pub hashed: usize,
+}
+
+/// No sends, of so many entries that there may be. It takes no memory.
+pub(crate) fn no_sends(alloc: Global, entries: usize) -> FirstSends
+    ensures { (r : PlainRecording) → AreFirstSends r 0 result }
+{
+    FirstSends {
+        kept: nothing_kept(alloc, entries),
+        hashed: 0,
+    }
+}
+
+/// Keeps a source under the hash of what it sends.
+fn hash_source<L: ExerciseLog>(slots: &mut Slots, log: &L, entry: u32) -> Result<(), AllocError>
+    requires few { entry < 4294967295 }
+    requires source { source_at (L.recording log.now) entry ≡ true }
+    ensures { let r = L.recording log.now in OnOk result ((b : List ℕ) → is_source r b entry ≡ true → IsPut (datagram_hash b) entry slots.old.slots.items slots.new.slots.items) }
+{
+    match log.entry(entry as usize) {
+        EntryView::Sent { bytes, .. } => keep(slots, datagram_hash(bytes), entry),
+        EntryView::Received { .. } | EntryView::Told { .. } => Ok(()),
+    }
+}
+
+/// Keeps the next of the sends before an entry under its hash.
+fn hash_next<L: ExerciseLog>(
+    sends: &mut FirstSends,
+    log: &L,
+    before: usize,
+) -> Result<(), AllocError>
+    requires few { before ≤ 4294967295 }
+    requires next { sends.old.hashed < length sends.old.kept.order.items }
+    requires tied { AreFirstSends (L.recording log.now) before sends.old }
+    ensures tied { OnOk result (AreFirstSends (L.recording log.now) before sends.new) }
+    ensures order { OnOk result (sends.new.kept.order ≡ sends.old.kept.order) }
+    ensures one { OnOk result (sends.new.hashed ≡ sends.old.hashed + 1) }
+{
+    let _before = before;
+    let entry = sends.kept.order[sends.hashed];
+    hash_source(&mut sends.kept.slots, log, entry)?;
+    sends.hashed += 1;
+    Ok(())
+}
+
+/// Keeps all sends before an entry under their hashes.
+pub(crate) fn hash_all<L: ExerciseLog>(
+    sends: &mut FirstSends,
+    log: &L,
+    before: usize,
+) -> Result<(), AllocError>
+    requires few { before ≤ 4294967295 }
+    requires tied { AreFirstSends (L.recording log.now) before sends.old }
+    ensures tied { OnOk result (AreFirstSends (L.recording log.now) before sends.new) }
+    ensures senders { OnOk result (AreSenders (L.recording log.now) before sends.new.kept) }
+{
+    for _place in sends.hashed..sends.kept.order.len() {
+        hash_next(sends, log, before)?;
+    }
+    Ok(())
+}
+
+/// The first entry before one that sends a datagram of these bytes from the station that it comes from,
+/// looked for among all.
+fn source_among<L: ExerciseLog>(
+    sends: &mut FirstSends,
+    log: &L,
+    datagram: &[u8],
+    before: usize,
+) -> Result<Option<u32>, AllocError>
+    requires few { before ≤ 4294967295 }
+    requires tied { AreFirstSends (L.recording log.now) before sends.old }
+    ensures source { IfOk result (λ source. source ≡ first_source (L.recording log.now) datagram.now before) }
+    ensures tied { OnOk result (AreFirstSends (L.recording log.now) before sends.new) }
+{
+    hash_all(sends, log, before)?;
+    Ok(first_source(&sends.kept, log, datagram))
+}
+
+/// The entry at a place of the order, where it sends a datagram of these bytes.
+fn source_at_place<L: ExerciseLog>(
+    sends: &FirstSends,
+    log: &L,
+    place: usize,
+    datagram: &[u8],
+    before: usize,
+) -> Option<u32>
+    requires { AreFirstSends (L.recording log.now) before sends.now }
+    ensures { IfSome result (λ source. first_source (L.recording log.now) datagram.now before ≡ Some source) }
+{
+    let _before = before;
+    kept_at(&sends.kept, place, &Sending { log, datagram })
+}
+
+/// As [`source_among`], of a datagram that was mostly sent last: where that one has these bytes, nothing
+/// is hashed.
+pub(crate) fn latest_source<L: ExerciseLog>(
+    sends: &mut FirstSends,
+    log: &L,
+    datagram: &[u8],
+    before: usize,
+) -> Result<Option<u32>, AllocError>
+    requires few { before ≤ 4294967295 }
+    requires tied { AreFirstSends (L.recording log.now) before sends.old }
+    ensures source { IfOk result (λ source. source ≡ first_source (L.recording log.now) datagram.now before) }
+    ensures tied { OnOk result (AreFirstSends (L.recording log.now) before sends.new) }
+{
+    let last = sends.kept.order.len().saturating_sub(1);
+    match source_at_place(sends, log, last, datagram, before) {
+        Some(source) => Ok(Some(source)),
+        None => source_among(sends, log, datagram, before),
+    }
+}
+
+/// Whether a datagram of these bytes was sent before an entry by the station that it comes from: it is
+/// looked for where it is not known to be new.
+fn was_sent<L: ExerciseLog>(
+    sends: &mut FirstSends,
+    log: &L,
+    datagram: &[u8],
+    before: usize,
+    is_new: bool,
+) -> Result<bool, AllocError>
+    requires few { before ≤ 4294967295 }
+    requires new { is_new ≡ true → first_source (L.recording log.now) datagram.now before ≡ None }
+    requires tied { AreFirstSends (L.recording log.now) before sends.old }
+    ensures sent { IfOk result (λ sent. sent ≡ is_some (first_source (L.recording log.now) datagram.now before)) }
+    ensures tied { OnOk result (AreFirstSends (L.recording log.now) before sends.new) }
+{
+    if is_new {
+        return Ok(false);
+    }
+    Ok(source_among(sends, log, datagram, before)?.is_some())
+}
+
+/// Keeps what a station sends by the next entry, a source: where it is the first of these bytes, which
+/// may be known.
+fn keep_source<L: ExerciseLog>(
+    sends: &mut FirstSends,
+    log: &L,
+    entry: usize,
+    datagram: &[u8],
+    is_new: bool,
+) -> Result<(), AllocError>
+    requires few { entry < 4294967295 }
+    requires sends { (s : ℕ) × Sends (L.recording log.now) entry s datagram.now }
+    requires source { source_at (L.recording log.now) entry ≡ true }
+    requires new { is_new ≡ true → first_source (L.recording log.now) datagram.now entry ≡ None }
+    requires tied { AreFirstSends (L.recording log.now) entry sends.old }
+    ensures { OnOk result (AreFirstSends (L.recording log.now) (entry + 1) sends.new) }
+{
+    if was_sent(sends, log, datagram, entry, is_new)? {
+        return Ok(());
+    }
+    sends.kept.order.push(entry as u32)?;
+    Ok(())
+}
+
+/// Keeps what a station sends by the next entry, where the entry is a source: the datagram comes from
+/// that station. It may be known to be new.
+pub(crate) fn note_send<L: ExerciseLog>(
+    sends: &mut FirstSends,
+    log: &L,
+    entry: usize,
+    bytes: &[u8],
+    is_source: bool,
+    is_new: bool,
+) -> Result<(), AllocError>
+    requires few { entry < 4294967295 }
+    requires sends { (s : ℕ) × Sends (L.recording log.now) entry s bytes.now }
+    requires source { is_source ≡ source_at (L.recording log.now) entry }
+    requires new { is_new ≡ true → source_at (L.recording log.now) entry ≡ true → first_source (L.recording log.now) bytes.now entry ≡ None }
+    requires tied { AreFirstSends (L.recording log.now) entry sends.old }
+    ensures { OnOk result (AreFirstSends (L.recording log.now) (entry + 1) sends.new) }
+{
+    if is_source {
+        keep_source(sends, log, entry, bytes, is_new)
+    } else {
+        Ok(())
+    }
+}

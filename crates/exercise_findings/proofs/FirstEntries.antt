@@ -1,15 +1,19 @@
 -- The first entries under keys, as they are kept, one entry after another, and what is looked up among them.
 use Rattle.std.proofs.Common.{◌≡◌, ℕ, ◌+◌, length, Option, Some, None, true, false, refl, sym, ap, ◌∙◌}
-use Rattle.std.specs.Prelude.{IfSome, IfNone, slice_get}
+use Rattle.std.specs.Prelude.{IfSome, IfNone, slice_get, option_map, option_and_then}
 use Rattle.std.specs.Option.{option_map_or}
+use Rattle.siman_pdus.specs.declared.pdu.Pdu.{Pdu}
+use Rattle.siman_pdus.specs.Role.{request_id_of}
 use Rattle.exercise_model.specs.Recording.{PlainRecording}
+use Rattle.exercise_model.specs.Place.{brings_request, entry_taken_up}
 use Rattle.exercise_findings.specs.declared.key.Key.{Key}
 use Rattle.exercise_findings.specs.declared.kept.Kept.{Kept}
 use Rattle.exercise_findings.specs.Decided.{key_decides}
 use Rattle.exercise_findings.specs.Hashed.{key_hash}
 use Rattle.exercise_findings.specs.Slots.{IsReached, Stands}
 use Rattle.exercise_findings.specs.Kept.{IsKeptBehind}
-use Rattle.exercise_findings.specs.Firsts.{same_key, key_at, has_key, first_under, AreFirsts}
+use Rattle.exercise_findings.specs.Firsts.{same_key, request_key, key_at, has_key, first_under, AreFirsts}
+use Rattle.exercise_findings.proofs.Keyed.{taken_up_by_key, asked_at, unasked_at}
 use Rattle.exercise_findings.proofs.Keeping.{looked_up, kept_none, kept_still, kept_later, kept_more, order_first}
 
 -- an entry has no key but its own
@@ -51,3 +55,14 @@ pub firsts_order : (r : PlainRecording) (n : ℕ) (firsts : Kept) (k : Key) (i e
     → slice_get firsts.order.items i ≡ Some e → has_key r k e ≡ true → first_under r k n ≡ Some e
 unfolding first_under
 firsts_order r n firsts k i e tied at is = order_first (has_key r) key_hash n firsts k i e tied at is
+
+-- what stands in order and brings a request for an answer is what the answer takes up
+pub order_taken : (r : PlainRecording) (s n : ℕ) (firsts : Kept) (p : Pdu) (i e : ℕ) → AreFirsts r n firsts → slice_get firsts.order.items i ≡ Some e
+    → brings_request r s p e ≡ true → entry_taken_up r s p n ≡ Some e
+order_taken r s n firsts p i e tied at brings =
+    taken_up_by_key r s p n
+    ∙ elim (request_id_of p.body) as (λ o. request_id_of p.body ≡ o
+    → option_and_then (λ k. first_under r k n) (option_map (request_key s p.target.site p.target.application) o) ≡ Some e) [
+      | None ↦ λ none. absurd (cc (sym (unasked_at r s p none e) ∙ brings))
+      | Some id ↦ λ is. firsts_order r n firsts (request_key s p.target.site p.target.application id) i e tied at (sym (asked_at r s p id is e) ∙ brings)
+    ] refl

@@ -191,7 +191,7 @@ event_unasked r s p e (Get t b) =
         ap (λ o. is_request_body q.body && (is_addressed q.target a && (same_id o (request_id_of q.body) && same_pair q.origin p.target))) e
         ∙ ap (λ b. is_request_body q.body && b) (and_false (is_addressed q.target a)) ∙ and_false (is_request_body q.body)
 
-asked_at : (r : PlainRecording) (s : ℕ) (p : Pdu) (id : ℕ) → request_id_of p.body ≡ Some id → (j : ℕ)
+pub asked_at : (r : PlainRecording) (s : ℕ) (p : Pdu) (id : ℕ) → request_id_of p.body ≡ Some id → (j : ℕ)
     → brings_request r s p j ≡ has_key r (request_key s p.target.site p.target.application id) j
 unfolding own_event key_at
 asked_at r s p id e j =
@@ -202,7 +202,7 @@ asked_at r s p id e j =
       | Some y ↦ event_asked r s p id e (event_of y)
     ]
 
-unasked_at : (r : PlainRecording) (s : ℕ) (p : Pdu) → request_id_of p.body ≡ None → (j : ℕ) → brings_request r s p j ≡ false
+pub unasked_at : (r : PlainRecording) (s : ℕ) (p : Pdu) → request_id_of p.body ≡ None → (j : ℕ) → brings_request r s p j ≡ false
 unfolding own_event
 unasked_at r s p e j =
     elim (slice_get r.entries j) as (λ o. is_some (option_and_then (request_brought r.setting.exercise (station_at r s).address p)

@@ -1,6 +1,6 @@
 //! Which request an answer takes up.
 
-ghost use Rattle.std.specs.Prelude.{◌≡◌, ◌<◌, ◌≤◌, length, option_map, option_and_then, IfSome, None, if◌then◌else◌};
+ghost use Rattle.std.specs.Prelude.{◌≡◌, ◌<◌, ◌≤◌, length, option_map, option_and_then, IfSome, Some, None, if◌then◌else◌};
 ghost use Rattle.siman_pdus.specs.Reading.{pdu_of};
 ghost use Rattle.exercise_model.specs.History.{station_at};
 ghost use Rattle.exercise_model.specs.Account.{pair_of_sent};
@@ -9,8 +9,9 @@ ghost use Rattle.exercise_model.specs.Place.{log_before, own_event, entry_taken_
 ghost use Rattle.exercise_findings.specs.TakenUp.{request_of_sent};
 ghost use Rattle.exercise_findings.specs.Firsts.{AreFirsts};
 
-use crate::firsts::{Firsts, first_near};
+use crate::firsts::{Firsts, first_noted};
 use crate::hint::Hint;
+use crate::kept::entry_kept_at;
 use crate::key::answered_key;
 use dis_records::Address;
 use exercise_model::{EntryView, ExerciseLog, is_answer, is_asked, meaning_view};
@@ -41,8 +42,36 @@ fn request_brought<'a, L: ExerciseLog>(
     }
 }
 
-/// The entry of the request that an answer takes up: the first under the answer's key, looked for where
-/// the hint leads first, since requests are mostly answered in turn.
+/// The request that an answer takes up, with its entry, where that was kept at a place.
+fn request_kept_at<'a, L: ExerciseLog>(
+    log: &'a L,
+    firsts: &Firsts,
+    place: usize,
+    station: u16,
+    before: usize,
+    answer: &PduView<'_>,
+) -> Option<(u32, PduView<'a>)>
+    requires at { station < length (L.recording log.now).setting.stations }
+    requires within { before ≤ length (L.recording log.now).entries }
+    requires tied { AreFirsts (L.recording log.now) before firsts.now }
+    ensures request { let r = L.recording log.now in IfSome result (λ t. Some (pdu_of t.1) ≡ request_taken_up r.setting.exercise (station_at r station).address (pdu_of answer.now) (log_before r station before)) }
+    ensures entry { let r = L.recording log.now in IfSome result (λ t. Some t.0 ≡ entry_taken_up r station (pdu_of answer.now) before) }
+    ensures earlier { IfSome result (λ t. t.0 < before) }
+{
+    let Some(entry) = entry_kept_at(firsts, place) else {
+        return None;
+    };
+    if entry as usize >= before {
+        return None;
+    }
+    let address = log.station(usize::from(station)).address();
+    match request_brought(log, station, address, answer, entry as usize) {
+        Some(request) => Some((entry, request)),
+        None => None,
+    }
+}
+
+/// The entry of the request that an answer takes up: the first under the answer's key.
 #[tactic(auto, using(crate::proofs::Keyed::key_steps))]
 fn entry_taken_up<L: ExerciseLog>(
     log: &L,
@@ -58,13 +87,13 @@ fn entry_taken_up<L: ExerciseLog>(
     ensures earlier { IfSome result (λ e. e < before) }
 {
     match answered_key(station, answer) {
-        Some(key) => first_near(firsts, log, &key, before, hint),
+        Some(key) => first_noted(firsts, log, &key, before, hint),
         None => None,
     }
 }
 
-/// The request that an answer takes up, with its entry: the first that comes before an entry.
-fn request_taken_up<'a, L: ExerciseLog>(
+/// The request that an answer takes up, with its entry, looked for among all.
+fn request_among<'a, L: ExerciseLog>(
     log: &'a L,
     firsts: &Firsts,
     hint: &mut Hint,
@@ -87,6 +116,31 @@ fn request_taken_up<'a, L: ExerciseLog>(
         Some(request) => Some((entry, request)),
         None => None,
     }
+}
+
+/// The request that an answer takes up, with its entry: the first that comes before an entry. It is looked
+/// for where the hint leads first, since requests are mostly answered in turn.
+fn request_taken_up<'a, L: ExerciseLog>(
+    log: &'a L,
+    firsts: &Firsts,
+    hint: &mut Hint,
+    station: u16,
+    before: usize,
+    answer: &PduView<'_>,
+) -> Option<(u32, PduView<'a>)>
+    requires at { station < length (L.recording log.now).setting.stations }
+    requires within { before ≤ length (L.recording log.now).entries }
+    requires tied { AreFirsts (L.recording log.now) before firsts.now }
+    ensures request { let r = L.recording log.now in option_map (λ t. pdu_of t.1) result ≡ request_taken_up r.setting.exercise (station_at r station).address (pdu_of answer.now) (log_before r station before) }
+    ensures entry { let r = L.recording log.now in option_map (λ t. t.0) result ≡ entry_taken_up r station (pdu_of answer.now) before }
+    ensures earlier { IfSome result (λ t. t.0 < before) }
+{
+    let place = hint.next();
+    if let Some(taken) = request_kept_at(log, firsts, place, station, before, answer) {
+        hint.found(place);
+        return Some(taken);
+    }
+    request_among(log, firsts, hint, station, before, answer)
 }
 
 /// The request that a PDU takes up which a station sends at an entry, with its entry, where the PDU

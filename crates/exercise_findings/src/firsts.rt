@@ -18,15 +18,17 @@ use std::hash::{DefaultHasher, Hasher};
 /// The first entry under each key.
 pub(crate) type Firsts = Kept;
 
-/// The hash of a key: of neither its role nor its response, since the three keys that differ in nothing
-/// else are mostly looked up one after the other, and stand together so.
+/// The hash of a key. Where it is looked for first depends on neither its role nor its response, since the
+/// three keys that differ in nothing else are mostly looked up one after the other, and stand together
+/// so; the response tells them apart.
 fn key_hash(key: &Key) -> u32
     ensures { result ≡ key_hash key.now }
 {
     let mut hasher = DefaultHasher::new();
     hasher.write_u64(word(key.request, key.site, key.application));
     hasher.write_u64(word(u32::from(key.flag), key.entity, key.station));
-    (hasher.finish() % 0x1_0000_0000) as u32
+    let hash = (hasher.finish() % 0x1_0000_0000) as u32;
+    hash % 0x4000_0000 + 0x4000_0000 * u32::from(key.response % 4)
 }
 
 /// The key of an entry.
@@ -109,6 +111,24 @@ pub(crate) fn first_under<L: ExerciseLog>(
     first_hashed(firsts, log, key_hash(key), key, before)
 }
 
+/// The same, which is kept as what the next is looked for near.
+pub(crate) fn first_noted<L: ExerciseLog>(
+    firsts: &Firsts,
+    log: &L,
+    key: &Key,
+    before: usize,
+    hint: &mut Hint,
+) -> Option<u32>
+    requires { AreFirsts (L.recording log.now) before firsts.now }
+    ensures { result ≡ first_under (L.recording log.now) key.now before }
+{
+    let Some(entry) = first_under(firsts, log, key, before) else {
+        return None;
+    };
+    hint.found(kept_place(firsts, entry));
+    Some(entry)
+}
+
 /// The same, looked for where a hint leads first: keys are mostly looked for in the order in which they
 /// came.
 pub(crate) fn first_near<L: ExerciseLog>(
@@ -126,11 +146,7 @@ pub(crate) fn first_near<L: ExerciseLog>(
         hint.found(place);
         return Some(entry);
     }
-    let Some(entry) = first_under(firsts, log, key, before) else {
-        return None;
-    };
-    hint.found(kept_place(firsts, entry));
-    Some(entry)
+    first_noted(firsts, log, key, before, hint)
 }
 
 /// Keeps the next entry of a log, which has this key, where it is the first, and tells whether it is.

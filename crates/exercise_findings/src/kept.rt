@@ -37,12 +37,19 @@ pub(crate) fn keep_behind(kept: &mut Kept, hash: u32, entry: u32) -> Result<(), 
     Ok(())
 }
 
+/// The entry that was kept at a place.
+pub(crate) fn entry_kept_at(kept: &Kept, place: usize) -> Option<u32>
+    ensures { result ≡ slice_get kept.now.order.items place }
+{
+    kept.order.get(place).copied()
+}
+
 /// The entry that was kept at a place, where it is the one that is looked for.
 pub(crate) fn kept_at<S: Sought>(kept: &Kept, place: usize, sought: &S) -> Option<u32>
     ensures { IfSome result (λ e. (slice_get kept.now.order.items place ≡ Some e) × (S.is_sought sought.now e ≡ true)) }
 {
-    match kept.order.get(place) {
-        Some(entry) if sought.is_sought(*entry) => Some(*entry),
+    match entry_kept_at(kept, place) {
+        Some(entry) if sought.is_sought(entry) => Some(entry),
         _ => None,
     }
 }

@@ -8,7 +8,7 @@ use Rattle.std.proofs.Common.{arith}
 pub returns-in-Some-clause-earlier : goal.returns-in-Some-clause-earlier
 returns-in-Some-clause-earlier g c =
     let r = g.L.ExerciseLog.recording c.args.log.now in
-    subst (λ o. IfSome o (λ e. e < c.args.before)) (sym c.first_near.ensures) (under_earlier r c.in-Some.key c.args.before)
+    subst (λ o. IfSome o (λ e. e < c.args.before)) (sym c.first_noted.ensures) (under_earlier r c.in-Some.key c.args.before)
 
 pub returns-in-Some-clause-entry : goal.returns-in-Some-clause-entry
 returns-in-Some-clause-entry g c = grind (arith, key_steps)

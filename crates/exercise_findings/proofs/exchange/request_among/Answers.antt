@@ -6,7 +6,7 @@ use Rattle.exercise_model.specs.History.{station_at}
 use Rattle.exercise_model.specs.Exchange.{request_brought}
 use Rattle.exercise_model.specs.Place.{own_event}
 use Rattle.exercise_findings.proofs.Keyed.{request_by_entry, taken_brings}
-use Rattle.exercise_findings.proofs.exchange.request_taken_up.Goals as goal
+use Rattle.exercise_findings.proofs.exchange.request_among.Goals as goal
 
 pub returns-in_default-clause-request : goal.returns-in_default-clause-request
 returns-in_default-clause-request g c =

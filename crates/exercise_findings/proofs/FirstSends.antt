@@ -1,6 +1,6 @@
 -- The first sends of a log, one entry after another, and what is known to be sent for the first time.
 use Rattle.std.proofs.Common.{◌≡◌, ℕ, zero, suc, ◌+◌, ◌<◌, ◌≤◌, List, [], ◌∷◌, ◌++◌, length, length-append, Option, Some, None, Bool, true, false, refl, sym, ap, ◌∙◌, subst, ⊎_elim, inl, inr, arith}
-use Rattle.std.specs.Prelude.{◌≢◌, ◌⊎◌, IfSome, is_some, slice_get, option_and_then, if◌then◌else◌}
+use Rattle.std.specs.Prelude.{◌≢◌, ◌⊎◌, IfSome, slice_get, option_and_then, if◌then◌else◌}
 use Rattle.std.specs.Option.{option_or}
 use Rattle.std.proofs.lemmas.Bool.{cases_eq, cases_lt}
 use Rattle.std.proofs.lemmas.Option.{same_Some, none-some, slice_get_within}
@@ -15,6 +15,7 @@ use Rattle.exercise_findings.specs.declared.key.Key.{Key}
 use Rattle.exercise_findings.specs.FirstSends.{IsFirstSend, AreFirstSends, IsNewSend, IsNewKey}
 use Rattle.exercise_findings.specs.Firsts.{event_key, key_at, has_key, first_under}
 use Rattle.exercise_findings.specs.Hashed.{datagram_hash}
+use Rattle.exercise_findings.specs.Kept.{IsKeptBehind}
 use Rattle.exercise_findings.specs.Senders.{sends_at, AreSenders}
 use Rattle.exercise_findings.specs.Slots.{IsReached, IsPut, Stands}
 use Rattle.exercise_findings.specs.Source.{is_source, source_at, first_source}
@@ -112,27 +113,22 @@ other_still r n s stamp c at b =
     ] refl
 
 -- a source of what another one sent before
-pub sends_later : (r : PlainRecording) (n s stamp : ℕ) (c : List ℕ) (sends : FirstSends) → slice_get r.entries n ≡ Some (Sent s stamp c)
-    → is_some (first_source r c n) ≡ true → AreFirstSends r n sends → AreFirstSends r (n + 1) sends
+pub sends_later : (r : PlainRecording) (n s stamp m : ℕ) (c : List ℕ) (sends : FirstSends) → slice_get r.entries n ≡ Some (Sent s stamp c)
+    → first_source r c n ≡ Some m → AreFirstSends r n sends → AreFirstSends r (n + 1) sends
 unfolding first_source
-sends_later r n s stamp c sends at some tied =
+sends_later r n s stamp m c sends at first tied =
     still r n sends
     (λ b. ⊎_elim (λ off. none_here (is_source r b) n off)
-    (λ (same : b ≡ c). by_first b (first_below (is_source r b) n) refl (ap (λ x. is_some (first_below (is_source r x) n)) same ∙ some))
+    (λ (same : b ≡ c). later_here (is_source r b) n m (ap (λ x. first_below (is_source r x) n) same ∙ first))
     (other_still r n s stamp c at b))
     tied
-  where
-    by_first : (b : List ℕ) (o : Option ℕ) → first_below (is_source r b) n ≡ o → is_some (first_below (is_source r b) n) ≡ true
-        → first_below (is_source r b) (n + 1) ≡ first_below (is_source r b) n
-    by_first b None none some = absurd (cc (sym (ap is_some none) ∙ some))
-    by_first b (Some m) first some = later_here (is_source r b) n m first
 
 -- the first source of what it sends, which is put behind the others
 pub sends_more : (r : PlainRecording) (n s stamp : ℕ) (c : List ℕ) (old new : FirstSends) → slice_get r.entries n ≡ Some (Sent s stamp c)
-    → source_at r n ≡ true → is_some (first_source r c n) ≡ false → new.kept.slots ≡ old.kept.slots → new.hashed ≡ old.hashed
+    → source_at r n ≡ true → first_source r c n ≡ None → new.kept.slots ≡ old.kept.slots → new.hashed ≡ old.hashed
     → new.kept.order.items ≡ old.kept.order.items ++ n ∷ [] → AreFirstSends r n old → AreFirstSends r (n + 1) new
 unfolding first_source
-sends_more r n s stamp c old new at source unsent slots hashed pushed tied = record {
+sends_more r n s stamp c old new at source none slots hashed pushed tied = record {
   all = λ b e first. on_first b e first (first_below (is_source r b) n) refl;
   each = λ i e here. ⊎_elim
       (λ (last : i ≡ length old.kept.order.items). subst (IsFirstSend r (n + 1)) (at_last i e last here) newest)
@@ -148,13 +144,6 @@ sends_more r n s stamp c old new at source unsent slots hashed pushed tied = rec
       (old_at.0, kept_at old_at.0 e old_at.1);
 }
   where
-    not_some : (o : Option ℕ) → is_some o ≡ false → o ≡ None
-    not_some None off = refl
-    not_some (Some m) off = absurd (cc off)
-
-    none : first_below (is_source r c) n ≡ None
-    none = not_some (first_below (is_source r c) n) unsent
-
     placed : (i e : ℕ) → slice_get new.kept.order.items i ≡ Some e → slice_get (old.kept.order.items ++ n ∷ []) i ≡ Some e
     placed i e here = ap (λ xs. slice_get xs i) (sym pushed) ∙ here
 
@@ -229,6 +218,18 @@ hashed_more r n e old new at put order one tied = record {
         let source = (tied.each old.hashed e at).source in
         let sent = sent_at r e source in
         (datagram_hash sent.1.1.0, put sent.1.1.0 (source_is r e sent.0 sent.1.0 sent.1.1.0 sent.1.1.1 source))
+
+-- the first source of what it sends, which is put behind the others and under its hash, where all are
+pub sends_hashed : (r : PlainRecording) (n s stamp : ℕ) (c : List ℕ) (old new : FirstSends) → slice_get r.entries n ≡ Some (Sent s stamp c)
+    → source_at r n ≡ true → first_source r c n ≡ None → old.hashed ≡ length old.kept.order.items → new.hashed ≡ old.hashed + 1
+    → IsKeptBehind (datagram_hash c) n old.kept new.kept → AreFirstSends r n old → AreFirstSends r (n + 1) new
+sends_hashed r n s stamp c old new at source none all one behind tied =
+    let between : FirstSends = record { kept = record { slots = old.kept.slots; order = new.kept.order }; hashed = old.hashed } in
+    hashed_more r (n + 1) n between new
+    (ap (slice_get new.kept.order.items) all ∙ ap (λ xs. slice_get xs (length old.kept.order.items)) behind.order ∙ get-pushed_here old.kept.order.items n)
+    (λ b is. subst (λ x. IsPut (datagram_hash x) n old.kept.slots.slots.items new.kept.slots.slots.items) (sym (source_own r n s stamp c at b is)) behind.put)
+    refl one
+    (sends_more r n s stamp c old between at source none refl refl behind.order tied)
 
 -- once all are, each is found
 pub all_hashed : (r : PlainRecording) (n : ℕ) (s : FirstSends) → length s.kept.order.items ≤ s.hashed → AreFirstSends r n s → AreSenders r n s.kept

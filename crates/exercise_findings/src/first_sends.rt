@@ -3,7 +3,7 @@
 //! or answers. So what is sent is kept in order, and under the hash of its bytes only once an entry has
 //! to be looked for among all.
 
-ghost use Rattle.std.specs.Prelude.{◌≡◌, ◌<◌, ◌≤◌, ◌+◌, ℕ, List, true, Some, None, is_some, length, IfOk, OnOk, IfSome};
+ghost use Rattle.std.specs.Prelude.{◌≡◌, ◌<◌, ◌≤◌, ◌+◌, ℕ, List, true, Some, None, length, IfOk, OnOk, IfSome};
 ghost use Rattle.exercise_model.specs.Recording.{PlainRecording};
 ghost use Rattle.exercise_findings.specs.FirstSends.{AreFirstSends};
 ghost use Rattle.exercise_findings.specs.Hashed.{datagram_hash};
@@ -12,8 +12,8 @@ ghost use Rattle.exercise_findings.specs.Sent.{Sends};
 ghost use Rattle.exercise_findings.specs.Slots.{IsPut};
 ghost use Rattle.exercise_findings.specs.Source.{is_source, source_at, first_source};
 
-use crate::kept::{Kept, kept_at, nothing_kept};
-use crate::senders::{Sending, datagram_hash, first_source};
+use crate::kept::{Kept, keep_behind, kept_at, nothing_kept};
+use crate::senders::{Sending, datagram_hash, first_hashed, first_source};
 use crate::slots::{Slots, keep};
 use exercise_model::{EntryView, ExerciseLog};
 use std::alloc::{AllocError, Global};
@@ -79,6 +79,7 @@ pub(crate) fn hash_all<L: ExerciseLog>(
     requires tied { AreFirstSends (L.recording log.now) before sends.old }
     ensures tied { OnOk result (AreFirstSends (L.recording log.now) before sends.new) }
     ensures senders { OnOk result (AreSenders (L.recording log.now) before sends.new.kept) }
+    ensures all { OnOk result (sends.new.hashed ≡ length sends.new.kept.order.items) }
 {
     for _place in sends.hashed..sends.kept.order.len() {
         hash_next(sends, log, before)?;
@@ -138,48 +139,49 @@ pub(crate) fn latest_source<L: ExerciseLog>(
     }
 }
 
-/// Whether a datagram of these bytes was sent before an entry by the station that it comes from: it is
-/// looked for where it is not known to be new.
-fn was_sent<L: ExerciseLog>(
-    sends: &mut FirstSends,
-    log: &L,
-    datagram: &[u8],
-    before: usize,
-    is_new: bool,
-) -> Result<bool, AllocError>
-    requires few { before ≤ 4294967295 }
-    requires new { is_new ≡ true → first_source (L.recording log.now) datagram.now before ≡ None }
-    requires tied { AreFirstSends (L.recording log.now) before sends.old }
-    ensures sent { IfOk result (λ sent. sent ≡ is_some (first_source (L.recording log.now) datagram.now before)) }
-    ensures tied { OnOk result (AreFirstSends (L.recording log.now) before sends.new) }
-{
-    if is_new {
-        return Ok(false);
-    }
-    Ok(source_among(sends, log, datagram, before)?.is_some())
-}
-
-/// Keeps what a station sends by the next entry, a source: where it is the first of these bytes, which
-/// may be known.
-fn keep_source<L: ExerciseLog>(
+/// Keeps what a station sends by the next entry, a source that is the first of these bytes.
+fn keep_new<L: ExerciseLog>(
     sends: &mut FirstSends,
     log: &L,
     entry: usize,
     datagram: &[u8],
-    is_new: bool,
 ) -> Result<(), AllocError>
     requires few { entry < 4294967295 }
     requires sends { (s : ℕ) × Sends (L.recording log.now) entry s datagram.now }
     requires source { source_at (L.recording log.now) entry ≡ true }
-    requires new { is_new ≡ true → first_source (L.recording log.now) datagram.now entry ≡ None }
+    requires new { first_source (L.recording log.now) datagram.now entry ≡ None }
     requires tied { AreFirstSends (L.recording log.now) entry sends.old }
     ensures { OnOk result (AreFirstSends (L.recording log.now) (entry + 1) sends.new) }
 {
-    if was_sent(sends, log, datagram, entry, is_new)? {
-        return Ok(());
-    }
+    let (_log, _datagram) = (log, datagram);
     sends.kept.order.push(entry as u32)?;
     Ok(())
+}
+
+/// Keeps what a station sends by the next entry, a source, where it is the first of these bytes: that is
+/// looked for among all.
+fn keep_unknown<L: ExerciseLog>(
+    sends: &mut FirstSends,
+    log: &L,
+    entry: usize,
+    datagram: &[u8],
+) -> Result<(), AllocError>
+    requires few { entry < 4294967295 }
+    requires sends { (s : ℕ) × Sends (L.recording log.now) entry s datagram.now }
+    requires source { source_at (L.recording log.now) entry ≡ true }
+    requires tied { AreFirstSends (L.recording log.now) entry sends.old }
+    ensures { OnOk result (AreFirstSends (L.recording log.now) (entry + 1) sends.new) }
+{
+    hash_all(sends, log, entry)?;
+    let hash = datagram_hash(datagram);
+    match first_hashed(&sends.kept, log, hash, datagram) {
+        Some(_) => Ok(()),
+        None => {
+            keep_behind(&mut sends.kept, hash, entry as u32)?;
+            sends.hashed += 1;
+            Ok(())
+        }
+    }
 }
 
 /// Keeps what a station sends by the next entry, where the entry is a source: the datagram comes from
@@ -199,9 +201,11 @@ pub(crate) fn note_send<L: ExerciseLog>(
     requires tied { AreFirstSends (L.recording log.now) entry sends.old }
     ensures { OnOk result (AreFirstSends (L.recording log.now) (entry + 1) sends.new) }
 {
-    if is_source {
-        keep_source(sends, log, entry, bytes, is_new)
-    } else {
+    if !is_source {
         Ok(())
+    } else if is_new {
+        keep_new(sends, log, entry, bytes)
+    } else {
+        keep_unknown(sends, log, entry, bytes)
     }
 }

@@ -54,7 +54,7 @@ impl<'a, L: ExerciseLog> Sought for Sending<'a, L> {
 }
 
 /// The entry by which a datagram of this hash was sent first by the station that it comes from.
-fn first_hashed<L: ExerciseLog>(
+pub(crate) fn first_hashed<L: ExerciseLog>(
     senders: &Senders,
     log: &L,
     hash: u32,

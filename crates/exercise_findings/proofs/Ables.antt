@@ -1,8 +1,9 @@
 -- What is kept of the Ables that stations receive gives the change behind each entry.
-use Rattle.std.proofs.Common.{◌≡◌, ℕ, zero, suc, ◌+◌, ◌<◌, ◌≤◌, List, [], ◌∷◌, ◌++◌, length, cond, get_or, Option, Some, None, true, false, refl, sym, ap, ◌∙◌, ⊎_elim, arith}
-use Rattle.std.specs.Prelude.{◌≢◌, IfSome, is_some, nat_eq, nat_lt, slice_get, slice_index_or, option_map, option_and_then, if◌then◌else◌}
+use Rattle.std.proofs.Common.{◌≡◌, ℕ, ◌+◌, ◌<◌, ◌≤◌, List, [], ◌∷◌, ◌++◌, length, cond, Bool, Option, Some, None, true, false, refl, sym, ap, ◌∙◌, subst, ⊎_elim, arith}
+use Rattle.std.specs.Prelude.{◌≢◌, All, IfSome, nat_eq, slice_get, slice_index_or, option_map, option_and_then, if◌then◌else◌}
 use Rattle.std.specs.Option.{option_or}
-use Rattle.std.proofs.lemmas.Bool.{cases_lt, cases_eq, eq-eqb, ne_eqb, lt-ltb, le-ltb}
+use Rattle.std.proofs.lemmas.Bool.{cases_eq, eq-eqb, ne_eqb}
+use Rattle.std.proofs.lemmas.List.Elements.{All-nil, All-push, All-weaker}
 use Rattle.std.proofs.lemmas.Option.{slice_get_past}
 use Rattle.siman_pdus.specs.declared.pdu.Pdu.{Pdu}
 use Rattle.exercise_model.specs.Entry.{Entry, Sent, Received, Told}
@@ -12,82 +13,75 @@ use Rattle.exercise_model.specs.Meaning.{meaning}
 use Rattle.exercise_model.specs.Change.{responds, key_of, able}
 use Rattle.exercise_model.specs.Account.{sender_of, first_able, change_under, change_behind_pdu, change_behind_entry, change_behind}
 use Rattle.exercise_findings.specs.declared.key.Key.{Key}
-use Rattle.exercise_findings.specs.declared.behind.Able.{Able}
 use Rattle.exercise_findings.specs.Number.{entry_number, entry_of, IsNumberOf}
 use Rattle.exercise_findings.specs.Column.{IsColumn}
 use Rattle.exercise_findings.specs.Firsts.{acknowledged_key, first_under}
 use Rattle.exercise_findings.specs.Behind.{able_key, key_behind, event_behind, behind_at, kept_behind, AreBehind}
 use Rattle.exercise_findings.proofs.Keyed.{first_able_by_key, under_earlier}
-use Rattle.exercise_findings.proofs.Columns.{number_back}
+use Rattle.exercise_findings.proofs.Columns.{number_back, written_here, written_apart}
 
 -- ---- one more is kept
 
-kept_snoc : (xs : List Able) (x : Able) (i : ℕ) → kept_behind (xs ++ x ∷ []) i ≡ (if nat_eq x.entry i then Some x.key else kept_behind xs i)
-kept_snoc [] x i = refl
-kept_snoc (y ∷ ys) x i =
-    let o : Option Key = if nat_eq y.entry i then Some y.key else None in
-    ap (λ k. option_or k o) (kept_snoc ys x i)
-    ∙ elim (nat_eq x.entry i) as (λ b. option_or (cond b (Some x.key) (kept_behind ys i)) o ≡ cond b (Some x.key) (option_or (kept_behind ys i) o)) [
-      | true ↦ refl
+either : (o : Option Key) (b : Bool) → option_or o (cond b o None) ≡ o
+either (Some k) b = refl
+either None true = refl
+either None false = refl
+
+kept_snoc : (r : PlainRecording) (xs : List ℕ) (x i : ℕ) → kept_behind r (xs ++ x ∷ []) i ≡ (if nat_eq x i then behind_at r i else kept_behind r xs i)
+kept_snoc r [] x i = refl
+kept_snoc r (y ∷ ys) x i =
+    let o : Option Key = if nat_eq y i then behind_at r i else None in
+    ap (λ k. option_or k o) (kept_snoc r ys x i)
+    ∙ elim (nat_eq x i) as (λ b. option_or (cond b (behind_at r i) (kept_behind r ys i)) o ≡ cond b (behind_at r i) (option_or (kept_behind r ys i) o)) [
+      | true ↦ either (behind_at r i) (nat_eq y i)
       | false ↦ refl
     ]
 
-pub behind_none : (r : PlainRecording) → AreBehind r 0 []
-behind_none r i = sym (ap (λ b. cond b (behind_at r i) None) (le-ltb i 0 (omega arith)))
+-- the one more, and any other
+snoc_here : (r : PlainRecording) (xs : List ℕ) (x : ℕ) → kept_behind r (xs ++ x ∷ []) x ≡ behind_at r x
+snoc_here r xs x = kept_snoc r xs x x ∙ ap (λ b. cond b (behind_at r x) (kept_behind r xs x)) (eq-eqb x x refl)
 
--- of every other entry it says the same one entry on
-apart_on : (r : PlainRecording) (n i : ℕ) → i ≢ n → cond (nat_lt i n) (behind_at r i) None ≡ cond (nat_lt i (n + 1)) (behind_at r i) None
-apart_on r n i apart =
-    ap (λ b. cond b (behind_at r i) None) (⊎_elim
-    (λ (below : i < n). lt-ltb i n below ∙ sym (lt-ltb i (n + 1) (omega (arith, below))))
-    (λ (past : n ≤ i). le-ltb i n past ∙ sym (le-ltb i (n + 1) (omega (arith, past, apart))))
-    (cases_lt i n))
+snoc_apart : (r : PlainRecording) (xs : List ℕ) (x i : ℕ) → i ≢ x → kept_behind r (xs ++ x ∷ []) i ≡ kept_behind r xs i
+snoc_apart r xs x i apart =
+    kept_snoc r xs x i ∙ ap (λ b. cond b (behind_at r i) (kept_behind r xs i)) (ne_eqb x i (λ same. apart (sym same)))
+
+-- of an entry with no change behind it there is nothing to keep
+kept_nothing : (r : PlainRecording) (xs : List ℕ) (i : ℕ) → behind_at r i ≡ None → kept_behind r xs i ≡ None
+kept_nothing r [] i none = refl
+kept_nothing r (y ∷ ys) i none =
+    ap (λ k. option_or k (if nat_eq y i then behind_at r i else None)) (kept_nothing r ys i none)
+    ∙ ap (λ o. cond (nat_eq y i) o None) none
+    ∙ elim (nat_eq y i) as (λ b. cond {A = Option Key} b None None ≡ None) [ true ↦ refl | false ↦ refl ]
+
+-- what is kept is of an entry below the next one too
+later : (r : PlainRecording) (n : ℕ) (xs : List ℕ) → AreBehind r n xs → All (λ x. x < n + 1) xs
+later r n xs tied = All-weaker (λ x. x < n) (λ x. x < n + 1) (λ x l. omega (arith, l)) xs tied.within
+
+pub behind_none : (r : PlainRecording) → AreBehind r 0 []
+behind_none r = record {
+  within = All-nil (λ x. x < 0);
+  kept = λ i l. absurd (omega (arith, l));
+}
 
 -- the next entry has a change behind it
-pub behind_more : (r : PlainRecording) (n : ℕ) (k : Key) (xs : List Able) → Some k ≡ behind_at r n → AreBehind r n xs
-    → AreBehind r (n + 1) (xs ++ record { entry = n; key = k } ∷ [])
-behind_more r n k xs here tied i =
-    kept_snoc xs (record { entry = n; key = k }) i
-    ∙ ⊎_elim
-    (λ (same : i ≡ n). ap (λ b. cond b (Some k) (kept_behind xs i)) (eq-eqb n i (sym same)) ∙ here ∙ ap (behind_at r) (sym same)
-    ∙ sym (ap (λ b. cond b (behind_at r i) None) (lt-ltb i (n + 1) (omega (arith, same)))))
-    (λ apart. ap (λ b. cond b (Some k) (kept_behind xs i)) (ne_eqb n i (λ same. apart (sym same))) ∙ tied i ∙ apart_on r n i apart)
-    (cases_eq i n)
+pub behind_more : (r : PlainRecording) (n : ℕ) (xs : List ℕ) → AreBehind r n xs → AreBehind r (n + 1) (xs ++ n ∷ [])
+behind_more r n xs tied = record {
+  within = All-push (λ x. x < n + 1) xs n (later r n xs tied) (omega arith);
+  kept = λ i l. ⊎_elim
+      (λ (same : i ≡ n). subst (λ j. kept_behind r (xs ++ n ∷ []) j ≡ behind_at r j) (sym same) (snoc_here r xs n))
+      (λ apart. snoc_apart r xs n i apart ∙ tied.kept i (omega (arith, l, apart)))
+      (cases_eq i n);
+}
 
 -- the next entry has none
-pub behind_still : (r : PlainRecording) (n : ℕ) (xs : List Able) → None ≡ behind_at r n → AreBehind r n xs → AreBehind r (n + 1) xs
-behind_still r n xs here tied i =
-    tied i ∙ ⊎_elim
-    (λ (same : i ≡ n). ap (λ b. cond b (behind_at r i) None) (le-ltb i n (omega (arith, same))) ∙ here ∙ ap (behind_at r) (sym same)
-    ∙ sym (ap (λ b. cond b (behind_at r i) None) (lt-ltb i (n + 1) (omega (arith, same)))))
-    (λ apart. apart_on r n i apart)
-    (cases_eq i n)
-
--- ---- what is looked up
-
-abbrev pub no_able : Able
-no_able = record { entry = 0; key = record { role = 0; response = 0; station = 0; flag = 0; request = 0; site = 0; application = 0; entity = 0 } }
-
--- what is kept is of an entry
-kept_has : (xs : List Able) (j : ℕ) (d : Able) → j < length xs → is_some (kept_behind xs (get_or xs j d).entry) ≡ true
-kept_has [] j d l = absurd (omega (arith, l))
-kept_has (y ∷ ys) zero d l =
-    ap (λ b. is_some (option_or (kept_behind ys y.entry) (cond b (Some y.key) None))) (eq-eqb y.entry y.entry refl)
-    ∙ elim (kept_behind ys y.entry) as (λ o. is_some (option_or o (Some y.key)) ≡ true) [ None ↦ refl | Some k ↦ refl ]
-kept_has (y ∷ ys) (suc j) d l =
-    some_or (kept_behind ys (get_or ys j d).entry) (if nat_eq y.entry (get_or ys j d).entry then Some y.key else None) (kept_has ys j d (omega (arith, l)))
-  where
-    some_or : (o q : Option Key) → is_some o ≡ true → is_some (option_or o q) ≡ true
-    some_or None q e = absurd (cc)
-    some_or (Some k) q e = refl
-
-pub kept_within : (r : PlainRecording) (n j : ℕ) (xs : List Able) (d : Able) → AreBehind r n xs → j < length xs → (get_or xs j d).entry < n
-kept_within r n j xs d tied l =
-    let e : ℕ = (get_or xs j d).entry in
-    ⊎_elim
-    (λ (below : e < n). below)
-    (λ (past : n ≤ e). absurd (cc (sym (kept_has xs j d l) ∙ ap is_some (tied e ∙ ap (λ b. cond b (behind_at r e) None) (le-ltb e n past)))))
-    (cases_lt e n)
+pub behind_still : (r : PlainRecording) (n : ℕ) (xs : List ℕ) → None ≡ behind_at r n → AreBehind r n xs → AreBehind r (n + 1) xs
+behind_still r n xs here tied = record {
+  within = later r n xs tied;
+  kept = λ i l. ⊎_elim
+      (λ (same : i ≡ n). let none : behind_at r i ≡ None = ap (behind_at r) same ∙ sym here in kept_nothing r xs i none ∙ sym none)
+      (λ apart. tied.kept i (omega (arith, l, apart)))
+      (cases_eq i n);
+}
 
 -- THE CHANGE BEHIND AN ENTRY, BY ITS KEY
 pdu_by_key : (r : PlainRecording) (p : Pdu)
@@ -127,42 +121,49 @@ change_by_key r i =
     ]
 
 -- what the first so many that are kept say of an entry, looked up
-abbrev pub change_among : PlainRecording → List Able → ℕ → Option ℕ
-change_among r xs i = option_and_then (λ k. first_under r k (length r.entries)) (kept_behind xs i)
+abbrev pub change_among : PlainRecording → List ℕ → ℕ → Option ℕ
+change_among r xs i = option_and_then (λ k. first_under r k (length r.entries)) (kept_behind r xs i)
 
 -- one more is looked up
-pub among_more : (r : PlainRecording) (m : ℕ) (xs : List Able) (x : Able) (number : ℕ) (old new : List ℕ)
-    → length r.entries ≤ 1048576 → number ≡ entry_number (first_under r x.key (length r.entries))
-    → length new ≡ length old → ((j : ℕ) → slice_index_or new j 0 ≡ (if nat_eq j x.entry then number else slice_index_or old j 0))
+pub among_more : (r : PlainRecording) (m : ℕ) (xs : List ℕ) (x : ℕ) (k : Key) (number : ℕ) (old new : List ℕ)
+    → length r.entries ≤ 1048576 → Some k ≡ behind_at r x → number ≡ entry_number (first_under r k (length r.entries))
+    → length new ≡ length old → ((j : ℕ) → slice_index_or new j 0 ≡ (if nat_eq j x then number else slice_index_or old j 0))
     → IsColumn 0 (IsNumberOf (change_among r xs)) m old → IsColumn 0 (IsNumberOf (change_among r (xs ++ x ∷ []))) m new
-among_more r m xs x number old new few is count written column = record {
-  count = count ∙ column.count;
-  each = λ j l.
-      let look : Option Key → Option ℕ = option_and_then (λ k. first_under r k (length r.entries)) in
-      ap entry_of (written j)
-      ∙ ⊎_elim
-      (λ (same : j ≡ x.entry). ap (λ b. entry_of (cond b number (slice_index_or old j 0))) (eq-eqb j x.entry same)
-      ∙ ap entry_of is ∙ number_back (first_under r x.key (length r.entries)) (bounded (first_under r x.key (length r.entries)) (under_earlier r x.key (length r.entries)))
-      ∙ sym (ap look (kept_snoc xs x j ∙ ap (λ b. cond b (Some x.key) (kept_behind xs j)) (eq-eqb x.entry j (sym same)))))
-      (λ apart. ap (λ b. entry_of (cond b number (slice_index_or old j 0))) (ne_eqb j x.entry apart)
-      ∙ column.each j l
-      ∙ sym (ap look (kept_snoc xs x j ∙ ap (λ b. cond b (Some x.key) (kept_behind xs j)) (ne_eqb x.entry j (λ same. apart (sym same))))))
-      (cases_eq j x.entry);
-}
+among_more r m xs x k number old new few at is count written column =
+    let look : Option Key → Option ℕ = option_and_then (λ k. first_under r k (length r.entries)) in
+    record {
+      count = count ∙ column.count;
+      each = λ j l. ⊎_elim
+          (λ (same : j ≡ x). subst (λ i. IsNumberOf (change_among r (xs ++ x ∷ [])) i (slice_index_or new i 0)) (sym same)
+          (ap entry_of (written_here x number old new written ∙ is)
+          ∙ number_back (first_under r k (length r.entries)) (bounded (first_under r k (length r.entries)) (under_earlier r k (length r.entries)))
+          ∙ ap look at ∙ sym (ap look (snoc_here r xs x))))
+          (λ apart. ap entry_of (written_apart x number old new written j apart) ∙ column.each j l ∙ sym (ap look (snoc_apart r xs x j apart)))
+          (cases_eq j x);
+    }
   where
     bounded : (o : Option ℕ) → IfSome o (λ e. e < length r.entries) → IfSome o (λ e. e < 4294967295)
     bounded None l = tt
     bounded (Some e) l = omega (arith, l, few)
 
+-- one more has no change behind it
+pub among_still : (r : PlainRecording) (m : ℕ) (xs : List ℕ) (x : ℕ) (numbers : List ℕ) → None ≡ behind_at r x
+    → IsColumn 0 (IsNumberOf (change_among r xs)) m numbers → IsColumn 0 (IsNumberOf (change_among r (xs ++ x ∷ []))) m numbers
+among_still r m xs x numbers none column = record {
+  count = column.count;
+  each = λ j l. column.each j l ∙ ap (option_and_then (λ k. first_under r k (length r.entries))) (⊎_elim
+      (λ (same : j ≡ x). let at : behind_at r j ≡ None = ap (behind_at r) same ∙ sym none in
+      kept_nothing r xs j at ∙ sym (kept_nothing r (xs ++ x ∷ []) j at))
+      (λ apart. sym (snoc_apart r xs x j apart))
+      (cases_eq j x));
+}
+
 -- all are looked up
-pub among_all : (r : PlainRecording) (xs : List Able) (numbers : List ℕ) → AreBehind r (length r.entries) xs
+pub among_all : (r : PlainRecording) (xs : List ℕ) (numbers : List ℕ) → AreBehind r (length r.entries) xs
     → IsColumn 0 (IsNumberOf (change_among r xs)) (length r.entries) numbers → IsColumn 0 (IsNumberOf (change_behind r)) (length r.entries) numbers
 among_all r xs numbers tied column = record {
   count = column.count;
-  each = λ j l.
-      column.each j l
-      ∙ ap (option_and_then (λ k. first_under r k (length r.entries))) (tied j ∙ ap (λ b. cond b (behind_at r j) None) (lt-ltb j (length r.entries) l))
-      ∙ change_by_key r j;
+  each = λ j l. column.each j l ∙ ap (option_and_then (λ k. first_under r k (length r.entries))) (tied.kept j l) ∙ change_by_key r j;
 }
 
 -- there is none past the last entry

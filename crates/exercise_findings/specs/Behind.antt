@@ -1,5 +1,5 @@
--- The changes behind the Ables that stations receive: what each is looked up by, kept until all entries are known (profile).
-use Rattle.std.specs.Prelude.{◌≡◌, ℕ, List, [], ◌∷◌, ◌==◌, nat_lt, Option, Some, None, option_map, option_and_then, slice_get, if◌then◌else◌}
+-- The changes behind the Ables that stations receive: which entries have one, kept until all entries are known (profile).
+use Rattle.std.specs.Prelude.{◌≡◌, ◌<◌, ℕ, List, [], ◌∷◌, ◌==◌, All, Option, None, option_map, option_and_then, slice_get, if◌then◌else◌}
 use Rattle.std.specs.Option.{option_or}
 use Rattle.siman_pdus.specs.declared.pdu.Pdu.{Pdu}
 use Rattle.exercise_model.specs.declared.acknowledge.AcknowledgeKey.{AcknowledgeKey}
@@ -9,7 +9,6 @@ use Rattle.exercise_model.specs.Meaning.{meaning}
 use Rattle.exercise_model.specs.Change.{able, responds, key_of}
 use Rattle.exercise_model.specs.Account.{sender_of}
 use Rattle.exercise_findings.specs.declared.key.Key.{Key}
-use Rattle.exercise_findings.specs.declared.behind.Able.{Able}
 use Rattle.exercise_findings.specs.Firsts.{acknowledged_key}
 
 -- the key of the Ables of this sender under k
@@ -30,11 +29,12 @@ event_behind r (Tell s e y) = None
 unfoldable pub behind_at : PlainRecording → ℕ → Option Key
 behind_at r i = option_and_then (λ e. event_behind r (event_of e)) (slice_get r.entries i)
 
--- what the change behind entry i is looked up by, among what is kept
-abbrev pub kept_behind : List Able → ℕ → Option Key
-kept_behind [] i = None
-kept_behind (x ∷ xs) i = option_or (kept_behind xs i) (if x.entry == i then Some x.key else None)
+-- the same, where entry i is among those that are kept
+abbrev pub kept_behind : PlainRecording → List ℕ → ℕ → Option Key
+kept_behind r [] i = None
+kept_behind r (x ∷ xs) i = option_or (kept_behind r xs i) (if x == i then behind_at r i else None)
 
--- THE TIE: for each entry below n it is kept what the change behind it is looked up by, and for no other
-abbrev pub AreBehind : PlainRecording → ℕ → List Able → Type 0
-AreBehind r n ables = (i : ℕ) → kept_behind ables i ≡ (if nat_lt i n then behind_at r i else None)
+-- THE TIE: only entries below n are kept, and each of them behind which there is something to look up
+pub record AreBehind (r : PlainRecording) (n : ℕ) (ables : List ℕ) : Type 0 where
+  pub within : All (λ x. x < n) ables
+  pub kept : (i : ℕ) → i < n → kept_behind r ables i ≡ behind_at r i

@@ -43,7 +43,13 @@ fn states_and_changes<L: ExerciseLog>(
     ensures states { let r = L.recording log.now in IfOk result (λ told. map (λ v. v.items) told.0.items ≡ values_below (entities_of r) (length r.setting.stations)) }
     ensures changes { let r = L.recording log.now in IfOk result (λ told. IsColumn 0 (IsNumberOf (change_behind r)) (length r.entries) told.1.items) }
 {
-    let changes = changes_behind(alloc, log, &found.tables.firsts, &found.ables)?;
+    let changes = changes_behind(
+        alloc,
+        log,
+        &found.tables.firsts,
+        &found.places,
+        &found.ables,
+    )?;
     let states = states(alloc, log, &found.tables)?;
     Ok((states, changes))
 }

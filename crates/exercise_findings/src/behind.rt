@@ -1,6 +1,6 @@
-//! The changes behind the Ables that stations receive. What each is looked up by is kept in the pass
-//! over the log, and it is looked up once all entries are known, so that no datagram is looked at
-//! twice.
+//! The changes behind the Ables that stations receive. Which entries have one is kept in the pass over
+//! the log, as their numbers alone. Once all entries are known, what each change is looked up by is read
+//! from the log again, and it is looked up.
 
 ghost use Rattle.std.specs.Prelude.{◌≡◌, ◌<◌, ◌+◌, length, OnOk, IfOk};
 ghost use Rattle.siman_pdus.specs.Reading.{pdu_of};
@@ -15,18 +15,10 @@ use crate::firsts::{Firsts, first_near};
 use crate::hint::Hint;
 use crate::key::{Key, acknowledged_key};
 use crate::number::{NO_ENTRY, entry_number};
-use exercise_model::{ExerciseLog, key_of, responds};
+use crate::sender::{Places, sender_of};
+use exercise_model::{EntryView, ExerciseLog, key_of, meaning_view, responds};
 use siman_pdus::{ABLE, PduView};
 use std::alloc::{AllocError, Global};
-
-/// An entry that receives an Able Acknowledge of a recorded station.
-#[derive(Clone, Copy)]
-pub(crate) struct Able {
-    /// Its number.
-    pub entry: u32,
-    /// What the change behind it is looked up by.
-    pub key: Key,
-}
 
 /// What the change behind a PDU is looked up by, where it is an Able Acknowledge of this sender.
 pub(crate) fn key_behind(sender: Option<u16>, pdu: &PduView<'_>) -> Option<Key>
@@ -41,9 +33,24 @@ pub(crate) fn key_behind(sender: Option<u16>, pdu: &PduView<'_>) -> Option<Key>
     }
 }
 
-/// Keeps what the change behind the next entry is looked up by, where there is one.
+/// What the change behind an entry is looked up by, where there is one.
+#[tactic(auto, unfolding(crate::specs::Behind::behind_at))]
+fn key_behind_at<L: ExerciseLog>(log: &L, places: &Places, entry: usize) -> Option<Key>
+    requires { entry < length (L.recording log.now).entries }
+    ensures { result ≡ behind_at (L.recording log.now) entry }
+{
+    match log.entry(entry) {
+        EntryView::Received { bytes, .. } => match meaning_view(log.exercise(), bytes) {
+            Some(pdu) => key_behind(sender_of(log, places, &pdu), &pdu),
+            None => None,
+        },
+        EntryView::Sent { .. } | EntryView::Told { .. } => None,
+    }
+}
+
+/// Keeps the next entry, where there is something that the change behind it is looked up by.
 pub(crate) fn note_behind<L: ExerciseLog>(
-    ables: &mut Vec<Able>,
+    ables: &mut Vec<u32>,
     log: &L,
     entry: usize,
     behind: Option<Key>,
@@ -55,9 +62,8 @@ pub(crate) fn note_behind<L: ExerciseLog>(
     ensures { OnOk result (AreBehind (L.recording log.now) (entry + 1) ables.new.items) }
 {
     match behind {
-        Some(key) => {
-            let entry = entry as u32;
-            ables.push(Able { entry, key })?;
+        Some(_) => {
+            ables.push(entry as u32)?;
             Ok(())
         }
         None => Ok(()),
@@ -69,7 +75,8 @@ pub(crate) fn changes_behind<L: ExerciseLog>(
     alloc: Global,
     log: &L,
     firsts: &Firsts,
-    ables: &[Able],
+    places: &Places,
+    ables: &[u32],
 ) -> Result<Vec<u32>, AllocError>
     requires firsts { let r = L.recording log.now in AreFirsts r (length r.entries) firsts.now }
     requires ables { let r = L.recording log.now in AreBehind r (length r.entries) ables.now }
@@ -79,8 +86,11 @@ pub(crate) fn changes_behind<L: ExerciseLog>(
     let mut changes = vec![in alloc; NO_ENTRY; end]?;
     let mut hint = Hint::new();
     for able in ables {
-        let change = entry_number(first_near(firsts, log, &able.key, end, &mut hint));
-        replace(&mut changes, able.entry as usize, change);
+        let entry = *able as usize;
+        if let Some(key) = key_behind_at(log, places, entry) {
+            let change = entry_number(first_near(firsts, log, &key, end, &mut hint));
+            replace(&mut changes, entry, change);
+        }
     }
     Ok(changes)
 }

@@ -8,7 +8,7 @@ ghost use Rattle.exercise_findings.specs.Senders.{AreSenders};
 ghost use Rattle.exercise_findings.specs.Sent.{Sends, Receives};
 ghost use Rattle.exercise_findings.specs.Tables.{IsPass, AreFound, AreFindings};
 
-use crate::behind::{Able, note_behind};
+use crate::behind::note_behind;
 use crate::cause::judge_told;
 use crate::earlier::{Looks, all_earlier, earlier_so_far, settle_source};
 use crate::first_sends::{FirstSends, hash_all, no_sends, note_send};
@@ -44,8 +44,8 @@ pub(crate) struct Pass {
     pub earlier: Vec<u32>,
     /// How sources were looked for.
     pub looks: Looks,
-    /// What the changes behind the Ables that were received are looked up by.
-    pub ables: Vec<Able>,
+    /// The entries that received an Able behind which there is a change to look up.
+    pub ables: Vec<u32>,
     /// The entry by which each datagram was sent first by the station that it comes from.
     pub sends: FirstSends,
     /// How many datagrams are "other".
@@ -54,6 +54,8 @@ pub(crate) struct Pass {
 
 /// What all entries were found to be.
 pub(crate) struct Passed {
+    /// Where the stations stand.
+    pub places: Places,
     /// What is kept of the entries.
     pub tables: Tables,
     /// The first cause that its station's log has against each entry.
@@ -68,8 +70,8 @@ pub(crate) struct Passed {
     pub senders: Option<Senders>,
     /// Where sources are looked for first.
     pub hints: Hints,
-    /// What the changes behind the Ables that were received are looked up by.
-    pub ables: Vec<Able>,
+    /// The entries that received an Able behind which there is a change to look up.
+    pub ables: Vec<u32>,
     /// How many datagrams are "other".
     pub others: u32,
 }
@@ -78,6 +80,7 @@ pub(crate) struct Passed {
 impl Drop for Passed {
     fn drop(self) {
         let Passed {
+            places: _places,
             tables: _tables,
             causes: _causes,
             changes: _changes,
@@ -98,6 +101,7 @@ impl Passed {
         ensures others { result.1 ≡ self.others }
     {
         let Passed {
+            places: _places,
             tables: _tables,
             causes: _causes,
             changes: _changes,
@@ -281,6 +285,7 @@ fn with_sources<L: ExerciseLog>(log: &L, pass: Pass, hints: Hints) -> Passed
     ensures { AreFound (L.recording log.now) result }
 {
     let Pass {
+        places,
         tables,
         causes,
         changes,
@@ -290,6 +295,7 @@ fn with_sources<L: ExerciseLog>(log: &L, pass: Pass, hints: Hints) -> Passed
         ..
     } = pass;
     Passed {
+        places,
         tables,
         causes,
         changes,
@@ -309,6 +315,7 @@ fn with_all_sources<L: ExerciseLog>(log: &L, pass: Pass, hints: Hints) -> Passed
     ensures { AreFound (L.recording log.now) result }
 {
     let Pass {
+        places,
         tables,
         causes,
         changes,
@@ -320,6 +327,7 @@ fn with_all_sources<L: ExerciseLog>(log: &L, pass: Pass, hints: Hints) -> Passed
     } = pass;
     let mut hints = hints;
     Passed {
+        places,
         tables,
         causes,
         changes,
@@ -338,6 +346,7 @@ fn with_senders<L: ExerciseLog>(log: &L, pass: Pass, hints: Hints) -> Passed
     ensures { AreFound (L.recording log.now) result }
 {
     let Pass {
+        places,
         tables,
         causes,
         changes,
@@ -348,6 +357,7 @@ fn with_senders<L: ExerciseLog>(log: &L, pass: Pass, hints: Hints) -> Passed
         ..
     } = pass;
     Passed {
+        places,
         tables,
         causes,
         changes,

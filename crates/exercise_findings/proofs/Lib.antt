@@ -1,5 +1,6 @@
 mod Keyed
 mod Columns
+mod ChangeNumbers
 mod Ables
 mod Recorded
 mod Changed

@@ -1,4 +1,5 @@
 pub mod Number
+pub mod ChangeNumber
 pub mod Column
 pub mod Sent
 pub mod Slots

@@ -2,7 +2,6 @@
 use Rattle.std.specs.Prelude.{◌≡◌, ◌≤◌, ℕ, Bool, true, false, [], length, take, slice_get, Option, None, IfSome, IfNone, option_and_then}
 use Rattle.std.specs.Option.{option_map_or}
 use Rattle.exercise_model.specs.declared.cause.Cause.{Cause}
-use Rattle.exercise_model.specs.declared.state.Change.{Change}
 use Rattle.exercise_model.specs.Recording.{PlainRecording, IsRecording}
 use Rattle.exercise_model.specs.History.{Event, Send, Get, Tell, event_of, station_at}
 use Rattle.exercise_model.specs.Meaning.{meaning}
@@ -15,6 +14,7 @@ use Rattle.exercise_findings.specs.declared.pass.Pass.{Pass}
 use Rattle.exercise_findings.specs.declared.pass.Passed.{Passed}
 use Rattle.exercise_findings.specs.declared.found.Found.{Found}
 use Rattle.exercise_findings.specs.Firsts.{key_at, AreFirsts}
+use Rattle.exercise_findings.specs.ChangeNumber.{change_in}
 use Rattle.exercise_findings.specs.Column.{IsColumn}
 use Rattle.exercise_findings.specs.Behind.{behind_at, AreBehind}
 use Rattle.exercise_findings.specs.Source.{source_at}
@@ -40,8 +40,9 @@ own_cause r j = option_and_then (λ e. event_own_cause r j (event_of e)) (slice_
 abbrev pub IsOwnCause : PlainRecording → ℕ → Option Cause → Type 0
 IsOwnCause r j cause = cause ≡ own_cause r j
 
-abbrev pub IsChangeAt : PlainRecording → ℕ → Option Change → Type 0
-IsChangeAt r j change = change ≡ change_at r j
+-- a number that stands for what entry j changes
+abbrev pub IsChangeAt : PlainRecording → ℕ → ℕ → Type 0
+IsChangeAt r j number = change_in number ≡ change_at r j
 
 -- the datagram of entry j is "other"
 unfoldable pub other_at : PlainRecording → ℕ → Bool
@@ -62,7 +63,7 @@ pub record IsFound (r : PlainRecording) (n : ℕ) (f : Found) : Type 0 where
 pub record IsPass (r : PlainRecording) (n : ℕ) (f : Pass) : Type 0 where
   pub tied : AreTied r n f.tables
   pub causes : IsColumn None (IsOwnCause r) n f.causes.items
-  pub changes : IsColumn None (IsChangeAt r) n f.changes.items
+  pub changes : IsColumn 0 (IsChangeAt r) n f.changes.items
   pub earlier : IsColumn 0 (IsSoFarAt r) n f.earlier.items
   pub later : f.looks.later ≡ 0 → IsColumn 0 (IsEarlierAt r) n f.earlier.items
   pub ables : AreBehind r n f.ables.items
@@ -74,7 +75,7 @@ pub record IsPass (r : PlainRecording) (n : ℕ) (f : Pass) : Type 0 where
 pub record AreFound (r : PlainRecording) (f : Passed) : Type 0 where
   pub tied : AreTied r (length r.entries) f.tables
   pub causes : IsColumn None (IsOwnCause r) (length r.entries) f.causes.items
-  pub changes : IsColumn None (IsChangeAt r) (length r.entries) f.changes.items
+  pub changes : IsColumn 0 (IsChangeAt r) (length r.entries) f.changes.items
   pub earlier : IsColumn 0 (IsSoFarAt r) (length r.entries) f.earlier.items
   pub senders : IfSome f.senders (AreSenders r (length r.entries))
   pub sources : IfNone f.senders (IsColumn 0 (IsEarlierAt r) (length r.entries) f.earlier.items)

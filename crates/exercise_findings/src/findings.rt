@@ -12,6 +12,7 @@ ghost use Rattle.exercise_findings.specs.Tables.{AreFindings, own_cause};
 
 use crate::account::Account;
 use crate::accounting::{account, states};
+use crate::change_number::change_in;
 use crate::earlier::{request_in, source_kept};
 use crate::made::state_made_before;
 use crate::pass::{Passed, find, settle};
@@ -106,7 +107,7 @@ impl<'a, L: ExerciseLog> Findings<'a, L> {
         ensures { result ≡ change_at self.now entry }
     {
         match self.found.changes.get(entry) {
-            Some(change) => *change,
+            Some(number) => change_in(*number),
             None => None,
         }
     }

@@ -15,6 +15,7 @@ mod accounting;
 mod behind;
 mod cause;
 mod change;
+mod change_number;
 mod column;
 mod earlier;
 mod exchange;

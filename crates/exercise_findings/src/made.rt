@@ -1,6 +1,6 @@
 //! The state of an entity at a place, by the changes that were found while a log was passed.
 
-ghost use Rattle.std.specs.Prelude.{◌≡◌, ◌<◌, ◌≤◌, length, None, option_and_then};
+ghost use Rattle.std.specs.Prelude.{◌≡◌, ◌<◌, ◌≤◌, length, option_and_then};
 ghost use Rattle.std.specs.Option.{option_map_or};
 ghost use Rattle.exercise_model.specs.History.{station_at};
 ghost use Rattle.exercise_model.specs.State.{change_made, changed, state_after};
@@ -8,6 +8,7 @@ ghost use Rattle.exercise_model.specs.Place.{log_before, own_event};
 ghost use Rattle.exercise_findings.specs.Column.{IsColumn};
 ghost use Rattle.exercise_findings.specs.Tables.{IsChangeAt};
 
+use crate::change_number::change_in;
 use dis_records::EntityState;
 use exercise_model::{Change, ExerciseLog, is_entity, listed_state, scope_has, state_made};
 
@@ -24,16 +25,16 @@ fn changed(entity: u16, state: EntityState, change: Option<Change>) -> EntitySta
 /// What an entry of a station changes, where it is one of this station.
 fn own_change<L: ExerciseLog>(
     log: &L,
-    changes: &[Option<Change>],
+    changes: &[u32],
     station: u16,
     entry: usize,
 ) -> Option<Change>
     requires within { entry < length (L.recording log.now).entries }
-    requires changes { let r = L.recording log.now in IsColumn None (IsChangeAt r) (length r.entries) changes.now }
+    requires changes { let r = L.recording log.now in IsColumn 0 (IsChangeAt r) (length r.entries) changes.now }
     ensures { let r = L.recording log.now in result ≡ option_and_then (change_made r.setting.exercise (station_at r station) (log_before r station entry)) (own_event r station entry) }
 {
     if log.entry(entry).station() == station {
-        changes[entry]
+        change_in(changes[entry])
     } else {
         None
     }
@@ -42,14 +43,14 @@ fn own_change<L: ExerciseLog>(
 /// The state of an entity of a station before an entry.
 pub(crate) fn state_made_before<L: ExerciseLog>(
     log: &L,
-    changes: &[Option<Change>],
+    changes: &[u32],
     station: u16,
     entity: u16,
     before: usize,
 ) -> EntityState
     requires at { station < length (L.recording log.now).setting.stations }
     requires within { before ≤ length (L.recording log.now).entries }
-    requires changes { let r = L.recording log.now in IsColumn None (IsChangeAt r) (length r.entries) changes.now }
+    requires changes { let r = L.recording log.now in IsColumn 0 (IsChangeAt r) (length r.entries) changes.now }
     ensures { let r = L.recording log.now in result ≡ state_after r.setting.exercise (station_at r station) (log_before r station before) entity }
 {
     if !is_entity(entity) {

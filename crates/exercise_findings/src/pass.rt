@@ -10,6 +10,7 @@ ghost use Rattle.exercise_findings.specs.Tables.{IsPass, AreFound, AreFindings};
 
 use crate::behind::note_behind;
 use crate::cause::judge_told;
+use crate::change_number::{NO_CHANGE, change_number};
 use crate::earlier::{Looks, all_earlier, earlier_so_far, settle_source};
 use crate::first_sends::{FirstSends, hash_all, no_sends, note_send};
 use crate::found::{find_received, find_sent};
@@ -20,7 +21,7 @@ use crate::sender::{Places, places_of};
 use crate::senders::{Hints, Senders, no_hints};
 use crate::tables::{Tables, no_tables, note_key, note_tables};
 use dis_records::EntityState;
-use exercise_model::{Cause, Change, EntryView, ExerciseLog};
+use exercise_model::{Cause, EntryView, ExerciseLog};
 use std::alloc::{AllocError, Global};
 
 /// One source of so many entries that is yet to be found is many.
@@ -37,8 +38,8 @@ pub(crate) struct Pass {
     pub answers: Hint,
     /// The first cause that its station's log has against each entry.
     pub causes: Vec<Option<Cause>>,
-    /// What each entry changes at its station.
-    pub changes: Vec<Option<Change>>,
+    /// The number of what each entry changes at its station.
+    pub changes: Vec<u32>,
     /// The number of what each entry goes back to: of an answer the request that it takes up, of
     /// what was received its source, where that was found.
     pub earlier: Vec<u32>,
@@ -60,8 +61,8 @@ pub(crate) struct Passed {
     pub tables: Tables,
     /// The first cause that its station's log has against each entry.
     pub causes: Vec<Option<Cause>>,
-    /// What each entry changes at its station.
-    pub changes: Vec<Option<Change>>,
+    /// The number of what each entry changes at its station.
+    pub changes: Vec<u32>,
     /// The number of what each entry goes back to. Sources are yet to be found where it is kept where
     /// each datagram was sent first.
     pub earlier: Vec<u32>,
@@ -177,7 +178,7 @@ fn keep_sent<L: ExerciseLog>(
     } = found;
     let here = find_sent(log, tables, requests, answers, entry, station, bytes)?;
     found.causes.push(here.cause)?;
-    found.changes.push(here.change)?;
+    found.changes.push(change_number(here.change))?;
     found.earlier.push(entry_number(here.pair))?;
     found.others += one_if(here.other);
     let first = note_tables(&mut found.tables, log, entry, here.change, here.key)?;
@@ -203,7 +204,7 @@ fn keep_received<L: ExerciseLog>(
 {
     let here = find_received(log, &found.places, entry, station, bytes);
     found.causes.push(here.cause)?;
-    found.changes.push(here.change)?;
+    found.changes.push(change_number(here.change))?;
     let earlier = earlier_so_far(&mut found.sends, &mut found.looks, log, entry, bytes)?;
     found.earlier.push(earlier)?;
     found.others += one_if(here.other);
@@ -230,7 +231,7 @@ fn keep_told<L: ExerciseLog>(
 {
     let cause = judge_told(log, &found.tables, station, entry, entity, state);
     found.causes.push(cause)?;
-    found.changes.push(None)?;
+    found.changes.push(NO_CHANGE)?;
     found.earlier.push(NO_ENTRY)?;
     Ok(())
 }

@@ -9,7 +9,8 @@ use Rattle.exercise_findings.proofs.made.own_change.Goals as goal
 pub returns-then-station : goal.returns-then-station
 returns-then-station g c =
     let r = g.L.ExerciseLog.recording c.args.log.now in
-    (c.requires.changes.each c.args.entry c.requires.within)
+    c.change_in.ensures
+    ∙ c.requires.changes.each c.args.entry c.requires.within
     ∙ sym (own_of r c.args.station c.args.entry (shown c.entry.result) c.entry.ensures.entry
     ∙ ap (λ b. if b then change_at r c.args.entry else None) (eq-eqb _ _ (sym c.station.ensures ∙ c.if-station.true)))
 

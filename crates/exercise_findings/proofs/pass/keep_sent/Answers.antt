@@ -1,7 +1,6 @@
 use Rattle.std.proofs.Common.{◌≡◌, ◌+◌, ℕ, List, Option, Some, None, cond, sym, ap, ◌∙◌, subst, arith}
 use Rattle.std.specs.Prelude.{slice_get}
 use Rattle.exercise_model.specs.declared.cause.Cause.{Cause}
-use Rattle.exercise_model.specs.declared.state.Change.{Change}
 use Rattle.exercise_model.specs.Entry.{Entry, Sent}
 use Rattle.exercise_findings.specs.Column.{IsColumn}
 use Rattle.exercise_findings.specs.Number.{entry_number}
@@ -45,8 +44,8 @@ returns-clause-found g c =
       tied = c.in_ok-first.ensures.tied;
       causes = subst (λ (xs : List (Option Cause)). IsColumn None (IsOwnCause r) (n + 1) xs) (sym c.in_ok-push.ensures.items)
           (column_more None (IsOwnCause r) n _ c.in_ok-here.here.cause was.causes here.cause);
-      changes = subst (λ (xs : List (Option Change)). IsColumn None (IsChangeAt r) (n + 1) xs) (sym c.in_ok-push-2.ensures.items)
-          (column_more None (IsChangeAt r) n _ c.in_ok-here.here.change was.changes here.change);
+      changes = subst (λ (xs : List ℕ). IsColumn 0 (IsChangeAt r) (n + 1) xs) (sym c.in_ok-push-2.ensures.items)
+          (column_more 0 (IsChangeAt r) n _ c.change_number.result was.changes (c.change_number.ensures ∙ here.change));
       earlier = subst (λ (xs : List ℕ). IsColumn 0 (IsSoFarAt r) (n + 1) xs) (sym c.in_ok-push-3.ensures.items)
           (column_more 0 (IsSoFarAt r) n _ c.entry_number.result was.earlier (known_so_far r n c.entry_number.result earlier));
       later = λ none. subst (λ (xs : List ℕ). IsColumn 0 (IsEarlierAt r) (n + 1) xs) (sym c.in_ok-push-3.ensures.items)

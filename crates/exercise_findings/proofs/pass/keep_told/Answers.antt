@@ -1,6 +1,5 @@
 use Rattle.std.proofs.Common.{◌+◌, ℕ, List, Option, None, cond, refl, sym, ap, subst, arith}
 use Rattle.exercise_model.specs.declared.cause.Cause.{Cause}
-use Rattle.exercise_model.specs.declared.state.Change.{Change}
 use Rattle.exercise_model.specs.Entry.{Told}
 use Rattle.exercise_findings.specs.Column.{IsColumn}
 use Rattle.exercise_findings.specs.Earlier.{IsEarlierAt, IsSoFarAt}
@@ -31,8 +30,8 @@ returns g c =
       };
       causes = subst (λ (xs : List (Option Cause)). IsColumn None (IsOwnCause r) (n + 1) xs) (sym c.in_ok-push.ensures.items)
           (column_more None (IsOwnCause r) n _ c.judge_told-cause.result was.causes here.cause);
-      changes = subst (λ (xs : List (Option Change)). IsColumn None (IsChangeAt r) (n + 1) xs) (sym c.in_ok-push-2.ensures.items)
-          (column_more None (IsChangeAt r) n _ None was.changes here.change);
+      changes = subst (λ (xs : List ℕ). IsColumn 0 (IsChangeAt r) (n + 1) xs) (sym c.in_ok-push-2.ensures.items)
+          (column_more 0 (IsChangeAt r) n _ 0 was.changes here.change);
       earlier = subst (λ (xs : List ℕ). IsColumn 0 (IsSoFarAt r) (n + 1) xs) (sym c.in_ok-push-3.ensures.items)
           (column_more 0 (IsSoFarAt r) n _ 4294967295 was.earlier (known_so_far r n 4294967295 earlier));
       later = λ none. subst (λ (xs : List ℕ). IsColumn 0 (IsEarlierAt r) (n + 1) xs) (sym c.in_ok-push-3.ensures.items)

@@ -1,6 +1,5 @@
 use Rattle.std.proofs.Common.{ℕ, List, Option, None, refl, sym, subst, arith}
 use Rattle.exercise_model.specs.declared.cause.Cause.{Cause}
-use Rattle.exercise_model.specs.declared.state.Change.{Change}
 use Rattle.exercise_findings.specs.Column.{IsColumn}
 use Rattle.exercise_findings.specs.Behind.{AreBehind}
 use Rattle.exercise_findings.specs.Earlier.{IsEarlierAt, IsSoFarAt}
@@ -15,7 +14,7 @@ returns g c =
     record {
       tied = c.in_ok-tables.ensures;
       causes = subst (λ (xs : List (Option Cause)). IsColumn None (IsOwnCause r) 0 xs) (sym c.in_ok-causes.ensures.items) (column_none None (IsOwnCause r));
-      changes = subst (λ (xs : List (Option Change)). IsColumn None (IsChangeAt r) 0 xs) (sym c.in_ok-changes.ensures.items) (column_none None (IsChangeAt r));
+      changes = subst (λ (xs : List ℕ). IsColumn 0 (IsChangeAt r) 0 xs) (sym c.in_ok-changes.ensures.items) (column_none 0 (IsChangeAt r));
       earlier = subst (λ (xs : List ℕ). IsColumn 0 (IsSoFarAt r) 0 xs) (sym c.in_ok-earlier.ensures.items) (column_none 0 (IsSoFarAt r));
       later = λ _. subst (λ (xs : List ℕ). IsColumn 0 (IsEarlierAt r) 0 xs) (sym c.in_ok-earlier.ensures.items) (column_none 0 (IsEarlierAt r));
       ables = subst (λ (xs : List ℕ). AreBehind r 0 xs) (sym c.new.ensures.items) (behind_none r);

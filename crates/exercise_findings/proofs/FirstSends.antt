@@ -244,9 +244,11 @@ all_hashed r n s all tied = record {
     };
     order = λ i e at.
         let source = (tied.each i e at).source in
-        let sent = sent_at r e source in
-        (datagram_hash sent.1.1.0, tied.reached sent.1.1.0 i e (omega (arith, all, slice_get_within s.kept.order.items i e at)) at
-        (source_is r e sent.0 sent.1.0 sent.1.1.0 sent.1.1.1 source));
+        let sent = sent_at r e source in (
+          datagram_hash sent.1.1.0,
+          tied.reached sent.1.1.0 i e (omega (arith, all, slice_get_within s.kept.order.items i e at)) at
+              (source_is r e sent.0 sent.1.0 sent.1.1.0 sent.1.1.1 source),
+        );
   };
   sources = λ e stands. let at = tied.only e stands in (tied.each at.0 e at.1).source;
 }

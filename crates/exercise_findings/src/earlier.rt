@@ -11,8 +11,8 @@ ghost use Rattle.exercise_findings.specs.Sent.{Receives};
 ghost use Rattle.exercise_findings.specs.Source.{first_source, source_of};
 
 use crate::column::replace;
-use crate::number::NO_ENTRY;
 use crate::first_sends::{FirstSends, latest_source};
+use crate::number::NO_ENTRY;
 use crate::senders::{Hints, Senders, first_source, next_source};
 use exercise_model::{EntryView, ExerciseLog};
 use std::alloc::AllocError;

@@ -3,7 +3,7 @@ use Rattle.std.proofs.Common.{◌≡◌, ℕ, ◌<◌, ◌≤◌, ◌+◌, List,
 use Rattle.std.specs.Prelude.{IfSome, slice_get, option_and_then, is_none, if◌then◌else◌}
 use Rattle.std.specs.Option.{option_map_or}
 use Rattle.dis_records.specs.declared.entity_state.EntityState.{EntityState}
-use Rattle.std.proofs.lemmas.Option.{slice_get_cases, slice_get_past}
+use Rattle.std.proofs.lemmas.Option.{same_Some, slice_get_cases, slice_get_past}
 use Rattle.std.proofs.Math.Seq.{take-length}
 use Rattle.siman_pdus.specs.declared.pdu.Pdu.{Pdu}
 use Rattle.exercise_model.specs.Entry.{Entry, Sent, Received, Told}
@@ -23,7 +23,10 @@ use Rattle.exercise_findings.specs.Number.{entry_number, entry_of}
 use Rattle.exercise_findings.proofs.Columns.{number_back}
 use Rattle.exercise_findings.proofs.Keyed.{taken_earlier}
 use Rattle.exercise_findings.proofs.Sources.{unmeant, sent_from}
-use Rattle.exercise_findings.specs.Firsts.{sent_key, received_key, event_key, key_at}
+use Rattle.exercise_model.specs.Change.{able, unable, responds, key_of}
+use Rattle.exercise_findings.specs.declared.key.Key.{Key}
+use Rattle.exercise_findings.specs.Hashed.{key_base}
+use Rattle.exercise_findings.specs.Firsts.{acknowledged_key, answer_base, sent_key, received_key, event_key, key_at}
 use Rattle.exercise_findings.specs.Behind.{key_behind, event_behind, behind_at}
 use Rattle.exercise_findings.specs.Requests.{IsSendOf}
 use Rattle.exercise_findings.specs.Source.{source_by, source_at}
@@ -88,12 +91,13 @@ pair_number r n few = number_back (pair_of r n) (below (pair_of r n) n 429496729
 
 found : (r : PlainRecording) (n : ℕ) (e : Entry) (f : Found) → slice_get r.entries n ≡ Some e → f.cause ≡ event_own_cause r n (event_of e)
     → f.pair ≡ pair_of_entry r n e → f.change ≡ changed_by r n (event_of e) → f.key ≡ event_key r (event_of e)
-    → f.behind ≡ event_behind r (event_of e) → f.is_source ≡ source_by r n e → (f.is_new ≡ true → IsNewSend r n) → f.other ≡ is_other r.setting.exercise e → IsFound r n f
-found r n e f at cause pair change key behind source fresh other = record {
+    → ((k : Key) → Some k ≡ f.key → f.base ≡ key_base k) → f.behind ≡ event_behind r (event_of e) → f.is_source ≡ source_by r n e → (f.is_new ≡ true → IsNewSend r n) → f.other ≡ is_other r.setting.exercise e → IsFound r n f
+found r n e f at cause pair change key based behind source fresh other = record {
   cause = cause ∙ sym (cause_here r n e at);
   pair = pair ∙ sym (pair_here r n e at);
   change = change ∙ sym (change_here r n e at);
   key = key ∙ sym (key_here r n e at);
+  based = λ k is. based k (is ∙ sym (key ∙ sym (key_here r n e at)));
   behind = behind ∙ sym (behind_here r n e at);
   source = source ∙ sym (source_here r n e at);
   fresh = fresh;
@@ -102,23 +106,40 @@ found r n e f at cause pair change key behind source fresh other = record {
 
 -- an entry that this cause speaks against, or none, and of which nothing else is found
 abbrev pub plain : Option Cause → Found
-plain x = record { cause = x; pair = None; change = None; key = None; behind = None; is_source = false; is_new = false; other = false }
+plain x = record { cause = x; pair = None; change = None; key = None; base = 0; behind = None; is_source = false; is_new = false; other = false }
 
 -- an "other" datagram
 abbrev pub other_found : Found
-other_found = record { cause = None; pair = None; change = None; key = None; behind = None; is_source = false; is_new = false; other = true }
+other_found = record { cause = None; pair = None; change = None; key = None; base = 0; behind = None; is_source = false; is_new = false; other = true }
+
+-- the base of the keys of an answer is that of the key that it has
+sent_based : (s : ℕ) (p : Pdu) (k : Key) → Some k ≡ sent_key s p → answer_base s p ≡ key_base k
+sent_based s p k =
+    elim (key_of p) as (λ o. Some k ≡ option_and_then (λ l. cond (responds able p) (Some (acknowledged_key s able l))
+    (cond (responds unable p) (Some (acknowledged_key s unable l)) None)) o → option_map_or (λ l. key_base (acknowledged_key s able l)) o 0 ≡ key_base k) [
+      | None ↦ λ is. absurd (cc is)
+      | Some l ↦ elim (responds able p) as (λ b. Some k ≡ cond b (Some (acknowledged_key s able l))
+          (cond (responds unable p) (Some (acknowledged_key s unable l)) None) → key_base (acknowledged_key s able l) ≡ key_base k) [
+            | true ↦ λ is. ap key_base (sym (same_Some {A = Key} k (acknowledged_key s able l) is))
+            | false ↦ elim (responds unable p) as (λ b. Some k ≡ cond b (Some (acknowledged_key s unable l)) None → key_base (acknowledged_key s able l) ≡ key_base k) [
+              | true ↦ λ is. ap key_base (sym (same_Some {A = Key} k (acknowledged_key s unable l) is))
+              | false ↦ λ is. absurd (cc is)
+            ]
+          ]
+    ]
 
 -- a PDU that was sent
 pub sent_found : (r : PlainRecording) (n s : ℕ) (p : Pdu) (f : Found) → IsRecording r → s < length r.setting.stations → IsSendOf r n s p
     → f.cause ≡ send_cause r.setting.exercise (station_at r s) (log_before r s n) p
-    → f.pair ≡ pair_of_sent r s n p → f.change ≡ change_by r.setting.exercise (station_at r s) (log_before r s n) p → f.key ≡ sent_key s p
+    → f.pair ≡ pair_of_sent r s n p → f.change ≡ change_by r.setting.exercise (station_at r s) (log_before r s n) p → f.key ≡ sent_key s p → f.base ≡ answer_base s p
     → f.behind ≡ None → f.is_source ≡ is_from (station_at r s).address p → (f.is_new ≡ true → IsNewSend r n) → f.other ≡ false → IsFound r n f
-sent_found r n s p f limits here send cause pair change key behind source fresh other =
+sent_found r n s p f limits here send cause pair change key base behind source fresh other =
     found r n (Sent s send.stamp send.bytes) f send.at
     (cause ∙ sym (ap (option_and_then (send_cause r.setting.exercise (station_at r s) (log_before r s n))) send.means))
     (pair ∙ sym (ap (option_and_then (pair_of_sent r s n)) send.means))
     (change ∙ sym (ap (option_and_then (change_by r.setting.exercise (station_at r s) (log_before r s n))) send.means))
     (key ∙ sym (ap (option_and_then (sent_key s)) send.means))
+    (λ k is. base ∙ sent_based s p k (is ∙ key))
     behind
     (source ∙ sym (sent_from r n s send.stamp send.bytes p limits here send.at send.means))
     fresh
@@ -133,6 +154,7 @@ other_sent r n s stamp b at other =
     (sym (ap (option_and_then (pair_of_sent r s n)) other))
     (sym (ap (option_and_then (change_by r.setting.exercise (station_at r s) (log_before r s n))) other))
     (sym (ap (option_and_then (sent_key s)) other))
+    (λ k is. absurd (cc is))
     refl
     (sym (unmeant r b n other))
     (λ e. absurd (cc e))
@@ -146,13 +168,14 @@ get_here r s b = refl
 -- a PDU that was received
 pub received_found : (r : PlainRecording) (n s stamp : ℕ) (b : List ℕ) (p : Pdu) (f : Found) → slice_get r.entries n ≡ Some (Received s stamp b)
     → meaning r.setting.exercise b ≡ Some p → f.cause ≡ get_cause r.setting [] b p → f.pair ≡ None → f.change ≡ None
-    → f.key ≡ received_key s (station_at r s).address p → f.behind ≡ key_behind (sender_of r p) p → f.is_source ≡ false → f.is_new ≡ false → f.other ≡ false
+    → f.key ≡ received_key s (station_at r s).address p → ((k : Key) → Some k ≡ f.key → f.base ≡ key_base k) → f.behind ≡ key_behind (sender_of r p) p → f.is_source ≡ false → f.is_new ≡ false → f.other ≡ false
     → IsFound r n f
-received_found r n s stamp b p f at means cause pair change key behind source new other =
+received_found r n s stamp b p f at means cause pair change key based behind source new other =
     found r n (Received s stamp b) f at
     (cause ∙ sym (get_here r s b ∙ ap (option_and_then (get_cause r.setting [] b)) means))
     pair change
     (key ∙ sym (ap (option_and_then (received_key s (station_at r s).address)) means))
+    based
     (behind ∙ sym (ap (option_and_then (λ p. key_behind (sender_of r p) p)) means))
     source
     (λ e. absurd (cc (sym new ∙ e)))
@@ -166,6 +189,7 @@ other_received r n s stamp b at other =
     (sym (get_here r s b ∙ ap (option_and_then (get_cause r.setting [] b)) other))
     refl refl
     (sym (ap (option_and_then (received_key s (station_at r s).address)) other))
+    (λ k is. absurd (cc is))
     (sym (ap (option_and_then (λ p. key_behind (sender_of r p) p)) other))
     refl
     (λ e. absurd (cc e))
@@ -174,7 +198,7 @@ other_received r n s stamp b at other =
 -- a state that was told
 pub told_found : (r : PlainRecording) (n s e : ℕ) (y : EntityState) (x : Option Cause) → slice_get r.entries n ≡ Some (Told s e y)
     → x ≡ first_cause (tell_rows y (state_after r.setting.exercise (station_at r s) (log_before r s n) e)) → IsFound r n (plain x)
-told_found r n s e y x at cause = found r n (Told s e y) (plain x) at cause refl refl refl refl refl (λ e. absurd (cc e)) refl
+told_found r n s e y x at cause = found r n (Told s e y) (plain x) at cause refl refl refl (λ k is. absurd (cc is)) refl refl (λ e. absurd (cc e)) refl
 
 -- ---- how many are "other"
 

@@ -13,7 +13,7 @@ use Rattle.exercise_model.specs.Change.{able, unable, responds, key_of}
 use Rattle.exercise_model.specs.Place.{first_below}
 use Rattle.exercise_findings.specs.declared.key.Key.{Key}
 use Rattle.exercise_findings.specs.declared.kept.Kept.{Kept}
-use Rattle.exercise_findings.specs.Hashed.{key_hash}
+use Rattle.exercise_findings.specs.Hashed.{key_base, key_hash}
 use Rattle.exercise_findings.specs.Kept.{AreKept}
 
 -- two keys are the same
@@ -54,6 +54,10 @@ sent_key s p = option_and_then (λ k.
     if responds able p then Some (acknowledged_key s able k)
     else (if responds unable p then Some (acknowledged_key s unable k) else None)) (key_of p)
 
+-- what the keys of an answer of station s have in common, by their hashes
+abbrev pub answer_base : ℕ → Pdu → ℕ
+answer_base s p = option_map_or (λ k. key_base (acknowledged_key s able k)) (key_of p) 0
+
 -- the key of q, which station s at a receives, where it is a request to it
 abbrev pub received_key : ℕ → Pair → Pdu → Option Key
 received_key s a q =
@@ -86,3 +90,7 @@ first_under r k n = first_below (has_key r k) n
 -- THE TIE: under each key the first entry below n is kept that has it
 abbrev pub AreFirsts : PlainRecording → ℕ → Kept → Type 0
 AreFirsts r n firsts = AreKept (has_key r) key_hash n firsts
+
+-- this is the base of the key of entry n, if that has one
+abbrev pub IsBased : PlainRecording → ℕ → ℕ → Type 0
+IsBased r n base = (k : Key) → Some k ≡ key_at r n → base ≡ key_base k

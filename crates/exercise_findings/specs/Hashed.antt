@@ -20,9 +20,13 @@ identifier_fed k = u64 (word k.request k.station 0)
 abbrev pub hash_fed : HashWrites → ℕ
 hash_fed writes = sip.finish (fold sip.write sip.initial writes) % 2 ^ 32
 
+-- the hash of what keys that differ in role and response alone have in common
+abbrev pub key_base : Key → ℕ
+key_base k = hash_fed (key_fed k)
+
 -- the hash of a key: its response in the highest two of 32 bits, since the lowest say where it is looked for first
 abbrev pub key_hash : Key → ℕ
-key_hash k = hash_fed (key_fed k) % 0x40000000 + 0x40000000 * (k.response % 4)
+key_hash k = key_base k % 0x40000000 + 0x40000000 * (k.response % 4)
 
 -- the hash of a datagram
 abbrev pub datagram_hash : List ℕ → ℕ

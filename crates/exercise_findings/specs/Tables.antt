@@ -13,7 +13,7 @@ use Rattle.exercise_findings.specs.declared.tables.Tables.{Tables}
 use Rattle.exercise_findings.specs.declared.pass.Pass.{Pass}
 use Rattle.exercise_findings.specs.declared.pass.Passed.{Passed}
 use Rattle.exercise_findings.specs.declared.found.Found.{Found}
-use Rattle.exercise_findings.specs.Firsts.{key_at, AreFirsts}
+use Rattle.exercise_findings.specs.Firsts.{key_at, AreFirsts, IsBased}
 use Rattle.exercise_findings.specs.ChangeNumber.{change_in}
 use Rattle.exercise_findings.specs.Column.{IsColumn}
 use Rattle.exercise_findings.specs.Behind.{behind_at, AreBehind}
@@ -54,6 +54,7 @@ pub record IsFound (r : PlainRecording) (n : ℕ) (f : Found) : Type 0 where
   pub pair : f.pair ≡ pair_of r n
   pub change : f.change ≡ change_at r n
   pub key : f.key ≡ key_at r n
+  pub based : IsBased r n f.base
   pub behind : f.behind ≡ behind_at r n
   pub source : f.is_source ≡ source_at r n
   pub fresh : f.is_new ≡ true → IsNewSend r n

@@ -11,7 +11,7 @@ ghost use Rattle.exercise_model.specs.State.{state_after};
 ghost use Rattle.exercise_model.specs.Change.{is_change};
 ghost use Rattle.exercise_model.specs.Cause.{is_reused, is_changed_answer, is_hopeless, is_hopeless_for, is_impossible, send_cause, get_cause, tell_rows, first_cause};
 ghost use Rattle.exercise_model.specs.Place.{log_before};
-ghost use Rattle.exercise_findings.specs.Firsts.{AreFirsts};
+ghost use Rattle.exercise_findings.specs.Firsts.{answer_base, AreFirsts};
 ghost use Rattle.exercise_findings.specs.TakenUp.{request_of_sent};
 ghost use Rattle.exercise_findings.specs.Tables.{AreTied};
 
@@ -24,7 +24,7 @@ use exercise_model::{Cause, Change, ExerciseLog, Form, is_answer, is_entity, key
 use siman_pdus::{ABLE, PduView, UNABLE, answers};
 
 /// Whether a PDU that a station sends at an entry is an Able after an Unable under its key, or an
-/// Unable after an Able.
+/// Unable after an Able. The keys of both have this base.
 #[tactic(auto, unfolding(exercise_model::specs::Cause::is_changed_answer))]
 fn is_changed_answer<L: ExerciseLog>(
     log: &L,
@@ -32,8 +32,10 @@ fn is_changed_answer<L: ExerciseLog>(
     station: u16,
     before: usize,
     pdu: &PduView<'_>,
+    base: u32,
 ) -> bool
     requires at { station < length (L.recording log.now).setting.stations }
+    requires base { base ≡ answer_base station (pdu_of pdu.now) }
     requires tied { AreFirsts (L.recording log.now) before firsts.now }
     ensures { let r = L.recording log.now in result ≡ is_changed_answer r.setting.exercise (pdu_of pdu.now) (log_before r station before) }
 {
@@ -41,9 +43,9 @@ fn is_changed_answer<L: ExerciseLog>(
         return false;
     };
     if responds(ABLE, pdu) {
-        was_unable(log, firsts, station, before, &key)
+        was_unable(log, firsts, station, before, &key, base)
     } else if responds(UNABLE, pdu) {
-        was_able(log, firsts, station, before, &key)
+        was_able(log, firsts, station, before, &key, base)
     } else {
         false
     }
@@ -106,7 +108,7 @@ fn is_impossible<L: ExerciseLog>(
 
 /// The first cause against a PDU that a station sends at an entry, which comes from that station or
 /// not: a request that reuses its identifier or not, or an answer that takes up this request, if there
-/// is one, and is the first Able under its key or not.
+/// is one, and is the first Able under its key or not. The keys of an answer have this base.
 #[tactic(auto, unfolding(exercise_model::specs::Cause::send_cause))]
 pub(crate) fn judge_sent<L: ExerciseLog>(
     log: &L,
@@ -114,6 +116,7 @@ pub(crate) fn judge_sent<L: ExerciseLog>(
     station: u16,
     before: usize,
     pdu: &PduView<'_>,
+    base: u32,
     from: bool,
     reused: bool,
     first: bool,
@@ -122,6 +125,7 @@ pub(crate) fn judge_sent<L: ExerciseLog>(
     requires at { station < length (L.recording log.now).setting.stations }
     requires within { before < length (L.recording log.now).entries }
     requires tied { AreTied (L.recording log.now) before tables.now }
+    requires base { base ≡ answer_base station (pdu_of pdu.now) }
     requires from { from ≡ is_from (station_at (L.recording log.now) station).address (pdu_of pdu.now) }
     requires reused { let r = L.recording log.now in reused ≡ (is_request_body (pdu_of pdu.now).body && is_reused r.setting.exercise (pdu_of pdu.now) (log_before r station before)) }
     requires first { let r = L.recording log.now in first ≡ is_change r.setting.exercise (pdu_of pdu.now) (log_before r station before) }
@@ -142,7 +146,7 @@ pub(crate) fn judge_sent<L: ExerciseLog>(
     };
     if !answers(pdu, request) {
         Some(Cause::WrongAnswer)
-    } else if is_changed_answer(log, &tables.firsts, station, before, pdu) {
+    } else if is_changed_answer(log, &tables.firsts, station, before, pdu, base) {
         Some(Cause::ChangedAnswer)
     } else if is_impossible(log, tables, station, before, pdu, first, request) {
         Some(Cause::Impossible)

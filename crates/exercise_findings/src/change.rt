@@ -5,7 +5,8 @@ ghost use Rattle.siman_pdus.specs.Reading.{pdu_of};
 ghost use Rattle.exercise_model.specs.Change.{able, unable, was_acknowledged, is_change};
 ghost use Rattle.exercise_model.specs.Place.{log_before, own_event};
 ghost use Rattle.exercise_findings.specs.Sent.{meant_by_send};
-ghost use Rattle.exercise_findings.specs.Firsts.{AreFirsts};
+ghost use Rattle.exercise_findings.specs.Firsts.{acknowledged_key, answer_base, AreFirsts};
+ghost use Rattle.exercise_findings.specs.Hashed.{key_base};
 
 use crate::firsts::{Firsts, first_under};
 use crate::key::acknowledged_key;
@@ -28,7 +29,7 @@ pub(crate) fn sent_by<L: ExerciseLog>(log: &L, station: u16, entry: usize) -> Op
     }
 }
 
-/// Whether a station sent, before an entry, an Able under this key.
+/// Whether a station sent, before an entry, an Able under this key, which has this base.
 #[tactic(auto, using(crate::proofs::Keyed::key_steps))]
 pub(crate) fn was_able<L: ExerciseLog>(
     log: &L,
@@ -36,15 +37,18 @@ pub(crate) fn was_able<L: ExerciseLog>(
     station: u16,
     before: usize,
     key: &AcknowledgeKey,
+    base: u32,
 ) -> bool
     requires at { station < length (L.recording log.now).setting.stations }
+    requires base { base ≡ key_base (acknowledged_key station able key.now) }
     requires tied { AreFirsts (L.recording log.now) before firsts.now }
     ensures { let r = L.recording log.now in result ≡ was_acknowledged r.setting.exercise able key.now (log_before r station before) }
 {
-    first_under(firsts, log, &acknowledged_key(station, ABLE, key), before).is_some()
+    let key = acknowledged_key(station, ABLE, key);
+    first_under(firsts, log, &key, base, before).is_some()
 }
 
-/// Whether a station sent, before an entry, an Unable under this key.
+/// Whether a station sent, before an entry, an Unable under this key, which has this base.
 #[tactic(auto, using(crate::proofs::Keyed::key_steps))]
 pub(crate) fn was_unable<L: ExerciseLog>(
     log: &L,
@@ -52,15 +56,18 @@ pub(crate) fn was_unable<L: ExerciseLog>(
     station: u16,
     before: usize,
     key: &AcknowledgeKey,
+    base: u32,
 ) -> bool
     requires at { station < length (L.recording log.now).setting.stations }
+    requires base { base ≡ key_base (acknowledged_key station able key.now) }
     requires tied { AreFirsts (L.recording log.now) before firsts.now }
     ensures { let r = L.recording log.now in result ≡ was_acknowledged r.setting.exercise unable key.now (log_before r station before) }
 {
-    first_under(firsts, log, &acknowledged_key(station, UNABLE, key), before).is_some()
+    let key = acknowledged_key(station, UNABLE, key);
+    first_under(firsts, log, &key, base, before).is_some()
 }
 
-/// Whether a PDU that a station sends at an entry is the first Able under its key.
+/// Whether a PDU that a station sends at an entry is the first Able under its key, which has this base.
 #[tactic(auto, unfolding(exercise_model::specs::Change::is_change))]
 pub(crate) fn is_change<L: ExerciseLog>(
     log: &L,
@@ -68,13 +75,15 @@ pub(crate) fn is_change<L: ExerciseLog>(
     station: u16,
     before: usize,
     pdu: &PduView<'_>,
+    base: u32,
 ) -> bool
     requires at { station < length (L.recording log.now).setting.stations }
+    requires base { base ≡ answer_base station (pdu_of pdu.now) }
     requires tied { AreFirsts (L.recording log.now) before firsts.now }
     ensures { let r = L.recording log.now in result ≡ is_change r.setting.exercise (pdu_of pdu.now) (log_before r station before) }
 {
     match key_of(pdu) {
-        Some(key) if responds(ABLE, pdu) => { !was_able(log, firsts, station, before, &key) }
+        Some(key) if responds(ABLE, pdu) => { !was_able(log, firsts, station, before, &key, base) }
         _ => false,
     }
 }

@@ -2,33 +2,52 @@
 //! read from the log, where it is looked for.
 
 ghost use Rattle.std.specs.Prelude.{◌≡◌, ◌<◌, ◌+◌, length, Some, true, IfOk, OnOk};
-ghost use Rattle.exercise_findings.specs.Hashed.{key_hash};
+ghost use Rattle.siman_pdus.specs.Reading.{pdu_of};
+ghost use Rattle.exercise_findings.specs.Hashed.{key_base, key_hash};
 ghost use Rattle.exercise_findings.specs.FirstSends.{IsNewKey};
-ghost use Rattle.exercise_findings.specs.Firsts.{key_at, has_key, first_under, AreFirsts};
+ghost use Rattle.exercise_findings.specs.Firsts.{answer_base, key_at, has_key, first_under, AreFirsts, IsBased};
 
 use crate::hashed::word;
 use crate::hint::Hint;
 use crate::kept::{Kept, keep_behind, kept_at, kept_place};
-use crate::key::{Key, received_key, sent_key};
+use crate::key::{Key, acknowledged_key, received_key, sent_key};
 use crate::slots::{Sought, find};
-use exercise_model::{EntryView, ExerciseLog, meaning_view};
+use exercise_model::{EntryView, ExerciseLog, key_of, meaning_view};
+use siman_pdus::{ABLE, PduView};
 use std::alloc::AllocError;
 use std::hash::{DefaultHasher, Hasher};
 
 /// The first entry under each key.
 pub(crate) type Firsts = Kept;
 
-/// The hash of a key. Where it is looked for first depends on neither its role nor its response, since the
-/// three keys that differ in nothing else are mostly looked up one after the other, and stand together
-/// so; the response tells them apart.
-fn key_hash(key: &Key) -> u32
-    ensures { result ≡ key_hash key.now }
+/// The hash of what keys have in common that differ in role and response alone: they are looked up one
+/// after the other, so it is made once for them.
+pub(crate) fn key_base(key: &Key) -> u32
+    ensures { result ≡ key_base key.now }
 {
     let mut hasher = DefaultHasher::new();
     hasher.write_u64(word(key.request, key.site, key.application));
     hasher.write_u64(word(u32::from(key.flag), key.entity, key.station));
-    let hash = (hasher.finish() % 0x1_0000_0000) as u32;
-    hash % 0x4000_0000 + 0x4000_0000 * u32::from(key.response % 4)
+    (hasher.finish() % 0x1_0000_0000) as u32
+}
+
+/// The hash of a key of this base. Where it is looked for first is as for the others of that base, so they
+/// stand together; the response tells them apart.
+fn key_hash(key: &Key, base: u32) -> u32
+    requires { base ≡ key_base key.now }
+    ensures { result ≡ key_hash key.now }
+{
+    base % 0x4000_0000 + 0x4000_0000 * u32::from(key.response % 4)
+}
+
+/// What the keys of an answer of a station have in common, by their hashes; 0 where it has none.
+pub(crate) fn answer_base(station: u16, pdu: &PduView<'_>) -> u32
+    ensures { result ≡ answer_base station (pdu_of pdu.now) }
+{
+    match key_of(pdu) {
+        Some(key) => key_base(&acknowledged_key(station, ABLE, &key)),
+        None => 0,
+    }
 }
 
 /// The key of an entry.
@@ -98,17 +117,19 @@ fn first_hashed<L: ExerciseLog>(
     find(&firsts.slots, hash, &Keyed { log, key })
 }
 
-/// The first entry under a key, of those before an entry.
+/// The first entry under a key of this base, of those before an entry.
 pub(crate) fn first_under<L: ExerciseLog>(
     firsts: &Firsts,
     log: &L,
     key: &Key,
+    base: u32,
     before: usize,
 ) -> Option<u32>
-    requires { AreFirsts (L.recording log.now) before firsts.now }
+    requires base { base ≡ key_base key.now }
+    requires tied { AreFirsts (L.recording log.now) before firsts.now }
     ensures { result ≡ first_under (L.recording log.now) key.now before }
 {
-    first_hashed(firsts, log, key_hash(key), key, before)
+    first_hashed(firsts, log, key_hash(key, base), key, before)
 }
 
 /// The same, which is kept as what the next is looked for near.
@@ -122,7 +143,7 @@ pub(crate) fn first_noted<L: ExerciseLog>(
     requires { AreFirsts (L.recording log.now) before firsts.now }
     ensures { result ≡ first_under (L.recording log.now) key.now before }
 {
-    let Some(entry) = first_under(firsts, log, key, before) else {
+    let Some(entry) = first_under(firsts, log, key, key_base(key), before) else {
         return None;
     };
     hint.found(kept_place(firsts, entry));
@@ -155,14 +176,16 @@ fn keep_first<L: ExerciseLog>(
     log: &L,
     entry: usize,
     key: &Key,
+    base: u32,
 ) -> Result<bool, AllocError>
     requires few { entry < 4294967295 }
     requires key { Some key.now ≡ key_at (L.recording log.now) entry }
+    requires base { base ≡ key_base key.now }
     requires tied { AreFirsts (L.recording log.now) entry firsts.old }
     ensures tied { OnOk result (AreFirsts (L.recording log.now) (entry + 1) firsts.new) }
     ensures new { IfOk result (λ new. new ≡ true → IsNewKey (L.recording log.now) entry) }
 {
-    let hash = key_hash(key);
+    let hash = key_hash(key, base);
     match first_hashed(firsts, log, hash, key, entry) {
         Some(_) => Ok(false),
         None => {
@@ -172,23 +195,25 @@ fn keep_first<L: ExerciseLog>(
     }
 }
 
-/// Keeps the next entry of a log, which has this key, if it has one, and tells whether it is the first
-/// that has it.
+/// Keeps the next entry of a log, which has this key, if it has one, of this base, and tells whether it is
+/// the first that has it.
 pub(crate) fn note_entry<L: ExerciseLog>(
     firsts: &mut Firsts,
     log: &L,
     entry: usize,
     key: Option<Key>,
+    base: u32,
 ) -> Result<bool, AllocError>
     requires few { entry < 4294967295 }
     requires within { entry < length (L.recording log.now).entries }
     requires key { key ≡ key_at (L.recording log.now) entry }
+    requires base { IsBased (L.recording log.now) entry base }
     requires tied { AreFirsts (L.recording log.now) entry firsts.old }
     ensures tied { OnOk result (AreFirsts (L.recording log.now) (entry + 1) firsts.new) }
     ensures new { IfOk result (λ new. new ≡ true → IsNewKey (L.recording log.now) entry) }
 {
     match key {
-        Some(key) => keep_first(firsts, log, entry, &key),
+        Some(key) => keep_first(firsts, log, entry, &key, base),
         None => Ok(false),
     }
 }

@@ -1,6 +1,6 @@
 //! What one entry is found to be, by one look at its datagram.
 
-ghost use Rattle.std.specs.Prelude.{◌≡◌, ◌<◌, ◌+◌, ◌&&◌, ℕ, List, [], length, option_map, None, true, false, OnOk, IfOk};
+ghost use Rattle.std.specs.Prelude.{◌≡◌, ◌<◌, ◌+◌, ◌&&◌, ℕ, List, [], length, option_map, Some, None, true, false, OnOk, IfOk};
 ghost use Rattle.siman_pdus.specs.Reading.{pdu_of};
 ghost use Rattle.siman_pdus.specs.Role.{is_request_body};
 ghost use Rattle.exercise_model.specs.Account.{pair_of_sent, sender_of};
@@ -10,7 +10,9 @@ ghost use Rattle.exercise_model.specs.Place.{log_before};
 ghost use Rattle.exercise_model.specs.Recording.{IsRecording};
 ghost use Rattle.exercise_model.specs.Setting.{is_from};
 ghost use Rattle.exercise_model.specs.State.{change_by};
-ghost use Rattle.exercise_findings.specs.Firsts.{sent_key, received_key};
+ghost use Rattle.exercise_findings.specs.declared.key.Key.{Key};
+ghost use Rattle.exercise_findings.specs.Firsts.{answer_base, sent_key, received_key};
+ghost use Rattle.exercise_findings.specs.Hashed.{key_base};
 ghost use Rattle.exercise_findings.specs.Behind.{key_behind};
 ghost use Rattle.exercise_findings.specs.Requests.{AreRequests};
 ghost use Rattle.exercise_findings.specs.Sent.{Sends, Receives};
@@ -20,6 +22,7 @@ use crate::behind::key_behind;
 use crate::cause::{judge_sent, judge_unsent};
 use crate::change::is_change;
 use crate::exchange::taken_up;
+use crate::firsts::{answer_base, key_base};
 use crate::hint::Hint;
 use crate::key::{Key, received_key, sent_key};
 use crate::requests::{IdentifierUse, Requests, note_request};
@@ -41,6 +44,8 @@ pub(crate) struct Found {
     pub change: Option<Change>,
     /// What it is looked up by.
     pub key: Option<Key>,
+    /// The base of that, where it has one.
+    pub base: u32,
     /// What the change behind it is looked up by, where it is an Able Acknowledge that was received.
     pub behind: Option<Key>,
     /// Whether it sends what comes from its own station.
@@ -53,13 +58,14 @@ pub(crate) struct Found {
 
 /// An entry that this cause speaks against, or none, and of which nothing else is found.
 fn judged(cause: Option<Cause>) -> Found
-    ensures { result ≡ record { cause = cause; pair = None; change = None; key = None; behind = None; is_source = false; is_new = false; other = false } }
+    ensures { result ≡ record { cause = cause; pair = None; change = None; key = None; base = 0; behind = None; is_source = false; is_new = false; other = false } }
 {
     Found {
         cause,
         pair: None,
         change: None,
         key: None,
+        base: 0,
         behind: None,
         is_source: false,
         is_new: false,
@@ -69,7 +75,7 @@ fn judged(cause: Option<Cause>) -> Found
 
 /// An entry with a datagram that is "other".
 fn found_other() -> Found
-    ensures { result ≡ record { cause = None; pair = None; change = None; key = None; behind = None; is_source = false; is_new = false; other = true } }
+    ensures { result ≡ record { cause = None; pair = None; change = None; key = None; base = 0; behind = None; is_source = false; is_new = false; other = true } }
 {
     Found {
         other: true,
@@ -105,6 +111,7 @@ fn found_sent<L: ExerciseLog>(
     ensures pair { result.pair ≡ pair_of_sent (L.recording log.now) station entry (pdu_of pdu.now) }
     ensures change { let r = L.recording log.now in result.change ≡ change_by r.setting.exercise (station_at r station) (log_before r station entry) (pdu_of pdu.now) }
     ensures key { result.key ≡ sent_key station (pdu_of pdu.now) }
+    ensures base { result.base ≡ answer_base station (pdu_of pdu.now) }
     ensures behind { result.behind ≡ None }
     ensures source { result.is_source ≡ is_from (station_at (L.recording log.now) station).address (pdu_of pdu.now) }
     ensures new { result.is_new ≡ asked.first }
@@ -113,7 +120,8 @@ fn found_sent<L: ExerciseLog>(
     let address = log.station(usize::from(station)).address();
     let from = is_from(address, pdu);
     let taken = taken_up(log, &tables.firsts, hint, station, entry, pdu);
-    let first = is_change(log, &tables.firsts, station, entry, pdu);
+    let base = answer_base(station, pdu);
+    let first = is_change(log, &tables.firsts, station, entry, pdu, base);
     Found {
         cause: judge_sent(
             log,
@@ -121,6 +129,7 @@ fn found_sent<L: ExerciseLog>(
             station,
             entry,
             pdu,
+            base,
             from,
             asked.reused,
             first,
@@ -129,10 +138,21 @@ fn found_sent<L: ExerciseLog>(
         pair: pair_of(&taken),
         change: change_by(log, station, entry, pdu, first, &taken),
         key: sent_key(station, pdu),
+        base,
         behind: None,
         is_source: from,
         is_new: asked.first,
         other: false,
+    }
+}
+
+/// The base of a key, if there is one; else 0.
+fn base_of(key: Option<Key>) -> u32
+    ensures { (k : Key) → Some k ≡ key → result ≡ key_base k }
+{
+    match key {
+        Some(key) => key_base(&key),
+        None => 0,
     }
 }
 
@@ -148,6 +168,7 @@ fn found_received<L: ExerciseLog>(
     ensures pair { result.pair ≡ None }
     ensures change { result.change ≡ None }
     ensures key { let r = L.recording log.now in result.key ≡ received_key station (station_at r station).address (pdu_of pdu.now) }
+    ensures base { (k : Key) → Some k ≡ result.key → result.base ≡ key_base k }
     ensures behind { let p = pdu_of pdu.now in result.behind ≡ key_behind (sender_of (L.recording log.now) p) p }
     ensures source { result.is_source ≡ false }
     ensures new { result.is_new ≡ false }
@@ -155,8 +176,10 @@ fn found_received<L: ExerciseLog>(
 {
     let address = log.station(usize::from(station)).address();
     let sender = sender_of(log, places, pdu);
+    let key = received_key(station, address, pdu);
     Found {
-        key: received_key(station, address, pdu),
+        key,
+        base: base_of(key),
         behind: key_behind(sender, pdu),
         ..judged(judge_unsent(log.form(), sender.is_some()))
     }

@@ -181,7 +181,14 @@ fn keep_sent<L: ExerciseLog>(
     found.changes.push(change_number(here.change))?;
     found.earlier.push(entry_number(here.pair))?;
     found.others += one_if(here.other);
-    let first = note_tables(&mut found.tables, log, entry, here.change, here.key)?;
+    let first = note_tables(
+        &mut found.tables,
+        log,
+        entry,
+        here.change,
+        here.key,
+        here.base,
+    )?;
     let is_new = here.is_new || first;
     note_send(&mut found.sends, log, entry, bytes, here.is_source, is_new)
 }
@@ -209,7 +216,7 @@ fn keep_received<L: ExerciseLog>(
     found.earlier.push(earlier)?;
     found.others += one_if(here.other);
     note_behind(&mut found.ables, log, entry, here.behind)?;
-    note_key(&mut found.tables, log, entry, here.key)
+    note_key(&mut found.tables, log, entry, here.key, here.base)
 }
 
 /// Keeps what the next entry is found to be, by which a station tells a state: the first cause against

@@ -1,6 +1,6 @@
 -- Whether a request identifier was used for another order, by its first request.
-use Rattle.std.proofs.Common.{◌≡◌, ℕ, zero, suc, ◌+◌, ◌<◌, ◌≤◌, List, ◌∷◌, cond, Option, Some, None, Bool, true, false, refl, sym, ap, ◌∙◌, subst, ⊎_elim, arith}
-use Rattle.std.specs.Prelude.{◌⊎◌, is_some, not, slice_get, nat_eq, ◌&&◌, ◌||◌, option_map, option_and_then, unwrap_or, if◌then◌else◌}
+use Rattle.std.proofs.Common.{◌≡◌, ℕ, zero, suc, ◌+◌, ◌<◌, ◌≤◌, List, ◌∷◌, length, cond, Option, Some, None, Bool, true, false, refl, sym, ap, ◌∙◌, subst, ⊎_elim, arith}
+use Rattle.std.specs.Prelude.{IfSome, IfNone, is_some, not, slice_get, nat_eq, ◌&&◌, ◌||◌, option_map, option_and_then, if◌then◌else◌}
 use Rattle.std.specs.Option.{option_map_or, option_or}
 use Rattle.std.specs.List.{list_any}
 use Rattle.std.proofs.Math.Numerals.{add-one}
@@ -8,7 +8,9 @@ use Rattle.std.proofs.lemmas.Bool.{eqb-true, eq-eqb, cases_lt}
 use Rattle.std.proofs.lemmas.Bool.Decides.{nat_tests, Decides-like, same_from_decides}
 use Rattle.exercise_findings.specs.Decided.{identifier_decides}
 use Rattle.std.proofs.lemmas.Option.{same_Some}
-use Rattle.indexmap.specs.IndexMap.{get}
+use Rattle.std.specs.declared.hash.BuildHasherDefault.{BuildHasherDefault}
+use Rattle.std.specs.declared.hash.DefaultHasher.{DefaultHasher}
+use Rattle.indexmap.specs.IndexMap.{IndexMap, get}
 use Rattle.siman_pdus.specs.declared.pdu.Pdu.{Pdu}
 use Rattle.siman_pdus.specs.Role.{is_request_body, request_id_of}
 use Rattle.siman_pdus.specs.Answers.{same_id}
@@ -23,9 +25,18 @@ use Rattle.exercise_model.specs.Place.{event_at, own_event, log_before, first_be
 use Rattle.exercise_model.proofs.Offered.{log_before-more, log_before-none}
 use Rattle.exercise_findings.specs.Sent.{meant_by_send}
 use Rattle.exercise_findings.specs.declared.requests.Identifier.{Identifier}
-use Rattle.exercise_findings.specs.declared.requests.KeptIdentifier.{KeptIdentifier}
-use Rattle.exercise_findings.specs.Requests.{same_identifier, identifier_of, request_under, request_by, request_at, first_request, is_mixed, kept_of, kept_under, Requests, AreRequests, IsSendOf}
+use Rattle.exercise_findings.specs.declared.requests.Requests.{Requests}
+use Rattle.exercise_findings.specs.declared.kept.Kept.{Kept}
+use Rattle.exercise_findings.specs.Hashed.{identifier_hash}
+use Rattle.exercise_findings.specs.Slots.{IsReached, Stands}
+use Rattle.exercise_findings.specs.Kept.{IsKeptBehind}
+use Rattle.exercise_findings.specs.Requests.{same_identifier, identifier_of, request_under, request_by, request_at, asks_at, first_request, is_mixed, mixed_under, AreRequests, IsSendOf}
+use Rattle.exercise_findings.proofs.Keeping.{looked_up, kept_none, kept_still, kept_later, kept_more}
 use Rattle.exercise_findings.proofs.Keyed.{passes}
+
+-- the table of the identifiers that are used for another order
+abbrev Mixed : Type 0
+Mixed = IndexMap Identifier Bool (BuildHasherDefault DefaultHasher)
 
 nat_eq-comm : (a b : ℕ) → nat_eq a b ≡ nat_eq b a
 nat_eq-comm a b = grind (arith, nat_tests)
@@ -263,7 +274,7 @@ used_by_first r s id p f e n j l at =
       | false ↦ λ apart. used_apart r s id p f e j at apart n l ∙ sym (or_true (used r s f n))
     ] refl
 
--- ---- what is kept of an identifier, one entry on
+-- ---- whether an identifier is used for another order than that of its first request, one entry on
 
 mixed_on : (r : PlainRecording) (k : Identifier) (n j : ℕ) (f : Pdu) → request_at r k j ≡ Some f
     → is_mixed r k (suc n) j ≡ (used r k.station f n || option_map_or (other f) (request_at r k n) false)
@@ -271,13 +282,13 @@ mixed_on r k n j f at =
     ap (λ o. option_map_or (λ f. used r k.station f (suc n)) o false) at ∙ used_on r k.station k.request f (request_has r k j f at) n
 
 -- an entry that sends nothing under it
-kept_still : (r : PlainRecording) (k : Identifier) (n : ℕ) → request_at r k n ≡ None → kept_under r k (suc n) ≡ kept_under r k n
-kept_still r k n none =
-    ap (option_map (kept_of r k (suc n))) (first_on r k n ∙ ap (λ o. option_or (first_request r k n) (if is_some o then Some n else None)) none
-    ∙ or_none (first_request r k n))
-    ∙ elim (first_request r k n) as (λ o. first_request r k n ≡ o → option_map (kept_of r k (suc n)) o ≡ option_map (kept_of r k n) o) [
+mixed_still : (r : PlainRecording) (k : Identifier) (n : ℕ) → request_at r k n ≡ None → mixed_under r k (suc n) ≡ mixed_under r k n
+mixed_still r k n none =
+    ap (λ o. option_map_or (is_mixed r k (suc n)) o false)
+    (first_on r k n ∙ ap (λ o. option_or (first_request r k n) (if is_some o then Some n else None)) none ∙ or_none (first_request r k n))
+    ∙ elim (first_request r k n) as (λ o. first_request r k n ≡ o → option_map_or (is_mixed r k (suc n)) o false ≡ option_map_or (is_mixed r k n) o false) [
       | None ↦ λ _. refl
-      | Some j ↦ λ first. ap (λ m. Some (record { first = j; mixed = m })) (still j (first_is r k n j first).1)
+      | Some j ↦ λ first. still j (first_is r k n j first).1
     ] refl
   where
     still : (j : ℕ) → is_some (request_at r k j) ≡ true → is_mixed r k (suc n) j ≡ is_mixed r k n j
@@ -288,43 +299,33 @@ kept_still r k n none =
               ∙ or_false (used r k.station f n) ∙ sym (ap (λ o. option_map_or (λ f. used r k.station f n) o false) at)
         ] refl there
 
--- an entry that sends a request under it: the first, or a further one
-kept_first : (r : PlainRecording) (k : Identifier) (n : ℕ) (q : Pdu) → request_at r k n ≡ Some q → first_request r k n ≡ None
-    → kept_under r k (suc n) ≡ Some (record { first = n; mixed = used r k.station q n })
-kept_first r k n q at none =
-    ap (option_map (kept_of r k (suc n))) (first_on r k n ∙ ap (λ o. option_or o (if is_some (request_at r k n) then Some n else None)) none
+-- an entry that sends the first request under it
+mixed_first : (r : PlainRecording) (k : Identifier) (n : ℕ) (q : Pdu) → request_at r k n ≡ Some q → first_request r k n ≡ None
+    → mixed_under r k (suc n) ≡ mixed_under r k n
+mixed_first r k n q at none =
+    ap (λ o. option_map_or (is_mixed r k (suc n)) o false)
+    (first_on r k n ∙ ap (λ o. option_or o (if is_some (request_at r k n) then Some n else None)) none
     ∙ ap (λ o. if is_some o then Some n else None) at)
-    ∙ ap (λ m. Some (record { first = n; mixed = m })) (mixed_on r k n n q at
+    ∙ mixed_on r k n n q at
     ∙ ap (λ o. used r k.station q n || option_map_or (other q) o false) at ∙ ap (λ b. used r k.station q n || not b) (same_itself q)
-    ∙ or_false (used r k.station q n))
+    ∙ or_false (used r k.station q n)
+    ∙ unused r k.station k.request q (request_has r k n q at) n none
+    ∙ sym (ap (λ o. option_map_or (is_mixed r k n) o false) none)
 
-kept_again : (r : PlainRecording) (k : Identifier) (n j : ℕ) (q : Pdu) → request_at r k n ≡ Some q → first_request r k n ≡ Some j
-    → kept_under r k (suc n) ≡ Some (record { first = j; mixed = used r k.station q n })
-kept_again r k n j q at first =
-    ap (option_map (kept_of r k (suc n))) (first_on r k n ∙ ap (λ o. option_or o (if is_some (request_at r k n) then Some n else None)) first)
-    ∙ ap (λ m. Some (record { first = j; mixed = m }))
-    (elim (request_at r k j) as (λ o. request_at r k j ≡ o → is_some o ≡ true → is_mixed r k (suc n) j ≡ used r k.station q n) [
+-- a further one: it is mixed where that one reuses it
+mixed_again : (r : PlainRecording) (k : Identifier) (n j : ℕ) (q : Pdu) → request_at r k n ≡ Some q → first_request r k n ≡ Some j
+    → mixed_under r k (suc n) ≡ used r k.station q n
+mixed_again r k n j q at first =
+    ap (λ o. option_map_or (is_mixed r k (suc n)) o false)
+    (first_on r k n ∙ ap (λ o. option_or o (if is_some (request_at r k n) then Some n else None)) first)
+    ∙ elim (request_at r k j) as (λ o. request_at r k j ≡ o → is_some o ≡ true → is_mixed r k (suc n) j ≡ used r k.station q n) [
       | None ↦ λ _ h. absurd (cc)
       | Some f ↦ λ there _. mixed_on r k n j f there ∙ ap (λ o. used r k.station f n || option_map_or (other f) o false) at
           ∙ ap (λ b. used r k.station f n || not b) (same-comm f q)
           ∙ sym (used_by_first r k.station k.request q f (request_has r k n q at) n j (first_is r k n j first).0 there)
-    ] refl (first_is r k n j first).1)
+    ] refl (first_is r k n j first).1
 
--- what is kept under its identifier once a request is taken to be its first where there is none
-abbrev pub taken_first : PlainRecording → Identifier → ℕ → KeptIdentifier
-taken_first r k n = unwrap_or (kept_under r k n) (record { first = n; mixed = false })
-
--- THE NEXT REQUEST UNDER AN IDENTIFIER: the first stays, and it is mixed where the next one reuses it
-pub kept_more : (r : PlainRecording) (k : Identifier) (n : ℕ) (q : Pdu) → request_at r k n ≡ Some q
-    → kept_under r k (suc n) ≡ Some (record { first = (taken_first r k n).first; mixed = is_reused r.setting.exercise q (log_before r k.station n) })
-kept_more r k n q at =
-    elim (first_request r k n) as (λ o. first_request r k n ≡ o → kept_under r k (suc n)
-    ≡ Some (record { first = (unwrap_or (option_map (kept_of r k n) o) (record { first = n; mixed = false })).first; mixed = used r k.station q n })) [
-      | None ↦ λ none. kept_first r k n q at none
-      | Some j ↦ λ first. kept_again r k n j q at first
-    ] refl
-
--- ---- the table, one entry on
+-- ---- what is kept, one entry on
 
 -- what a station sends under an identifier is what it sends
 sent_own : (r : PlainRecording) (k : Identifier) (j : ℕ) (f : Pdu) → request_at r k j ≡ Some f
@@ -376,7 +377,7 @@ unfolding request_at
 request_here r n s q send k =
     ap (option_and_then (λ e. request_by r k (event_of e))) send.at ∙ ap (option_and_then (request_under k s)) send.means
 
-itself : (k : Identifier) → same_identifier k k ≡ true
+pub itself : (k : Identifier) → same_identifier k k ≡ true
 itself k = ap (λ b. b && nat_eq k.request k.request) (eq-eqb k.station k.station refl) ∙ eq-eqb k.request k.request refl
 
 identifier-comm : (k l : Identifier) → same_identifier k l ≡ same_identifier l k
@@ -389,142 +390,137 @@ request_own r n s q k send is =
     request_here r n s q send k ∙ ap (λ o. cond (option_map_or (same_identifier k) o false) (Some q) None) is
     ∙ ap (λ b. cond b (Some q) None) (itself k)
 
+-- no entry is a request under an identifier but its own
+own_identifier : (r : PlainRecording) (n s : ℕ) (q : Pdu) (l : Identifier) → IsSendOf r n s q → identifier_of s q ≡ Some l
+    → (k : Identifier) → asks_at r k n ≡ true → k ≡ l
+own_identifier r n s q l send is k asks = (identifier_decides k l).0 (held (same_identifier k l) (sym here ∙ asks))
+  where
+    here : asks_at r k n ≡ is_some (cond (same_identifier k l) (Some q) None)
+    here = ap is_some (request_here r n s q send k ∙ ap (λ o. cond (option_map_or (same_identifier k) o false) (Some q) None) is)
+
+    held : (b : Bool) → is_some (cond b (Some q) None) ≡ true → b ≡ true
+    held true h = refl
+    held false h = h
+
+-- a request under another identifier
+apart_here : (r : PlainRecording) (n s : ℕ) (q : Pdu) (l k : Identifier) → IsSendOf r n s q → identifier_of s q ≡ Some l
+    → same_identifier l k ≡ false → request_at r k n ≡ None
+apart_here r n s q l k send is apart =
+    request_here r n s q send k
+    ∙ ap (λ o. cond (option_map_or (same_identifier k) o false) (Some q) None) is
+    ∙ ap (λ b. cond b (Some q) None) (identifier-comm k l ∙ apart)
+
 -- an entry that sends no request
+requests_none : (r : PlainRecording) (n : ℕ) (requests : Requests) → ((k : Identifier) → request_at r k n ≡ None)
+    → AreRequests r n requests → AreRequests r (n + 1) requests
+requests_none r n requests none tied = record {
+  firsts = kept_still (asks_at r) identifier_hash n requests.firsts (λ k. ap is_some (none k)) tied.firsts;
+  mixed = λ k. tied.mixed k ∙ sym (mixed_still r k n (none k)) ∙ ap (mixed_under r k) (sym (add-one n));
+}
+
 pub requests_still : (r : PlainRecording) (n s : ℕ) (q : Pdu) (requests : Requests) → IsSendOf r n s q → identifier_of s q ≡ None
     → AreRequests r n requests → AreRequests r (n + 1) requests
-requests_still r n s q requests send none tied k =
-    tied k ∙ sym (kept_still r k n (request_here r n s q send k
-    ∙ ap (λ o. cond (option_map_or (same_identifier k) o false) (Some q) None) none))
-    ∙ ap (kept_under r k) (sym (add-one n))
+requests_still r n s q requests send none tied =
+    requests_none r n requests
+    (λ k. request_here r n s q send k ∙ ap (λ o. cond (option_map_or (same_identifier k) o false) (Some q) None) none) tied
 
--- an entry that sends a request
-pub requests_more : (r : PlainRecording) (n s : ℕ) (q : Pdu) (l : Identifier) (v : KeptIdentifier) (old new : Requests) → IsSendOf r n s q
-    → identifier_of s q ≡ Some l → kept_under r l (suc n) ≡ Some v
-    → ((k : Identifier) → get same_identifier new k ≡ (if same_identifier l k then Some v else get same_identifier old k))
-    → AreRequests r n old → AreRequests r (n + 1) new
-requests_more r n s q l v old new send is kept writes tied k =
-    writes k
-    ∙ elim (same_identifier l k) as (λ b. same_identifier l k ≡ b → cond b (Some v) (get same_identifier old k) ≡ kept_under r k (suc n)) [
-      | true ↦ λ same. subst (λ m. Some v ≡ kept_under r m (suc n)) ((identifier_decides l k).0 same) (sym kept)
-      | false ↦ λ apart. tied k ∙ sym (kept_still r k n (request_here r n s q send k
-          ∙ ap (λ o. cond (option_map_or (same_identifier k) o false) (Some q) None) is
-          ∙ ap (λ b. cond b (Some q) None) (identifier-comm k l ∙ apart)))
-    ] refl
-    ∙ ap (kept_under r k) (sym (add-one n))
-
--- what is known once the first is kept: all, where it is mixed or is the request itself
-pub record Settled (r : PlainRecording) (k : Identifier) (n : ℕ) (q : Pdu) (kept : KeptIdentifier) : Type 0 where
-  pub reused : kept.mixed ≡ is_reused r.setting.exercise q (log_before r k.station n)
-  pub after : kept_under r k (suc n) ≡ Some kept
-
-pub settled : (r : PlainRecording) (k : Identifier) (n : ℕ) (q : Pdu) (kept : KeptIdentifier) → request_at r k n ≡ Some q → kept ≡ taken_first r k n
-    → (kept.mixed || nat_eq kept.first n) ≡ true → Settled r k n q kept
-settled r k n q kept at is so =
-    let reused : (taken_first r k n).mixed ≡ used r k.station q n =
-    elim (first_request r k n) as (λ o. first_request r k n ≡ o
-    → ((unwrap_or (option_map (kept_of r k n) o) (record { first = n; mixed = false })).mixed
-    || nat_eq (unwrap_or (option_map (kept_of r k n) o) (record { first = n; mixed = false })).first n) ≡ true
-    → (unwrap_or (option_map (kept_of r k n) o) (record { first = n; mixed = false })).mixed ≡ used r k.station q n) [
-      | None ↦ λ none _. sym (unused r k.station k.request q (request_has r k n q at) n none)
-      | Some j ↦ λ first so. by_first j (first_is r k n j first) so
-    ] refl (subst (λ (x : KeptIdentifier). (x.mixed || nat_eq x.first n) ≡ true) is so) in
-    record {
-      reused = ap (λ (x : KeptIdentifier). x.mixed) is ∙ reused;
-      after = kept_more r k n q at ∙ ap (λ (b : Bool). Some (record { first = (taken_first r k n).first; mixed = b })) (sym reused)
-          ∙ ap (λ (x : KeptIdentifier). Some x) (sym is);
-    }
+-- an entry that sends the first request under its identifier
+pub requests_first : (r : PlainRecording) (n s : ℕ) (q : Pdu) (l : Identifier) (old : Requests) (kept : Kept) → IsSendOf r n s q
+    → identifier_of s q ≡ Some l → first_request r l n ≡ None → IsKeptBehind (identifier_hash l) n old.firsts kept
+    → AreRequests r n old → AreRequests r (n + 1) (record old { firsts = kept })
+unfolding first_request
+requests_first r n s q l old kept send is none behind tied = record {
+  firsts = kept_more (asks_at r) identifier_hash n old.firsts kept l (own_identifier r n s q l send is)
+      (ap is_some (request_own r n s q l send is)) none behind tied.firsts;
+  mixed = λ k. tied.mixed k ∙ sym (on k (same_identifier l k) refl) ∙ ap (mixed_under r k) (sym (add-one n));
+}
   where
-    by_first : (j : ℕ) → (j < n) × (is_some (request_at r k j) ≡ true) → (is_mixed r k n j || nat_eq j n) ≡ true → is_mixed r k n j ≡ used r k.station q n
-    by_first j there so =
-        elim (request_at r k j) as (λ o. request_at r k j ≡ o → is_some o ≡ true → is_mixed r k n j ≡ used r k.station q n) [
-          | None ↦ λ _ h. absurd (cc)
-          | Some f ↦ λ here _.
-              let mixed : is_mixed r k n j ≡ true = only_first (is_mixed r k n j) (nat_eq j n) (below there.0) so in
-              let first : is_mixed r k n j ≡ used r k.station f n = ap (λ o. option_map_or (λ f. used r k.station f n) o false) here in
-              mixed ∙ sym (used_by_first r k.station k.request q f (request_has r k n q at) n j there.0 here
-              ∙ ap (λ b. b || other q f) (sym first ∙ mixed))
-        ] refl there.1
-      where
-        only_first : (a b : Bool) → b ≡ false → (a || b) ≡ true → a ≡ true
-        only_first true b e h = refl
-        only_first false b e h = sym e ∙ h
+    on : (k : Identifier) (b : Bool) → same_identifier l k ≡ b → mixed_under r k (suc n) ≡ mixed_under r k n
+    on k false apart = mixed_still r k n (apart_here r n s q l k send is apart)
+    on k true same =
+        subst (λ m. mixed_under r m (suc n) ≡ mixed_under r m n) ((identifier_decides l k).0 same)
+        (mixed_first r l n q (request_own r n s q l send is) none)
 
-        below : j < n → nat_eq j n ≡ false
-        below l = grind (arith, nat_tests)
-
--- else the first tells
-pub record Unsettled (r : PlainRecording) (k : Identifier) (n : ℕ) (q : Pdu) (kept : KeptIdentifier) : Type 0 where
-  pub earlier : kept.first < n
-  pub reused : option_map_or (other q) (option_and_then (meant_by_send r.setting.exercise) (own_event r k.station kept.first)) false
-      ≡ is_reused r.setting.exercise q (log_before r k.station n)
-  pub after : kept_under r k (suc n) ≡ Some (record { first = kept.first; mixed = is_reused r.setting.exercise q (log_before r k.station n) })
-
-pub unsettled : (r : PlainRecording) (k : Identifier) (n : ℕ) (q : Pdu) (kept : KeptIdentifier) → request_at r k n ≡ Some q → kept ≡ taken_first r k n
-    → kept.mixed ≡ false → nat_eq kept.first n ≡ false → Unsettled r k n q kept
-unsettled r k n q kept at is pure far =
-    subst (λ (x : KeptIdentifier). Unsettled r k n q x) (sym is)
-    (elim (first_request r k n) as (λ o. first_request r k n ≡ o
-    → (unwrap_or (option_map (kept_of r k n) o) (record { first = n; mixed = false })).mixed ≡ false
-    → nat_eq (unwrap_or (option_map (kept_of r k n) o) (record { first = n; mixed = false })).first n ≡ false
-    → kept_under r k (suc n)
-    ≡ Some (record { first = (unwrap_or (option_map (kept_of r k n) o) (record { first = n; mixed = false })).first; mixed = used r k.station q n })
-    → Unsettled r k n q (unwrap_or (option_map (kept_of r k n) o) (record { first = n; mixed = false }))) [
-      | None ↦ λ _ _ far _. absurd (cc (sym far ∙ eq-eqb n n refl))
-      | Some j ↦ λ first pure _ after. by_first j (first_is r k n j first) pure after
-    ] refl (subst (λ (x : KeptIdentifier). x.mixed ≡ false) is pure) (subst (λ (x : KeptIdentifier). nat_eq x.first n ≡ false) is far) (kept_more r k n q at))
+-- an entry that sends a further one
+pub requests_again : (r : PlainRecording) (n s j : ℕ) (q : Pdu) (l : Identifier) (old : Requests) (mixed : Mixed) → IsSendOf r n s q
+    → identifier_of s q ≡ Some l → first_request r l n ≡ Some j
+    → is_some (get same_identifier mixed l) ≡ is_reused r.setting.exercise q (log_before r l.station n)
+    → ((k : Identifier) → same_identifier l k ≡ false → get same_identifier mixed k ≡ get same_identifier old.mixed k)
+    → AreRequests r n old → AreRequests r (n + 1) (record old { mixed = mixed })
+unfolding first_request
+requests_again r n s j q l old mixed send is first here rest tied = record {
+  firsts = kept_later (asks_at r) identifier_hash n j old.firsts l (own_identifier r n s q l send is) first tied.firsts;
+  mixed = λ k. on k (same_identifier l k) refl ∙ ap (mixed_under r k) (sym (add-one n));
+}
   where
-    by_first : (j : ℕ) → (j < n) × (is_some (request_at r k j) ≡ true) → is_mixed r k n j ≡ false
-        → kept_under r k (suc n) ≡ Some (record { first = j; mixed = used r k.station q n }) → Unsettled r k n q (kept_of r k n j)
-    by_first j there pure after =
-        elim (request_at r k j) as (λ o. request_at r k j ≡ o → is_some o ≡ true → Unsettled r k n q (kept_of r k n j)) [
-          | None ↦ λ _ h. absurd (cc)
-          | Some f ↦ λ here _.
-              let first : is_mixed r k n j ≡ used r k.station f n = ap (λ o. option_map_or (λ f. used r k.station f n) o false) here in
-              record {
-                earlier = there.0;
-                reused = ap (λ o. option_map_or (other q) o false) (sent_own r k j f here)
-                    ∙ sym (used_by_first r k.station k.request q f (request_has r k n q at) n j there.0 here
-                    ∙ ap (λ b. b || other q f) (sym first ∙ pure));
-                after = after;
-              }
-        ] refl there.1
+    on : (k : Identifier) (b : Bool) → same_identifier l k ≡ b → is_some (get same_identifier mixed k) ≡ mixed_under r k (suc n)
+    on k false apart = ap is_some (rest k apart) ∙ tied.mixed k ∙ sym (mixed_still r k n (apart_here r n s q l k send is apart))
+    on k true same =
+        subst (λ m. is_some (get same_identifier mixed m) ≡ mixed_under r m (suc n)) ((identifier_decides l k).0 same)
+        (here ∙ sym (mixed_again r l n j q (request_own r n s q l send is) first))
 
--- what an identifier says of its request
-pub identified : (s : ℕ) (q : Pdu) (k : Identifier) → identifier_of s q ≡ Some k → (is_request_body q.body ≡ true) × (k.station ≡ s)
-identified s q k =
-    elim (is_request_body q.body) as (λ b. cond b (option_map (identifier s) (request_id_of q.body)) None ≡ Some k → (b ≡ true) × (k.station ≡ s)) [
-      | false ↦ λ h. absurd (cc)
-      | true ↦ elim (request_id_of q.body) as (λ o. option_map (identifier s) o ≡ Some k → (true ≡ true) × (k.station ≡ s)) [
-        | None ↦ λ h. absurd (cc)
-        | Some id ↦ λ h. (refl, sym (ap (λ (x : Identifier). x.station) (same_Some (identifier s id) k h)))
-      ]
-    ]
+-- HOW A FURTHER REQUEST USES ITS IDENTIFIER: it reuses it where it is mixed, or where the first is another order
+reused_again : (r : PlainRecording) (n s j : ℕ) (q : Pdu) (l : Identifier) (requests : Requests) → IsSendOf r n s q → identifier_of s q ≡ Some l
+    → first_request r l n ≡ Some j → AreRequests r n requests
+    → is_reused r.setting.exercise q (log_before r l.station n)
+    ≡ (is_some (get same_identifier requests.mixed l)
+    || option_map_or (other q) (option_and_then (meant_by_send r.setting.exercise) (own_event r l.station j)) false)
+reused_again r n s j q l requests send is first tied =
+    elim (request_at r l j) as (λ o. request_at r l j ≡ o → is_some o ≡ true → used r l.station q n ≡ (is_some (get same_identifier requests.mixed l)
+    || option_map_or (other q) (option_and_then (meant_by_send r.setting.exercise) (own_event r l.station j)) false)) [
+      | None ↦ λ _ h. absurd (cc)
+      | Some f ↦ λ there _.
+          used_by_first r l.station l.request q f (request_has r l n q (request_own r n s q l send is)) n j (first_is r l n j first).0 there
+          ∙ ap (λ b. b || other q f) (sym (tied.mixed l ∙ ap (λ o. option_map_or (is_mixed r l n) o false) first
+          ∙ ap (λ o. option_map_or (λ f. used r l.station f n) o false) there))
+          ∙ ap (λ o. is_some (get same_identifier requests.mixed l) || option_map_or (other q) o false) (sym (sent_own r l j f there))
+    ] refl (first_is r l n j first).1
 
-pub reused_here : (r : PlainRecording) (n s : ℕ) (q : Pdu) (k : Identifier) (reused : Bool) → identifier_of s q ≡ Some k
-    → reused ≡ is_reused r.setting.exercise q (log_before r k.station n)
-    → reused ≡ (is_request_body q.body && is_reused r.setting.exercise q (log_before r s n))
-reused_here r n s q k reused is so =
-    let known = identified s q k is in
-    so ∙ ap (λ t. is_reused r.setting.exercise q (log_before r t n)) known.1
-    ∙ ap (λ b. b && is_reused r.setting.exercise q (log_before r s n)) (sym known.0)
+-- where it is mixed
+pub reused_mixed : (r : PlainRecording) (n s j : ℕ) (q : Pdu) (l : Identifier) (requests : Requests) → IsSendOf r n s q → identifier_of s q ≡ Some l
+    → first_request r l n ≡ Some j → AreRequests r n requests → is_some (get same_identifier requests.mixed l) ≡ true
+    → is_reused r.setting.exercise q (log_before r l.station n) ≡ true
+reused_mixed r n s j q l requests send is first tied mixed =
+    reused_again r n s j q l requests send is first tied
+    ∙ ap (λ b. b || option_map_or (other q) (option_and_then (meant_by_send r.setting.exercise) (own_event r l.station j)) false) mixed
 
-pub either_test : (a : Bool) (m n : ℕ) → (a ≡ true) ⊎ ((a ≡ false) × (m ≡ n)) → (a || nat_eq m n) ≡ true
-either_test a m n = ⊎_elim (λ e. ap (λ b. b || nat_eq m n) e) (λ e. ap (λ b. a || b) (eq-eqb m n e.1) ∙ or_true a)
+-- where it is not
+pub reused_unmixed : (r : PlainRecording) (n s j : ℕ) (q : Pdu) (l : Identifier) (requests : Requests) → IsSendOf r n s q → identifier_of s q ≡ Some l
+    → first_request r l n ≡ Some j → AreRequests r n requests → is_some (get same_identifier requests.mixed l) ≡ false
+    → is_reused r.setting.exercise q (log_before r l.station n)
+    ≡ option_map_or (other q) (option_and_then (meant_by_send r.setting.exercise) (own_event r l.station j)) false
+reused_unmixed r n s j q l requests send is first tied pure =
+    reused_again r n s j q l requests send is first tied
+    ∙ ap (λ b. b || option_map_or (other q) (option_and_then (meant_by_send r.setting.exercise) (own_event r l.station j)) false) pure
 
-pub written_twice : {X : Type 0} (b : Bool) (u v w : X) → cond b u (cond b v w) ≡ cond b u w
-written_twice true u v w = refl
-written_twice false u v w = refl
+-- THE FIRST REQUEST UNDER AN IDENTIFIER does not reuse it
+pub reused_first : (r : PlainRecording) (n s : ℕ) (q : Pdu) (l : Identifier) → IsSendOf r n s q → identifier_of s q ≡ Some l → first_request r l n ≡ None
+    → is_reused r.setting.exercise q (log_before r l.station n) ≡ false
+reused_first r n s q l send is none = unused r l.station l.request q (request_has r l n q (request_own r n s q l send is)) n none
 
 -- an entry that is no Send of a PDU
 pub requests_pass : (r : PlainRecording) (n : ℕ) (e : Entry) (requests : Requests) → slice_get r.entries n ≡ Some e
     → ((k : Identifier) → request_by r k (event_of e) ≡ None) → AreRequests r n requests → AreRequests r (n + 1) requests
 unfolding request_at
-requests_pass r n e requests at none tied k =
-    tied k ∙ sym (kept_still r k n (ap (option_and_then (λ e. request_by r k (event_of e))) at ∙ none k)) ∙ ap (kept_under r k) (sym (add-one n))
+requests_pass r n e requests at none tied =
+    requests_none r n requests (λ k. ap (option_and_then (λ e. request_by r k (event_of e))) at ∙ none k) tied
 
 pub other_unasked : (r : PlainRecording) (s : ℕ) (b : List ℕ) → meaning r.setting.exercise b ≡ None → (k : Identifier) → request_by r k (Send s b) ≡ None
 other_unasked r s b other k = ap (option_and_then (request_under k s)) other
 
 -- before the first entry
-pub none_kept : (r : PlainRecording) (requests : Requests) → ((k : Identifier) → get same_identifier requests k ≡ None) → AreRequests r 0 requests
-none_kept r requests none k = none k ∙ sym (ap (option_map (kept_of r k 0)) (first_none r k))
+pub none_kept : (r : PlainRecording) (requests : Requests) → length requests.firsts.slots.slots.items ≡ 0 → length requests.firsts.order.items ≡ 0
+    → ((k : Identifier) → get same_identifier requests.mixed k ≡ None) → AreRequests r 0 requests
+none_kept r requests none empty unmixed = record {
+  firsts = kept_none (asks_at r) identifier_hash requests.firsts none empty;
+  mixed = λ k. ap is_some (unmixed k) ∙ sym (ap (λ o. option_map_or (is_mixed r k 0) o false) (first_none r k));
+}
+
+-- ---- what is looked up
+
+pub first_looked_up : (r : PlainRecording) (n : ℕ) (requests : Requests) (k : Identifier) (o : Option ℕ) → AreRequests r n requests
+    → IfSome o (λ e. Stands requests.firsts.slots.slots.items e × (asks_at r k e ≡ true))
+    → IfNone o ((e : ℕ) → IsReached requests.firsts.slots.slots.items (identifier_hash k) e → asks_at r k e ≡ false) → o ≡ first_request r k n
+unfolding first_request
+first_looked_up r n requests k o tied found absent =
+    looked_up (asks_at r) identifier_hash n requests.firsts.slots.slots.items k (asks_at r k) tied.firsts.first (λ e stands. refl) o found absent

@@ -28,6 +28,10 @@ key_base k = hash_fed (key_fed k)
 abbrev pub key_hash : Key → ℕ
 key_hash k = key_base k % 0x40000000 + 0x40000000 * (k.response % 4)
 
+-- the hash of an identifier
+abbrev pub identifier_hash : Identifier → ℕ
+identifier_hash k = hash_fed (identifier_fed k)
+
 -- the hash of a datagram
 abbrev pub datagram_hash : List ℕ → ℕ
 datagram_hash bytes = hash_fed (bytes ∷ [])

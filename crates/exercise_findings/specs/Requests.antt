@@ -1,9 +1,7 @@
--- The requests that stations send under one request identifier, kept in a table (profile).
+-- The requests that stations send under one request identifier, and what is kept of them (profile).
 use Rattle.std.specs.Prelude.{◌≡◌, ℕ, List, Bool, false, ◌&&◌, ◌==◌, Option, Some, None, is_some, option_map, option_and_then, slice_get, if◌then◌else◌}
 use Rattle.std.specs.Option.{option_map_or}
-use Rattle.std.specs.declared.hash.BuildHasherDefault.{BuildHasherDefault}
-use Rattle.std.specs.declared.hash.DefaultHasher.{DefaultHasher}
-use Rattle.indexmap.specs.IndexMap.{IndexMap, get}
+use Rattle.indexmap.specs.IndexMap.{get}
 use Rattle.siman_pdus.specs.declared.pdu.Pdu.{Pdu}
 use Rattle.siman_pdus.specs.Role.{is_request_body, request_id_of}
 use Rattle.exercise_model.specs.Entry.{Sent}
@@ -13,7 +11,9 @@ use Rattle.exercise_model.specs.Meaning.{meaning}
 use Rattle.exercise_model.specs.Cause.{is_reused}
 use Rattle.exercise_model.specs.Place.{first_below, log_before}
 use Rattle.exercise_findings.specs.declared.requests.Identifier.{Identifier}
-use Rattle.exercise_findings.specs.declared.requests.KeptIdentifier.{KeptIdentifier}
+use Rattle.exercise_findings.specs.declared.requests.Requests.{Requests}
+use Rattle.exercise_findings.specs.Hashed.{identifier_hash}
+use Rattle.exercise_findings.specs.Kept.{AreKept}
 
 -- two identifiers are the same
 abbrev pub same_identifier : Identifier → Identifier → Bool
@@ -37,28 +37,26 @@ request_by r k (Tell s e y) = None
 unfoldable pub request_at : PlainRecording → Identifier → ℕ → Option Pdu
 request_at r k i = option_and_then (λ e. request_by r k (event_of e)) (slice_get r.entries i)
 
+-- entry i sends a request under an identifier
+abbrev pub asks_at : PlainRecording → Identifier → ℕ → Bool
+asks_at r k i = is_some (request_at r k i)
+
 -- the entry of the first request below n under an identifier
 unfoldable pub first_request : PlainRecording → Identifier → ℕ → Option ℕ
-first_request r k n = first_below (λ i. is_some (request_at r k i)) n
+first_request r k n = first_below (asks_at r k) n
 
 -- below n the identifier is used for another order than that of entry j
 abbrev pub is_mixed : PlainRecording → Identifier → ℕ → ℕ → Bool
 is_mixed r k n j = option_map_or (λ f. is_reused r.setting.exercise f (log_before r k.station n)) (request_at r k j) false
 
--- what is kept of an identifier: the entry of its first request below n, and whether it is used for another order
-abbrev pub kept_of : PlainRecording → Identifier → ℕ → ℕ → KeptIdentifier
-kept_of r k n j = record { first = j; mixed = is_mixed r k n j }
+-- below n the identifier is used for another order than that of its first request there
+abbrev pub mixed_under : PlainRecording → Identifier → ℕ → Bool
+mixed_under r k n = option_map_or (is_mixed r k n) (first_request r k n) false
 
-abbrev pub kept_under : PlainRecording → Identifier → ℕ → Option KeptIdentifier
-kept_under r k n = option_map (kept_of r k n) (first_request r k n)
-
--- what notes them
-abbrev pub Requests : Type 0
-Requests = IndexMap Identifier KeptIdentifier (BuildHasherDefault DefaultHasher)
-
--- THE TIE: under each identifier the table has what is kept of it
-abbrev pub AreRequests : PlainRecording → ℕ → Requests → Type 0
-AreRequests r n requests = (k : Identifier) → get same_identifier requests k ≡ kept_under r k n
+-- THE TIE: the first request under each identifier is kept, and the identifiers that are used for another order than that
+pub record AreRequests (r : PlainRecording) (n : ℕ) (requests : Requests) : Type 0 where
+  pub firsts : AreKept (asks_at r) identifier_hash n requests.firsts
+  pub mixed : (k : Identifier) → is_some (get same_identifier requests.mixed k) ≡ mixed_under r k n
 
 -- Entry n is the Send of p by station s.
 pub record IsSendOf (r : PlainRecording) (n s : ℕ) (p : Pdu) : Type 0 where

@@ -278,7 +278,7 @@ fn pass_over<L: ExerciseLog>(alloc: Global, log: &L) -> Result<Pass, AllocError>
     ensures limits { OnOk result (IsRecording (L.recording log.now)) }
 {
     let mut found = nothing_found(alloc, log)?;
-    let mut requests = no_requests(alloc);
+    let mut requests = no_requests(alloc, log);
     for entry in 0..log.entry_count() {
         find_entry(&mut found, &mut requests, log, entry)?;
     }

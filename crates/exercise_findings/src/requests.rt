@@ -1,29 +1,30 @@
-//! The requests that each station sends under each request identifier, kept in a table.
+//! The requests that each station sends under each request identifier. Of the first under an identifier
+//! its entry alone is kept, under the hash of the identifier, which is read from the log where it is
+//! looked for.
 
-ghost use Rattle.std.specs.Prelude.{◌≡◌, ◌<◌, ◌+◌, ◌&&◌, not, true, length, option_map, option_and_then, OnOk, IfOk, None, Some, false, if◌then◌else◌};
+ghost use Rattle.std.specs.Prelude.{◌≡◌, ◌<◌, ◌+◌, ◌&&◌, not, true, length, is_some, option_and_then, OnOk, IfOk, Some, false};
 ghost use Rattle.std.specs.Option.{option_map_or};
 ghost use Rattle.std.proofs.Common.{ap};
 ghost use Rattle.siman_pdus.specs.Reading.{pdu_of};
 ghost use Rattle.siman_pdus.specs.Role.{is_request_body};
 ghost use Rattle.siman_pdus.specs.Same.{is_same_order};
-ghost use Rattle.indexmap.specs.IndexMap.{get};
-ghost use Rattle.exercise_model.specs.Cause.{is_other_order, is_reused};
+ghost use Rattle.exercise_model.specs.Cause.{is_reused};
 ghost use Rattle.exercise_model.specs.Place.{log_before, own_event};
 ghost use Rattle.exercise_findings.specs.Sent.{meant_by_send};
-ghost use Rattle.exercise_findings.specs.declared.requests.Identifier.{Identifier};
-ghost use Rattle.exercise_findings.specs.declared.requests.KeptIdentifier.{KeptIdentifier};
 ghost use Rattle.exercise_findings.specs.FirstSends.{IsNewSend};
-ghost use Rattle.exercise_findings.specs.Requests.{same_identifier, identifier_of, AreRequests, IsSendOf};
-ghost use Rattle.exercise_findings.specs.Hashed.{identifier_fed};
+ghost use Rattle.exercise_findings.specs.Requests.{identifier_of, request_under, asks_at, first_request, AreRequests, IsSendOf};
+ghost use Rattle.exercise_findings.specs.Hashed.{identifier_fed, identifier_hash};
 ghost use Rattle.exercise_findings.specs.Decided.{identifier_decides};
 
 use crate::change::sent_by;
 use crate::hashed::word;
+use crate::kept::{Kept, keep_behind, nothing_kept};
+use crate::slots::{Sought, find};
 use crate::table::{Table, keep_first};
-use exercise_model::ExerciseLog;
+use exercise_model::{EntryView, ExerciseLog, meaning_view};
 use siman_pdus::{PduView, is_request, request_id, same_order};
 use std::alloc::{AllocError, Global};
-use std::hash::{BuildHasherDefault, Hash, Hasher};
+use std::hash::{BuildHasherDefault, DefaultHasher, Hash, Hasher};
 
 /// What the requests of one station have in common that are looked up together.
 #[derive(Clone, Copy, PartialEq, Eq)]
@@ -44,23 +45,41 @@ impl Hash for Identifier {
     }
 }
 
-/// What is kept of the requests under one identifier.
-#[derive(Clone, Copy)]
-pub(crate) struct KeptIdentifier {
-    /// The entry of the first of them.
-    pub first: u32,
-    /// Whether one of them is another order than the first.
-    pub mixed: bool,
+/// What is kept of the requests so far.
+pub(crate) struct Requests {
+    /// The first request under each identifier.
+    pub firsts: Kept,
+    /// The identifiers under which another order than the first was sent.
+    pub mixed: Table<Identifier, bool>,
 }
 
-/// What is kept under each identifier.
-pub(crate) type Requests = Table<Identifier, KeptIdentifier>;
+// Not derived: who drops it makes one call, and does not take its table apart by himself.
+impl Drop for Requests {
+    fn drop(self) {
+        let Requests {
+            firsts: _firsts,
+            mixed: _mixed,
+        } = self;
+    }
+}
 
 /// No requests. It takes no memory.
-pub(crate) fn no_requests(alloc: Global) -> Requests
-    ensures { (k : Identifier) → get same_identifier result k ≡ None }
+pub(crate) fn no_requests<L: ExerciseLog>(alloc: Global, log: &L) -> Requests
+    ensures { AreRequests (L.recording log.now) 0 result }
 {
-    Requests::with_hasher(alloc, BuildHasherDefault::default())
+    Requests {
+        firsts: nothing_kept(alloc, log.entry_count()),
+        mixed: Table::with_hasher(alloc, BuildHasherDefault::default()),
+    }
+}
+
+/// The hash of an identifier.
+fn identifier_hash(identifier: &Identifier) -> u32
+    ensures { result ≡ identifier_hash identifier.now }
+{
+    let mut hasher = DefaultHasher::new();
+    hasher.write_u64(word(identifier.request, identifier.station, 0));
+    (hasher.finish() % 0x1_0000_0000) as u32
 }
 
 /// The identifier under which a station sends a PDU, where it is a request.
@@ -76,12 +95,62 @@ fn identifier_of(station: u16, pdu: &PduView<'_>) -> Option<Identifier>
     }
 }
 
-/// Keeps that one of the requests under an identifier is another order than the first.
-fn keep_mixed(requests: &mut Requests, identifier: Identifier, first: u32) -> Result<(), AllocError>
-    ensures { OnOk result ((k : Identifier) → get same_identifier requests.new k ≡ (if same_identifier identifier k then Some (record { first = first; mixed = true }) else get same_identifier requests.old k)) }
+/// Whether a PDU that a station sends is a request under an identifier.
+fn is_under(identifier: &Identifier, station: u16, pdu: &PduView<'_>) -> bool
+    ensures { result ≡ is_some (request_under identifier.now station (pdu_of pdu.now)) }
 {
-    requests.insert(identifier, KeptIdentifier { first, mixed: true })?;
-    Ok(())
+    match identifier_of(station, pdu) {
+        Some(other) => *identifier == other,
+        None => false,
+    }
+}
+
+/// Whether an entry sends a request under an identifier.
+#[tactic(auto, unfolding(crate::specs::Requests::request_at))]
+fn asks_at<L: ExerciseLog>(log: &L, identifier: &Identifier, entry: usize) -> bool
+    ensures { result ≡ asks_at (L.recording log.now) identifier.now entry }
+{
+    if entry >= log.entry_count() {
+        return false;
+    }
+    match log.entry(entry) {
+        EntryView::Sent { station, bytes, .. } => match meaning_view(log.exercise(), bytes) {
+            Some(pdu) => is_under(identifier, station, &pdu),
+            None => false,
+        },
+        EntryView::Received { .. } | EntryView::Told { .. } => false,
+    }
+}
+
+/// The entries that send a request under an identifier.
+#[derive(Drop)]
+struct Asking<'a, L: ExerciseLog> {
+    log: &'a L,
+    identifier: &'a Identifier,
+}
+
+impl<'a, L: ExerciseLog> Sought for Asking<'a, L> {
+    ghost is_sought = { λ s. asks_at (L.recording s.log.now) s.identifier.now };
+
+    fn is_sought(&self, entry: u32) -> bool {
+        asks_at(self.log, self.identifier, entry as usize)
+    }
+}
+
+/// The first request under an identifier of this hash, of those before an entry.
+fn first_request<L: ExerciseLog>(
+    requests: &Requests,
+    log: &L,
+    hash: u32,
+    identifier: &Identifier,
+    before: usize,
+) -> Option<u32>
+    requires hash { hash ≡ identifier_hash identifier.now }
+    requires tied { AreRequests (L.recording log.now) before requests.now }
+    ensures { result ≡ first_request (L.recording log.now) identifier.now before }
+{
+    let _before = before;
+    find(&requests.firsts.slots, hash, &Asking { log, identifier })
 }
 
 /// Whether a PDU is another order than what an entry of a station sends.
@@ -104,6 +173,71 @@ pub(crate) struct IdentifierUse {
     pub first: bool,
 }
 
+/// Keeps a request that is not the first under its identifier, and tells whether the identifier was used
+/// for another order before: it was where another order than the first is known, or where the first
+/// is one.
+fn note_again<L: ExerciseLog>(
+    requests: &mut Requests,
+    log: &L,
+    identifier: Identifier,
+    first: u32,
+    entry: usize,
+    pdu: &PduView<'_>,
+) -> Result<bool, AllocError>
+    requires within { entry < length (L.recording log.now).entries }
+    requires sends { IsSendOf (L.recording log.now) entry identifier.station (pdu_of pdu.now) }
+    requires own { identifier_of identifier.station (pdu_of pdu.now) ≡ Some identifier }
+    requires first { first_request (L.recording log.now) identifier entry ≡ Some first }
+    requires tied { AreRequests (L.recording log.now) entry requests.old }
+    ensures tied { OnOk result (AreRequests (L.recording log.now) (entry + 1) requests.new) }
+    ensures reused { let r = L.recording log.now in IfOk result (λ reused. reused ≡ is_reused r.setting.exercise (pdu_of pdu.now) (log_before r identifier.station entry)) }
+{
+    if requests.mixed.contains_key(&identifier) {
+        return Ok(true);
+    }
+    let reused = differs(log, identifier.station, first as usize, pdu);
+    if reused {
+        keep_first(&mut requests.mixed, identifier, true)?;
+    }
+    Ok(reused)
+}
+
+/// Keeps a request under an identifier, and tells how it uses the identifier.
+fn note_under<L: ExerciseLog>(
+    requests: &mut Requests,
+    log: &L,
+    identifier: Identifier,
+    entry: usize,
+    pdu: &PduView<'_>,
+) -> Result<IdentifierUse, AllocError>
+    requires few { entry < 4294967295 }
+    requires within { entry < length (L.recording log.now).entries }
+    requires sends { IsSendOf (L.recording log.now) entry identifier.station (pdu_of pdu.now) }
+    requires own { identifier_of identifier.station (pdu_of pdu.now) ≡ Some identifier }
+    requires tied { AreRequests (L.recording log.now) entry requests.old }
+    ensures tied { OnOk result (AreRequests (L.recording log.now) (entry + 1) requests.new) }
+    ensures reused { let r = L.recording log.now in IfOk result (λ u. u.reused ≡ is_reused r.setting.exercise (pdu_of pdu.now) (log_before r identifier.station entry)) }
+    ensures first { IfOk result (λ u. u.first ≡ true → IsNewSend (L.recording log.now) entry) }
+{
+    let hash = identifier_hash(&identifier);
+    match first_request(requests, log, hash, &identifier, entry) {
+        Some(first) => {
+            let reused = note_again(requests, log, identifier, first, entry, pdu)?;
+            Ok(IdentifierUse {
+                reused,
+                first: false,
+            })
+        }
+        None => {
+            keep_behind(&mut requests.firsts, hash, entry as u32)?;
+            Ok(IdentifierUse {
+                reused: false,
+                first: true,
+            })
+        }
+    }
+}
+
 /// Keeps what an entry of a station sends, and tells how it uses its identifier, where it is a request:
 /// what is sent first under an identifier is new.
 pub(crate) fn note_request<L: ExerciseLog>(
@@ -121,30 +255,11 @@ pub(crate) fn note_request<L: ExerciseLog>(
     ensures reused { let r = L.recording log.now in IfOk result (λ u. u.reused ≡ (is_request_body (pdu_of pdu.now).body && is_reused r.setting.exercise (pdu_of pdu.now) (log_before r station entry))) }
     ensures first { IfOk result (λ u. u.first ≡ true → IsNewSend (L.recording log.now) entry) }
 {
-    let Some(identifier) = identifier_of(station, pdu) else {
-        return Ok(IdentifierUse {
+    match identifier_of(station, pdu) {
+        Some(identifier) => note_under(requests, log, identifier, entry, pdu),
+        None => Ok(IdentifierUse {
             reused: false,
             first: false,
-        });
-    };
-    let only = KeptIdentifier {
-        first: entry as u32,
-        mixed: false,
-    };
-    let kept = keep_first(requests, identifier, only)?;
-    let first = kept.first as usize;
-    if kept.mixed || first == entry {
-        return Ok(IdentifierUse {
-            reused: kept.mixed,
-            first: first == entry,
-        });
+        }),
     }
-    let reused = differs(log, station, first, pdu);
-    if reused {
-        keep_mixed(requests, identifier, kept.first)?;
-    }
-    Ok(IdentifierUse {
-        reused,
-        first: false,
-    })
 }

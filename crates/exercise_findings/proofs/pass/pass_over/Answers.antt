@@ -1,10 +1,9 @@
 use Rattle.std.proofs.Common.{◌≡◌, length, arith, subst}
 use Rattle.exercise_findings.specs.Tables.{IsPass}
-use Rattle.exercise_findings.proofs.Reused.{none_kept}
 use Rattle.exercise_findings.proofs.pass.pass_over.Goals as goal
 
 pub loop-entry-init : goal.loop-entry-init
-loop-entry-init g c = (c.in_ok-found.ensures, none_kept (g.L.ExerciseLog.recording c.args.log.now) c.no_requests-requests.result c.no_requests-requests.ensures)
+loop-entry-init g c = (c.in_ok-found.ensures, c.no_requests-requests.ensures)
 
 pub returns-clause-found : goal.returns-clause-found
 returns-clause-found g c =

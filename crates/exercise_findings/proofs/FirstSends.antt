@@ -7,11 +7,8 @@ use Rattle.std.proofs.lemmas.Option.{same_Some, none-some, slice_get_within}
 use Rattle.exercise_model.specs.Entry.{Sent}
 use Rattle.exercise_model.specs.Recording.{PlainRecording}
 use Rattle.exercise_model.specs.History.{Send, event_of}
-use Rattle.exercise_model.specs.Meaning.{meaning}
-use Rattle.exercise_model.specs.Account.{sender_of}
 use Rattle.exercise_model.specs.Place.{first_below}
 use Rattle.exercise_findings.specs.declared.first_sends.FirstSends.{FirstSends}
-use Rattle.exercise_findings.specs.declared.key.Key.{Key}
 use Rattle.exercise_findings.specs.FirstSends.{IsFirstSend, AreFirstSends, IsNewSend, IsNewKey}
 use Rattle.exercise_findings.specs.Firsts.{event_key, key_at, has_key, first_under}
 use Rattle.exercise_findings.specs.Hashed.{datagram_hash}
@@ -20,7 +17,7 @@ use Rattle.exercise_findings.specs.Senders.{sends_at, AreSenders}
 use Rattle.exercise_findings.specs.Slots.{IsReached, IsPut, Stands}
 use Rattle.exercise_findings.specs.Source.{is_source, source_at, first_source}
 use Rattle.exercise_findings.proofs.FirstEntries.{its_key}
-use Rattle.exercise_findings.proofs.Keeping.{below_on, none_here, later_here, new_here}
+use Rattle.exercise_findings.proofs.Keeping.{none_here, later_here, new_here}
 use Rattle.exercise_findings.proofs.Keyed.{passes}
 use Rattle.exercise_findings.proofs.Sources.{source_below, source_entry, source_own, source_is, sends_source, sent_at}
 use Rattle.exercise_findings.proofs.Standing.{stands_none}

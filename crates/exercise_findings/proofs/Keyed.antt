@@ -1,12 +1,10 @@
 -- What is looked up under a key is what a look through the log finds.
-use Rattle.std.proofs.Common.{◌≡◌, ℕ, zero, suc, ◌+◌, ◌-◌, ◌<◌, ◌≤◌, ◌∷◌, length, cond, Option, Some, None, Bool, true, false, refl, sym, ap, ◌∙◌, subst, arith}
+use Rattle.std.proofs.Common.{◌≡◌, ℕ, zero, suc, ◌+◌, ◌<◌, ◌∷◌, length, cond, Option, Some, None, Bool, true, false, refl, sym, ap, ◌∙◌, subst, arith}
 use Rattle.std.specs.Prelude.{IfSome, ◌≢◌, is_some, slice_get, nat_eq, nat_lt, ◌&&◌, ◌||◌, option_map, option_and_then, if◌then◌else◌}
 use Rattle.std.specs.Option.{option_map_or, option_or}
 use Rattle.std.specs.List.{list_any}
-use Rattle.std.proofs.Math.Numerals.{add-one}
 use Rattle.std.proofs.lemmas.Bool.{eqb-true, eq-eqb, lt-ltb, le-ltb}
-use Rattle.std.proofs.lemmas.Bool.Decides.{nat_tests, Decides-like, same_from_decides}
-use Rattle.exercise_findings.specs.Decided.{key_decides}
+use Rattle.std.proofs.lemmas.Bool.Decides.{nat_tests}
 use Rattle.std.proofs.lemmas.Option.{same_Some}
 use Rattle.dis_records.specs.Address.{Pair}
 use Rattle.dis_records.specs.Entity.{is_addressed}
@@ -24,7 +22,7 @@ use Rattle.exercise_model.specs.Place.{event_at, own_event, log_before, first_be
 use Rattle.exercise_model.specs.Account.{sends_able, first_able}
 use Rattle.exercise_model.proofs.Offered.{log_before-more, log_before-none}
 use Rattle.exercise_findings.specs.declared.key.Key.{Key}
-use Rattle.exercise_findings.specs.Firsts.{same_key, acknowledged_key, request_key, sent_key, received_key, answered_key, event_key, key_at, has_key, first_under, AreFirsts}
+use Rattle.exercise_findings.specs.Firsts.{same_key, acknowledged_key, request_key, sent_key, received_key, answered_key, event_key, key_at, has_key, first_under}
 
 nat_eq-comm : (a b : ℕ) → nat_eq a b ≡ nat_eq b a
 nat_eq-comm a b = grind (arith, nat_tests)

@@ -1,10 +1,10 @@
 -- Where a datagram was sent first by the station that it comes from.
-use Rattle.std.proofs.Common.{◌≡◌, ℕ, zero, suc, ◌+◌, ◌<◌, List, [], ◌∷◌, ◌++◌, length, cond, Bool, Option, Some, None, true, false, refl, sym, ap, ◌∙◌, subst, ⊎_elim, arith}
-use Rattle.std.specs.Prelude.{◌≤◌, ◌-◌, ◌⊎◌, slice_get, nat_eq, nat_lt, bytes_eq, option_and_then, IfSome, IfNone}
+use Rattle.std.proofs.Common.{◌≡◌, ℕ, zero, suc, ◌+◌, ◌<◌, List, [], ◌∷◌, length, cond, Bool, Option, Some, None, true, false, refl, sym, ap, ◌∙◌, arith}
+use Rattle.std.specs.Prelude.{◌≤◌, ◌-◌, slice_get, nat_eq, nat_lt, bytes_eq, option_and_then, IfSome, IfNone}
 use Rattle.std.specs.Option.{option_map_or}
 use Rattle.std.specs.Cmp.Lexicographic.{bytes_decides}
-use Rattle.std.proofs.lemmas.Bool.{eqb-true, eq-eqb, cases_eq}
-use Rattle.std.proofs.lemmas.Option.{cond_some, same_Some, slice_get_within}
+use Rattle.std.proofs.lemmas.Bool.{eqb-true, eq-eqb}
+use Rattle.std.proofs.lemmas.Option.{cond_some}
 use Rattle.siman_pdus.specs.declared.pdu.Pdu.{Pdu}
 use Rattle.exercise_model.specs.Entry.{Entry, Sent, Received, Told}
 use Rattle.exercise_model.specs.Recording.{PlainRecording, IsRecording}
@@ -18,13 +18,11 @@ use Rattle.exercise_model.proofs.Offered.{first_found, sender_found}
 use Rattle.exercise_findings.specs.declared.kept.Kept.{Kept}
 use Rattle.exercise_findings.specs.Hashed.{datagram_hash}
 use Rattle.exercise_findings.specs.Slots.{IsReached, Stands}
-use Rattle.exercise_findings.specs.Kept.{IsKeptBehind}
 use Rattle.exercise_findings.proofs.Keyed.{before_entry, first_before}
 use Rattle.exercise_findings.specs.Senders.{sends_at, AreSenders}
 use Rattle.exercise_findings.specs.Source.{sends_here, first_send, source_of_pdu, source_of_bytes, source_of_entry, source_of, is_source, first_source, source_by, source_at}
 use Rattle.exercise_findings.proofs.Keyed.{no_first, first_earlier}
-use Rattle.exercise_findings.proofs.Standing.{stands_none}
-use Rattle.exercise_findings.proofs.Keeping.{looked_up, kept_none, kept_still, kept_later, kept_more, order_stands, order_first}
+use Rattle.exercise_findings.proofs.Keeping.{looked_up, order_stands, order_first}
 
 -- the entry of a place
 pub entry_within : (entries : List Entry) (i : ℕ) → i < length entries → (e : Entry) × (slice_get entries i ≡ Some e)

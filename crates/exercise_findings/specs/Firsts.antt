@@ -1,5 +1,5 @@
 -- The first entry under each key: requests that a station received, and Ables and Unables that it sent (profile).
-use Rattle.std.specs.Prelude.{◌≡◌, ℕ, Bool, false, ◌&&◌, ◌==◌, Option, Some, None, option_map, option_and_then, slice_get, if◌then◌else◌, nat_lt}
+use Rattle.std.specs.Prelude.{◌≡◌, ℕ, Bool, false, ◌&&◌, ◌==◌, Option, Some, None, option_map, option_and_then, slice_get, if◌then◌else◌}
 use Rattle.std.specs.Option.{option_map_or}
 use Rattle.dis_records.specs.Address.{Pair}
 use Rattle.dis_records.specs.Entity.{is_addressed}

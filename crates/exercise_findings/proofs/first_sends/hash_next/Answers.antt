@@ -1,8 +1,6 @@
-use Rattle.std.proofs.Common.{◌≡◌, ◌+◌, Some, refl, arith}
-use Rattle.std.specs.Prelude.{slice_get}
+use Rattle.std.proofs.Common.{◌+◌, refl, arith}
 use Rattle.std.proofs.lemmas.Option.{slice_get_read}
 use Rattle.exercise_findings.specs.declared.first_sends.FirstSends.{FirstSends}
-use Rattle.exercise_findings.proofs.Columns.{on_ok}
 use Rattle.exercise_findings.proofs.FirstSends.{hashed_more, order_before}
 use Rattle.exercise_findings.proofs.first_sends.hash_next.Goals as goal
 

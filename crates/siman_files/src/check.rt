@@ -51,7 +51,7 @@ fn check_bytes<C: Read + Drop, W: Write>(
 {
     let log = RecordingView::over_limited(alloc, bytes, LARGEST_RECORDING)?;
     let certificate = fetch_certificate(alloc, certificate, LARGEST_CERTIFICATE)?;
-    judge(alloc, &log, &certificate, out)
+    judge(alloc, &log, certificate, out)
 }
 
 /// As [`check_files`], and tells a fault on `errors`: status 0 is a yes, 1 a no, 2 a fault with its
@@ -92,17 +92,19 @@ impl OfFiles for CheckCommand {
     }
 }
 
-/// Writes what is to be said of a log and a certificate.
+/// Writes what is to be said of a log and a certificate, which is given back before the text is made.
 #[tactic(auto, using(siman_answers::proofs::Offered::not_good))]
 fn judge<L: ExerciseLog, W: Write>(
     alloc: Global,
     log: &L,
-    certificate: &Certificate,
+    certificate: Certificate,
     out: &mut W,
 ) -> Result<bool, FilesFault>
-    ensures { Judges (Ok (L.recording log.now)) (Ok certificate.now.steps.items) result (W.contents out.old) (W.contents out.new) }
+    ensures { Judges (Ok (L.recording log.now)) (Ok certificate.steps.items) result (W.contents out.old) (W.contents out.new) }
 {
-    match check(alloc, log, certificate) {
+    let judged = check(alloc, log, &certificate);
+    drop(certificate);
+    match judged {
         Ok(checked) => {
             let text = report_text(alloc, log, &checked)?;
             match put(out, text.as_bytes()) {

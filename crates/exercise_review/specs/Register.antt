@@ -13,6 +13,7 @@ use Rattle.exercise_model.specs.Account.{pair_of}
 use Rattle.exercise_model.specs.Meaning.{meaning}
 use Rattle.exercise_model.specs.Setting.{is_open}
 use Rattle.exercise_findings.specs.Column.{IsColumn}
+use Rattle.exercise_findings.specs.Number.{entry_of}
 use Rattle.exercise_review.specs.declared.ways.Ways.{Ways}
 use Rattle.exercise_review.specs.Counted.{last_below}
 use Rattle.exercise_review.specs.Digest.{digest, digest_of}
@@ -93,21 +94,25 @@ IsUnder r test k = (i : ℕ) → test i ≡ true → has_key r k i ≡ true
 abbrev pub LastEntries : Type 0
 LastEntries = IndexMap ℕ ℕ (BuildHasherDefault DefaultHasher)
 
--- entry j goes back to the last one before it that has its key
-abbrev pub IsBefore : (ℕ → Option ℕ) → ℕ → Option ℕ → Type 0
-IsBefore keys j before = (k : ℕ) → holds keys k j ≡ true → before ≡ last_below (holds keys k) j
+-- a number that stands for no entry
+abbrev pub no_entry : ℕ
+no_entry = 0xFFFFFFFF
+
+-- entry j goes back to the last one before it that has its key, for which this number stands
+abbrev pub IsBefore : (ℕ → Option ℕ) → ℕ → ℕ → Type 0
+IsBefore keys j number = (k : ℕ) → holds keys k j ≡ true → entry_of number ≡ last_below (holds keys k) j
 
 -- THE TIE, after the entries below n: under each key the last of them that has it, and from each of them the way back
-pub record AreRegistered (keys : ℕ → Option ℕ) (n : ℕ) (entries : LastEntries) (ways : List (Option ℕ)) : Type 0 where
+pub record AreRegistered (keys : ℕ → Option ℕ) (n : ℕ) (entries : LastEntries) (ways : List ℕ) : Type 0 where
   pub last : (k : ℕ) → get nat_eq entries k ≡ last_below (holds keys k) n
-  pub before : IsColumn None (IsBefore keys) n ways
+  pub before : IsColumn no_entry (IsBefore keys) n ways
 
 -- none of the entries, which have these ways back, goes back to entry i where that is marked
-abbrev pub IsEnd : (ways : List (Option ℕ)) → ℕ → Bool → Type 0
-IsEnd ways i end = end ≡ true → (j : ℕ) → slice_index_or ways j None ≡ Some i → ⊥
+abbrev pub IsEnd : (ways : List ℕ) → ℕ → Bool → Type 0
+IsEnd ways i end = end ≡ true → (j : ℕ) → entry_of (slice_index_or ways j no_entry) ≡ Some i → ⊥
 
 -- WHAT MARKS the entries to which none goes back
-abbrev pub AreEnds : (ways : List (Option ℕ)) → List Bool → Type 0
+abbrev pub AreEnds : (ways : List ℕ) → List Bool → Type 0
 AreEnds ways = IsColumn false (IsEnd ways) (length ways)
 
 -- the entries below n by their second keys, if these are kept

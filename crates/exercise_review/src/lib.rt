@@ -28,6 +28,7 @@ mod counting;
 mod course;
 mod digest;
 mod entries;
+mod entry_number;
 mod fate;
 mod fault;
 mod filter;

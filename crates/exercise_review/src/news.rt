@@ -92,7 +92,7 @@ fn receipts_of<L: ExerciseLog>(
         return (None, None);
     };
     match findings.receipts(maker, reply.bytes, hint) {
-        Some(Receipts { first, last }) => (Some(first), Some(last)),
+        Some(Receipts { first, last }) => (Some(first as usize), Some(last as usize)),
         None => (None, None),
     }
 }

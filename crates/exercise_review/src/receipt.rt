@@ -46,11 +46,11 @@ impl<'a> Hash for Receipt<'a> {
     }
 }
 
-/// The first and the last entry at which a station received a datagram.
+/// The first and the last entry at which a station received a datagram, as numbers of 32 bits.
 #[derive(Clone, Copy)]
 pub(crate) struct Receipts {
-    pub first: usize,
-    pub last: usize,
+    pub first: u32,
+    pub last: u32,
 }
 
 /// The receipts of each datagram at each station. Strangers choose the bytes, so the hasher is one for
@@ -68,7 +68,7 @@ fn no_receipts<'a>(alloc: Global) -> Heard<'a>
 fn keep_receipt<'a>(
     heard: &mut Heard<'a>,
     receipt: Receipt<'a>,
-    entry: usize,
+    entry: u32,
 ) -> Result<(), AllocError>
     ensures { OnOk result ((k : Receipt) → get same_receipt heard.new k ≡ (if same_receipt receipt.entry k then Some (record { first = first_kept entry (get same_receipt heard.old receipt.entry); last = entry }) else get same_receipt heard.old k)) }
 {
@@ -99,7 +99,7 @@ fn note_receipt<'a, L: ExerciseLog>(
     }
     match log.entry(entry) {
         EntryView::Received { station, bytes, .. } => {
-            keep_receipt(heard, Receipt { station, bytes }, entry)?;
+            keep_receipt(heard, Receipt { station, bytes }, entry as u32)?;
             Ok(())
         }
         EntryView::Sent { .. } => Ok(()),

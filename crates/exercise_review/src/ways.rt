@@ -1,12 +1,13 @@
 //! Entries by their keys: from the last under each key a way leads back to the first.
 
-ghost use Rattle.std.specs.Prelude.{◌≡◌, ◌<◌, ℕ, ◌+◌, true, false, nat_eq, None, Some, IfOk, OnOk, IfSome, length, slice_index_or, unwrap_or};
+ghost use Rattle.std.specs.Prelude.{◌≡◌, ◌<◌, ◌≤◌, ℕ, ◌+◌, true, false, nat_eq, None, Some, IfOk, OnOk, IfSome, length, slice_index_or, unwrap_or};
 ghost use Rattle.indexmap.specs.IndexMap.{get};
 ghost use Rattle.siman_pdus.specs.Answers.{same_id};
 ghost use Rattle.exercise_model.specs.Place.{first_below};
 ghost use Rattle.exercise_review.specs.Register.{holds, AreRegistered, AreEnds};
 ghost use Rattle.exercise_review.specs.Counted.{last_below};
 
+use crate::entry_number::{entry_number, entry_of};
 use crate::question::{Question, first_below};
 use indexmap::IndexMap;
 use std::alloc::{AllocError, Global};
@@ -14,12 +15,12 @@ use std::hash::{BuildHasherDefault, DefaultHasher};
 
 /// The last entry under each key. Strangers choose what entries say, so the hasher is one for which
 /// nobody writes down keys that fall together.
-pub(crate) type LastEntries = IndexMap<u64, usize, BuildHasherDefault<DefaultHasher>>;
+pub(crate) type LastEntries = IndexMap<u64, u32, BuildHasherDefault<DefaultHasher>>;
 
-/// The last entry under each key, and for each entry the one before it under its key.
+/// The last entry under each key, and for each entry the number of the one before it under its key.
 pub(crate) struct Ways {
     pub last: LastEntries,
-    pub before: Vec<Option<usize>>,
+    pub before: Vec<u32>,
 }
 
 // Not derived: who drops it makes one call, and does not take its table apart by himself.
@@ -51,26 +52,28 @@ fn no_entries(alloc: Global) -> LastEntries
     LastEntries::with_hasher(alloc, BuildHasherDefault::default())
 }
 
-/// Keeps the next entry.
+/// Keeps the next entry, whose number is below the one that stands for none.
 fn note_entry<K: Keying>(
     last: &mut LastEntries,
-    before: &mut Vec<Option<usize>>,
+    before: &mut Vec<u32>,
     keying: &K,
     entry: usize,
 ) -> Result<(), AllocError>
-    requires { AreRegistered (K.keys keying.now) entry last.old before.old.items }
+    requires few { entry < 4294967295 }
+    requires tied { AreRegistered (K.keys keying.now) entry last.old before.old.items }
     ensures { OnOk result (AreRegistered (K.keys keying.now) (entry + 1) last.new before.new.items) }
 {
     let earlier = match keying.key(entry) {
-        Some(key) => last.insert(key, entry)?,
+        Some(key) => last.insert(key, entry as u32)?,
         None => None,
     };
-    before.push(earlier)?;
+    before.push(entry_number(earlier))?;
     Ok(())
 }
 
 /// The entries below an end by their keys. What is kept takes memory.
 pub(crate) fn ways_of<K: Keying>(alloc: Global, keying: &K, end: usize) -> Result<Ways, AllocError>
+    requires { end ≤ 4294967295 }
     ensures { IfOk result (λ ways. AreRegistered (K.keys keying.now) end ways.last ways.before.items) }
 {
     let mut last = no_entries(alloc);
@@ -96,12 +99,12 @@ fn note_earlier(ends: &mut Vec<bool>, earlier: Option<usize>)
 
 /// For each entry whether none goes back to it, where these are the ways back of all. What is kept
 /// takes memory.
-pub(crate) fn ends_of(alloc: Global, before: &[Option<usize>]) -> Result<Vec<bool>, AllocError>
+pub(crate) fn ends_of(alloc: Global, before: &[u32]) -> Result<Vec<bool>, AllocError>
     ensures { IfOk result (λ ends. AreEnds before.now ends.items) }
 {
     let mut ends = vec![in alloc; true; before.len()]?;
     for entry in 0..before.len() {
-        note_earlier(&mut ends, before[entry]);
+        note_earlier(&mut ends, entry_of(before[entry]));
     }
     Ok(ends)
 }
@@ -113,7 +116,7 @@ fn before<K: Keying>(ways: &Ways, keying: &K, end: usize, entry: usize) -> Optio
     ensures { (k : ℕ) → holds (K.keys keying.now) k entry ≡ true → result ≡ last_below (holds (K.keys keying.now) k) entry }
 {
     let _keying = keying;
-    ways.before[entry]
+    entry_of(ways.before[entry])
 }
 
 /// Whether an entry that passes is the first, where it has a key and all that pass have that: only

@@ -1,7 +1,9 @@
-use Rattle.std.proofs.Common.{◌≡◌, ⊎_elim, ℕ, ◌<◌, ◌≤◌, length, None, ap, ◌∙◌, arith}
+use Rattle.std.proofs.Common.{◌≡◌, ⊎_elim, ℕ, ◌<◌, ◌≤◌, length, ap, ◌∙◌, arith}
 use Rattle.std.specs.Prelude.{slice_index_or}
 use Rattle.std.proofs.lemmas.Bool.{cases_lt}
-use Rattle.std.proofs.lemmas.List.{length-replicate}
+use Rattle.std.proofs.lemmas.List.{get_or_default, length-replicate}
+use Rattle.exercise_findings.specs.Number.{entry_of}
+use Rattle.exercise_review.specs.Register.{no_entry}
 use Rattle.exercise_review.proofs.Ends.{ends_marked}
 use Rattle.exercise_review.proofs.ways.ends_of.Goals as goal
 
@@ -17,6 +19,7 @@ pub loop-entry-preserved : goal.loop-entry-preserved
 loop-entry-preserved c =
     let ways = c.args.before.now in
     let n : ℕ = c.loop-entry.entry in
+    let within : n < length ways = omega (arith, c.loop-entry-test.true) in
     record {
       count = c.note_earlier.ensures.count ∙ c.loop-entry.invariant.count;
       none = λ i marked j l goes.
@@ -25,7 +28,7 @@ loop-entry-preserved c =
           (λ (below : j < n). c.loop-entry.invariant.none i was.0 j below goes)
           (λ (from : n ≤ j).
           let same : n ≡ j = omega (arith, from, l) in
-          was.1 (ap (λ m. slice_index_or ways m None) same ∙ goes))
+          was.1 (c.entry_of.ensures ∙ ap entry_of (get_or_default ways n 0 no_entry within) ∙ ap (λ m. entry_of (slice_index_or ways m no_entry)) same ∙ goes))
           (cases_lt j n);
     }
 

@@ -1,4 +1,4 @@
-use Rattle.std.proofs.Common.{◌≡◌, ℕ, ◌<◌, List, length, Bool, true, false, Option, Some, sym, ◌∙◌, subst, arith}
+use Rattle.std.proofs.Common.{◌≡◌, ℕ, ◌<◌, List, length, Bool, true, false, Some, sym, ◌∙◌, subst, arith}
 use Rattle.std.specs.Prelude.{slice_index_or}
 use Rattle.std.proofs.lemmas.List.{get_or_default}
 use Rattle.exercise_model.specs.Recording.{PlainRecording}
@@ -10,7 +10,7 @@ use Rattle.exercise_review.proofs.register.Register.is_last.Goals as goal
 pub returns : goal.returns
 returns g c marked k has =
     let r : PlainRecording = c.self.inside.findings in
-    let ways : List (Option ℕ) = c.self.inside.kept.orders.before.items in
+    let ways : List ℕ = c.self.inside.kept.orders.before.items in
     let marks : List Bool = c.self.inside.kept.ends.items in
     let n : ℕ = c.args.entry in
     let same : r ≡ c.args.self.now = c.self.view_is in

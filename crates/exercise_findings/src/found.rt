@@ -44,13 +44,13 @@ pub(crate) struct Found {
     pub change: Option<Change>,
     /// What it is looked up by.
     pub key: Option<Key>,
-    /// The base of that, where it has one.
+    /// The base of that key, where it has one.
     pub base: u32,
     /// What the change behind it is looked up by, where it is an Able Acknowledge that was received.
     pub behind: Option<Key>,
     /// Whether it sends what comes from its own station.
     pub is_source: bool,
-    /// Whether what it sends is known to be new by that.
+    /// Whether it is known to send this first, as a request that is the first under its identifier.
     pub is_new: bool,
     /// Whether its datagram is "other".
     pub other: bool,

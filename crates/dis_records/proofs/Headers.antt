@@ -195,6 +195,34 @@ header_reads b e =
       limit = not_below _ _ long.0;
     }
 
+-- what is not refused has the bytes of a header, a version and a kind that are read
+pub header_known : (b : List ℕ) → header_refusal b ≡ None
+    → (12 ≤ length b) × ((is_version (spelled_number w8 0 b) ≡ true) × (is_kind_code (spelled_number w8 2 b) ≡ true))
+header_known b e =
+    let is = header_reads b e in
+    let x = is.stands in (
+      is.room,
+      (
+        ap is_version (sym x.0) ∙ is_version-version_code (header_at b).version,
+        ap is_kind_code (sym x.1.1.0) ∙ is_kind_code-kind_code (header_at b).kind,
+      ),
+    )
+
+-- a header put together from what stands at its offsets
+pub header_built : (b : List ℕ) (version : Version) (exercise : ℕ) (kind : Kind) (stamp own status : ℕ) → version_code version ≡ spelled_number w8 0 b
+    → exercise ≡ spelled_number w8 1 b → kind_code kind ≡ spelled_number w8 2 b → stamp ≡ spelled_number w32 4 b → own ≡ spelled_number w16 8 b
+    → status ≡ carried_status version (spelled_number w8 10 b)
+    → record { version = version; exercise = exercise; kind = kind; stamp = stamp; length = own; status = status } ≡ header_at b
+header_built b version exercise kind stamp own status of exercise_is code stamp_is own_is status_is =
+    let named : version ≡ version_from (spelled_number w8 0 b) = sym (version_from-version_code version) ∙ ap version_from of in
+    same_fields (record { version = version; exercise = exercise; kind = kind; stamp = stamp; length = own; status = status })
+    (version_from (spelled_number w8 0 b)) (spelled_number w8 1 b) (kind_from (spelled_number w8 2 b)) (spelled_number w32 4 b) (spelled_number w16 8 b)
+    (carried_status (version_from (spelled_number w8 0 b)) (spelled_number w8 10 b))
+    named exercise_is
+    (sym (kind_from-kind_code kind) ∙ ap kind_from code)
+    stamp_is own_is
+    (status_is ∙ ap (λ (v : Version). carried_status v (spelled_number w8 10 b)) named)
+
 -- ---- what read_header answers
 
 pub read_at : (r : Result Header HeaderFault) (b : List ℕ) → IfOk r (λ h. IsHeader h b) → IfOk r (λ h. (header_refusal b ≡ None) × (h ≡ header_at b))

@@ -200,6 +200,26 @@ fn read_fields(bytes: &[u8]) -> Result<Header, HeaderFault>
     })
 }
 
+/// The header of a datagram that is known to begin with one: as [`read_header`] reads it, without another
+/// look at what it could be refused for.
+#[tactic(auto, using(crate::proofs::Headers::header_known))]
+pub fn header_again(bytes: &[u8]) -> Header
+    requires { header_refusal bytes.now ≡ None }
+    ensures { result ≡ header_at bytes.now }
+{
+    let version = Version::from_code(u8_at(bytes, 0)).unwrap();
+    let kind = Kind::from_code(u8_at(bytes, 2)).unwrap();
+    let status = u8_at(bytes, 10);
+    Header {
+        version,
+        exercise: u8_at(bytes, 1),
+        kind,
+        stamp: u32_at(bytes, 4),
+        length: u16_at(bytes, 8),
+        status: version.carried_status(status),
+    }
+}
+
 /// The text of a header, with its padding zero; so the status of a version whose headers have none
 /// is not written.
 pub fn write_header(header: &Header) -> [u8; 12]

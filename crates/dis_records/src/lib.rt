@@ -32,8 +32,8 @@ pub use entity::{EntityId, Scope, addressed, addresses};
 pub use entity_number::{ANY_NUMBER, fits, is_open, scope};
 pub use entity_state::EntityState;
 pub use header::{
-    HEADER_SIZE, Header, HeaderFault, LARGEST_DATAGRAM, Version, read_header, versions_are_known,
-    write_header,
+    HEADER_SIZE, Header, HeaderFault, LARGEST_DATAGRAM, Version, header_again, read_header,
+    versions_are_known, write_header,
 };
 pub use kind::Kind;
 pub use views::{DatumsView, IdsView};

@@ -234,6 +234,11 @@ unfolding first_source
 all_hashed r n s all tied = record {
   kept = record {
     first = record {
+      keyed = λ e stands.
+          let at = tied.only e stands in
+          let source = (tied.each at.0 e at.1).source in
+          let sent = sent_at r e source in
+          (sent.1.1.0, source_is r e sent.0 sent.1.0 sent.1.1.0 sent.1.1.1 source);
       only = λ b e stands is. let at = tied.only e stands in (tied.each at.0 e at.1).first b is;
       all = λ b e first.
           let at = tied.all b e first in

@@ -37,7 +37,8 @@ looked_up has hash n slots k is tied same None found absent =
 
 pub first_none : {K : Type 0} (has : K → ℕ → Bool) (hash : K → ℕ) (slots : List Slot) → length slots ≡ 0 → AreFirst has hash 0 slots
 unfolding first_below
-first_none has hash slots none = record {
+first_none {K} has hash slots none = record {
+  keyed = λ e stands. stands_none slots e none stands ((k : K) × (has k e ≡ true));
   only = λ k e stands _. stands_none slots e none stands (first_below (has k) 0 ≡ Some e);
   all = λ k e first. absurd (none-some e first);
 }
@@ -46,6 +47,7 @@ first_none has hash slots none = record {
 pub first_still : {K : Type 0} (has : K → ℕ → Bool) (hash : K → ℕ) (n : ℕ) (slots : List Slot) → AreFirst has hash n slots
     → ((k : K) → first_below (has k) (n + 1) ≡ first_below (has k) n) → AreFirst has hash (n + 1) slots
 first_still has hash n slots tied same = record {
+  keyed = tied.keyed;
   only = λ k e stands is. same k ∙ tied.only k e stands is;
   all = λ k e first. tied.all k e (sym (same k) ∙ first);
 }
@@ -83,6 +85,10 @@ pub first_kept : {K : Type 0} (has : K → ℕ → Bool) (hash : K → ℕ) (n :
     → IsReached new (hash l) n → ((h e : ℕ) → IsReached old h e → IsReached new h e) → ((e : ℕ) → Stands new e → Stands old e ⊎ (e ≡ n))
     → AreFirst has hash (n + 1) new
 first_kept {K} has hash n old new l tied own here none reached kept only = record {
+  keyed = λ e stands. ⊎_elim
+      (λ (stood : Stands old e). tied.keyed e stood)
+      (λ (same : e ≡ n). (l, subst (λ j. has l j ≡ true) (sym same) here))
+      (only e stands);
   only = λ k e stands is. ⊎_elim
       (λ (stood : Stands old e). later_here (has k) n e (tied.only k e stood is) ∙ tied.only k e stood is)
       (λ (same : e ≡ n).

@@ -9,6 +9,7 @@ mod Standing
 mod Keeping
 mod Tied
 mod FirstEntries
+mod Meant
 mod Reported
 mod Reused
 mod Sources

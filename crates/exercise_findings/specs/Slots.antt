@@ -50,7 +50,8 @@ pub record IsPut (hash entry : ℕ) (old new : List Slot) : Type 0 where
   pub kept : (h e : ℕ) → IsReached old h e → IsReached new h e
   pub only : (e : ℕ) → Stands new e → Stands old e ⊎ (e ≡ entry)
 
--- THE TIE: of the entries that stand in slots, that under a key is the first below n that has the key, and it is found under the hash of the key
+-- THE TIE: each entry that stands in slots has a key, that under a key is the first below n that has the key, and it is found under the hash of the key
 pub record AreFirst {K : Type 0} (has : K → ℕ → Bool) (hash : K → ℕ) (n : ℕ) (slots : List Slot) : Type 0 where
+  pub keyed : (e : ℕ) → Stands slots e → (k : K) × (has k e ≡ true)
   pub only : (k : K) (e : ℕ) → Stands slots e → has k e ≡ true → first_below (has k) n ≡ Some e
   pub all : (k : K) (e : ℕ) → first_below (has k) n ≡ Some e → IsReached slots (hash k) e

@@ -1,22 +1,22 @@
 //! What a station sent under one key before an entry.
 
-ghost use Rattle.std.specs.Prelude.{◌≡◌, ◌<◌, length, option_map, option_and_then};
+ghost use Rattle.std.specs.Prelude.{◌≡◌, ◌<◌, true, length, option_map, option_and_then};
 ghost use Rattle.siman_pdus.specs.Reading.{pdu_of};
 ghost use Rattle.exercise_model.specs.Change.{able, unable, was_acknowledged, is_change};
 ghost use Rattle.exercise_model.specs.Place.{log_before, own_event};
-ghost use Rattle.exercise_findings.specs.Sent.{meant_by_send};
+ghost use Rattle.exercise_findings.specs.Sent.{is_meant, meant_by_send};
 ghost use Rattle.exercise_findings.specs.Firsts.{acknowledged_key, answer_base, AreFirsts};
 ghost use Rattle.exercise_findings.specs.Hashed.{key_base};
 
 use crate::firsts::{Firsts, first_under};
 use crate::key::acknowledged_key;
-use exercise_model::{AcknowledgeKey, EntryView, ExerciseLog, key_of, meaning_view, responds};
+use exercise_model::{AcknowledgeKey, EntryView, ExerciseLog, key_of, meaning_again, responds};
 use siman_pdus::{ABLE, PduView, UNABLE};
 
-/// What an entry of a station sends, if it sends something that is not "other".
-#[tactic(auto, unfolding(exercise_model::specs::Place::own_event))]
+/// What an entry of a station that is known to be none that is "other" sends, if it sends something.
+#[tactic(auto, unfolding(exercise_model::specs::Place::own_event, crate::specs::Sent::is_meant), using(crate::proofs::Meant::meant_within))]
 pub(crate) fn sent_by<L: ExerciseLog>(log: &L, station: u16, entry: usize) -> Option<PduView<'_>>
-    requires { entry < length (L.recording log.now).entries }
+    requires { is_meant (L.recording log.now) entry ≡ true }
     ensures { let r = L.recording log.now in option_map pdu_of result ≡ option_and_then (meant_by_send r.setting.exercise) (own_event r station entry) }
 {
     match log.entry(entry) {
@@ -24,7 +24,7 @@ pub(crate) fn sent_by<L: ExerciseLog>(log: &L, station: u16, entry: usize) -> Op
             station: at,
             bytes,
             ..
-        } if at == station => meaning_view(log.exercise(), bytes),
+        } if at == station => Some(meaning_again(log.exercise(), bytes)),
         _ => None,
     }
 }

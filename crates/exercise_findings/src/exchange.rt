@@ -1,6 +1,6 @@
 //! Which request an answer takes up.
 
-ghost use Rattle.std.specs.Prelude.{◌≡◌, ◌<◌, ◌≤◌, length, option_map, option_and_then, IfSome, Some, None, if◌then◌else◌};
+ghost use Rattle.std.specs.Prelude.{◌≡◌, ◌<◌, ◌≤◌, true, length, option_map, option_and_then, IfSome, Some, None, if◌then◌else◌};
 ghost use Rattle.siman_pdus.specs.Reading.{pdu_of};
 ghost use Rattle.exercise_model.specs.History.{station_at};
 ghost use Rattle.exercise_model.specs.Account.{pair_of_sent};
@@ -8,17 +8,18 @@ ghost use Rattle.exercise_model.specs.Exchange.{request_brought, request_taken_u
 ghost use Rattle.exercise_model.specs.Place.{log_before, own_event, entry_taken_up};
 ghost use Rattle.exercise_findings.specs.TakenUp.{request_of_sent};
 ghost use Rattle.exercise_findings.specs.Firsts.{AreFirsts};
+ghost use Rattle.exercise_findings.specs.Sent.{is_meant};
 
 use crate::firsts::{Firsts, first_noted};
 use crate::hint::Hint;
 use crate::kept::entry_kept_at;
 use crate::key::answered_key;
 use dis_records::Address;
-use exercise_model::{EntryView, ExerciseLog, is_answer, is_asked, meaning_view};
+use exercise_model::{EntryView, ExerciseLog, is_answer, is_asked, meaning_again};
 use siman_pdus::PduView;
 
-/// The request that an entry brings to a station for an answer.
-#[tactic(auto, unfolding(exercise_model::specs::Place::own_event))]
+/// The request that an entry which is known to be none that is "other" brings to a station for an answer.
+#[tactic(auto, unfolding(exercise_model::specs::Place::own_event, crate::specs::Sent::is_meant), using(crate::proofs::Meant::meant_within))]
 fn request_brought<'a, L: ExerciseLog>(
     log: &'a L,
     station: u16,
@@ -26,7 +27,7 @@ fn request_brought<'a, L: ExerciseLog>(
     answer: &PduView<'_>,
     entry: usize,
 ) -> Option<PduView<'a>>
-    requires { entry < length (L.recording log.now).entries }
+    requires { is_meant (L.recording log.now) entry ≡ true }
     ensures { let r = L.recording log.now in option_map pdu_of result ≡ option_and_then (request_brought r.setting.exercise address (pdu_of answer.now)) (own_event r station entry) }
 {
     match log.entry(entry) {
@@ -34,10 +35,14 @@ fn request_brought<'a, L: ExerciseLog>(
             station: at,
             bytes,
             ..
-        } if at == station => match meaning_view(log.exercise(), bytes) {
-            Some(request) if is_asked(address, answer, &request) => Some(request),
-            _ => None,
-        },
+        } if at == station => {
+            let request = meaning_again(log.exercise(), bytes);
+            if is_asked(address, answer, &request) {
+                Some(request)
+            } else {
+                None
+            }
+        }
         _ => None,
     }
 }

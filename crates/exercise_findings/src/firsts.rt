@@ -4,6 +4,7 @@
 ghost use Rattle.std.specs.Prelude.{◌≡◌, ◌<◌, ◌+◌, length, Some, true, IfOk, OnOk};
 ghost use Rattle.siman_pdus.specs.Reading.{pdu_of};
 ghost use Rattle.exercise_findings.specs.Hashed.{key_base, key_hash};
+ghost use Rattle.exercise_findings.specs.Sent.{is_meant};
 ghost use Rattle.exercise_findings.specs.FirstSends.{IsNewKey};
 ghost use Rattle.exercise_findings.specs.Firsts.{answer_base, key_at, has_key, first_under, AreFirsts, IsBased};
 
@@ -12,7 +13,7 @@ use crate::hint::Hint;
 use crate::kept::{Kept, keep_behind, kept_at, kept_place};
 use crate::key::{Key, acknowledged_key, received_key, sent_key};
 use crate::slots::{Sought, find};
-use exercise_model::{EntryView, ExerciseLog, key_of, meaning_view};
+use exercise_model::{EntryView, ExerciseLog, key_of, meaning_again};
 use siman_pdus::{ABLE, PduView};
 use std::alloc::AllocError;
 use std::hash::{DefaultHasher, Hasher};
@@ -50,36 +51,29 @@ pub(crate) fn answer_base(station: u16, pdu: &PduView<'_>) -> u32
     }
 }
 
-/// The key of an entry.
-#[tactic(auto, unfolding(crate::specs::Firsts::key_at))]
+/// The key of an entry that is known to be none that is "other".
+#[tactic(auto, unfolding(crate::specs::Firsts::key_at, crate::specs::Sent::is_meant), using(crate::proofs::Meant::meant_within))]
 fn key_at<L: ExerciseLog>(log: &L, entry: usize) -> Option<Key>
-    requires { entry < length (L.recording log.now).entries }
+    requires { is_meant (L.recording log.now) entry ≡ true }
     ensures { result ≡ key_at (L.recording log.now) entry }
 {
     match log.entry(entry) {
-        EntryView::Sent { station, bytes, .. } => match meaning_view(log.exercise(), bytes) {
-            Some(pdu) => sent_key(station, &pdu),
-            None => None,
-        },
-        EntryView::Received { station, bytes, .. } => match meaning_view(log.exercise(), bytes) {
-            Some(pdu) => {
-                let address = log.station(usize::from(station)).address();
-                received_key(station, address, &pdu)
-            }
-            None => None,
-        },
+        EntryView::Sent { station, bytes, .. } => {
+            sent_key(station, &meaning_again(log.exercise(), bytes))
+        }
+        EntryView::Received { station, bytes, .. } => {
+            let address = log.station(usize::from(station)).address();
+            received_key(station, address, &meaning_again(log.exercise(), bytes))
+        }
         EntryView::Told { .. } => None,
     }
 }
 
-/// Whether an entry has a key.
-#[tactic(auto, unfolding(crate::specs::Firsts::key_at))]
+/// Whether an entry that is known to be none that is "other" has a key.
 fn has_key<L: ExerciseLog>(log: &L, key: &Key, entry: usize) -> bool
+    requires { is_meant (L.recording log.now) entry ≡ true }
     ensures { result ≡ has_key (L.recording log.now) key.now entry }
 {
-    if entry >= log.entry_count() {
-        return false;
-    }
     match key_at(log, entry) {
         Some(other) => *key == other,
         None => false,
@@ -95,6 +89,8 @@ struct Keyed<'a, L: ExerciseLog> {
 
 impl<'a, L: ExerciseLog> Sought for Keyed<'a, L> {
     ghost is_sought = { λ s. has_key (L.recording s.log.now) s.key.now };
+
+    ghost is_known = { λ s. is_meant (L.recording s.log.now) };
 
     fn is_sought(&self, entry: u32) -> bool {
         has_key(self.log, self.key, entry as usize)

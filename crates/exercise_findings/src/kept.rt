@@ -1,7 +1,7 @@
 //! The first entries under keys, kept under the hashes of the keys, and one behind the other as they
 //! came. What a key is says who keeps them.
 
-ghost use Rattle.std.specs.Prelude.{◌≡◌, ◌≢◌, true, Some, length, slice_get, IfSome, OnOk};
+ghost use Rattle.std.specs.Prelude.{◌≡◌, ◌≢◌, ℕ, true, Some, length, slice_get, IfSome, OnOk};
 ghost use Rattle.exercise_findings.specs.Kept.{IsKeptBehind};
 
 use crate::slots::{Slots, Sought, keep, no_slots};
@@ -46,6 +46,7 @@ pub(crate) fn entry_kept_at(kept: &Kept, place: usize) -> Option<u32>
 
 /// The entry that was kept at a place, where it is the one that is looked for.
 pub(crate) fn kept_at<S: Sought>(kept: &Kept, place: usize, sought: &S) -> Option<u32>
+    requires { (e : ℕ) → slice_get kept.now.order.items place ≡ Some e → S.is_known sought.now e ≡ true }
     ensures { IfSome result (λ e. (slice_get kept.now.order.items place ≡ Some e) × (S.is_sought sought.now e ≡ true)) }
 {
     match entry_kept_at(kept, place) {

@@ -10,7 +10,7 @@ ghost use Rattle.siman_pdus.specs.Role.{is_request_body};
 ghost use Rattle.siman_pdus.specs.Same.{is_same_order};
 ghost use Rattle.exercise_model.specs.Cause.{is_reused};
 ghost use Rattle.exercise_model.specs.Place.{log_before, own_event};
-ghost use Rattle.exercise_findings.specs.Sent.{meant_by_send};
+ghost use Rattle.exercise_findings.specs.Sent.{is_meant, meant_by_send};
 ghost use Rattle.exercise_findings.specs.FirstSends.{IsNewSend};
 ghost use Rattle.exercise_findings.specs.Requests.{identifier_of, request_under, asks_at, first_request, AreRequests, IsSendOf};
 ghost use Rattle.exercise_findings.specs.Hashed.{identifier_fed, identifier_hash};
@@ -21,7 +21,7 @@ use crate::hashed::word;
 use crate::kept::{Kept, keep_behind, nothing_kept};
 use crate::slots::{Sought, find};
 use crate::table::{Table, keep_first};
-use exercise_model::{EntryView, ExerciseLog, meaning_view};
+use exercise_model::{EntryView, ExerciseLog, meaning_again};
 use siman_pdus::{PduView, is_request, request_id, same_order};
 use std::alloc::{AllocError, Global};
 use std::hash::{BuildHasherDefault, DefaultHasher, Hash, Hasher};
@@ -105,19 +105,16 @@ fn is_under(identifier: &Identifier, station: u16, pdu: &PduView<'_>) -> bool
     }
 }
 
-/// Whether an entry sends a request under an identifier.
-#[tactic(auto, unfolding(crate::specs::Requests::request_at))]
+/// Whether an entry that is known to be none that is "other" sends a request under an identifier.
+#[tactic(auto, unfolding(crate::specs::Requests::request_at, crate::specs::Sent::is_meant), using(crate::proofs::Meant::meant_within))]
 fn asks_at<L: ExerciseLog>(log: &L, identifier: &Identifier, entry: usize) -> bool
+    requires { is_meant (L.recording log.now) entry ≡ true }
     ensures { result ≡ asks_at (L.recording log.now) identifier.now entry }
 {
-    if entry >= log.entry_count() {
-        return false;
-    }
     match log.entry(entry) {
-        EntryView::Sent { station, bytes, .. } => match meaning_view(log.exercise(), bytes) {
-            Some(pdu) => is_under(identifier, station, &pdu),
-            None => false,
-        },
+        EntryView::Sent { station, bytes, .. } => {
+            is_under(identifier, station, &meaning_again(log.exercise(), bytes))
+        }
         EntryView::Received { .. } | EntryView::Told { .. } => false,
     }
 }
@@ -131,6 +128,8 @@ struct Asking<'a, L: ExerciseLog> {
 
 impl<'a, L: ExerciseLog> Sought for Asking<'a, L> {
     ghost is_sought = { λ s. asks_at (L.recording s.log.now) s.identifier.now };
+
+    ghost is_known = { λ s. is_meant (L.recording s.log.now) };
 
     fn is_sought(&self, entry: u32) -> bool {
         asks_at(self.log, self.identifier, entry as usize)
@@ -153,9 +152,10 @@ fn first_request<L: ExerciseLog>(
     find(&requests.firsts.slots, hash, &Asking { log, identifier })
 }
 
-/// Whether a PDU is another order than what an entry of a station sends.
+/// Whether a PDU is another order than what an entry of a station sends that is known to be none that is
+/// "other".
 fn differs<L: ExerciseLog>(log: &L, station: u16, entry: usize, pdu: &PduView<'_>) -> bool
-    requires { entry < length (L.recording log.now).entries }
+    requires { is_meant (L.recording log.now) entry ≡ true }
     ensures { let r = L.recording log.now in result ≡ option_map_or (λ q. not (is_same_order (pdu_of pdu.now) q)) (option_and_then (meant_by_send r.setting.exercise) (own_event r station entry)) false }
 {
     match sent_by(log, station, entry) {

@@ -48,6 +48,8 @@ pub(crate) struct Sending<'a, L: ExerciseLog> {
 impl<'a, L: ExerciseLog> Sought for Sending<'a, L> {
     ghost is_sought = { λ s. sends_at (L.recording s.log.now) s.datagram.now };
 
+    ghost is_known = { λ s e. true };
+
     fn is_sought(&self, entry: u32) -> bool {
         sends_at(self.log, self.datagram, entry as usize)
     }

@@ -36,11 +36,14 @@ const FREE: Slot = Slot {
 
 /// What an entry is looked for by, among those under one hash.
 pub(crate) trait Sought {
-    // What it answers.
+    // What it answers, and of which entries.
     ghost is_sought: { Self → ℕ → Bool };
 
-    /// Whether it is this entry.
+    ghost is_known: { Self → ℕ → Bool };
+
+    /// Whether it is this entry, of which something is known already.
     fn is_sought(&self, entry: u32) -> bool
+        requires { is_known self.now entry ≡ true }
         ensures { result ≡ is_sought self.now entry };
 }
 
@@ -91,6 +94,7 @@ fn slot_behind(place: usize, count: usize) -> usize
 
 /// The entry under a hash that is the one that is looked for.
 pub(crate) fn find<S: Sought>(slots: &Slots, hash: u32, sought: &S) -> Option<u32>
+    requires { (e : ℕ) → Stands slots.now.slots.items e → S.is_known sought.now e ≡ true }
     ensures found { IfSome result (λ e. Stands slots.now.slots.items e × (S.is_sought sought.now e ≡ true)) }
     ensures absent { IfNone result ((e : ℕ) → IsReached slots.now.slots.items hash e → S.is_sought sought.now e ≡ false) }
 {

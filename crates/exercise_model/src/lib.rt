@@ -39,7 +39,7 @@ pub use laws::{
     logs_suffice, parts_are_explained, what_explains_holds,
 };
 pub use log::ExerciseLog;
-pub use meaning::{meaning_of, meaning_view};
+pub use meaning::{meaning_again, meaning_of, meaning_view};
 pub use recording::{MOST_ENTRIES, Recording};
 pub use setting::Setting;
 pub use state::{Change, is_entity, scope_has, state_made};

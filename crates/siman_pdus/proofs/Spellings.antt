@@ -1,6 +1,6 @@
 -- What is read is spelled so, and what is spelled so is read.
 use Rattle.std.proofs.Common.{◌≡◌, ◌≤◌, ℕ, ◌⊎◌, inl, inr, List, [], ◌∷◌, ◌++◌, length, Option, Some, None, Result, Ok, Err, refl, sym, ap, subst, ◌∙◌, arith}
-use Rattle.std.specs.Prelude.{Bool, true, false, ◌↔◌, if◌then◌else◌, IfOk, IfErr}
+use Rattle.std.specs.Prelude.{Bool, true, false, ◌↔◌, if◌then◌else◌, is_some, IfOk, IfErr}
 use Rattle.std.specs.Result.{result_ok}
 use Rattle.std.specs.Int.{w8, w16, w32}
 use Rattle.std.proofs.lemmas.List.{length-append}
@@ -21,7 +21,7 @@ use Rattle.siman_pdus.specs.declared.pdu.Body.{Body}
 use Rattle.siman_pdus.specs.declared.pdu.Pdu.{Pdu}
 use Rattle.siman_pdus.specs.declared.views.PduView.{PduView}
 use Rattle.siman_pdus.specs.Spelling.{body_kind, body_layout, header_of, pdu_layout, pdu_size, pdu_text, HasCarriedStatus, Spells, carried}
-use Rattle.siman_pdus.specs.Shape.{body_refusal}
+use Rattle.siman_pdus.specs.Shape.{body_refusal, IsWhole}
 use Rattle.siman_pdus.specs.Reading.{body_at, pdu_of, view_from, pdu_from, first_refusal, view_refusal, pdu_refusal, refusal_of, viewed, reading, unless_refused}
 use Rattle.siman_pdus.proofs.Ends.{refused_whole, whole_not_refused}
 use Rattle.siman_pdus.proofs.Bodies.{body_stands, body_again}
@@ -45,6 +45,22 @@ not_refused_parts (Some fault) body e = absurd cc
 pub not_refused : (refusal : Option ViewFault) → pdu_refusal refusal ≡ None → refusal ≡ None
 not_refused None e = refl
 not_refused (Some fault) e = absurd cc
+
+-- what is known to be read is not refused: its header is there, its body is whole, and it shows its reading
+pub known_to_read : (b : List ℕ) → is_some (reading b) ≡ true
+    → (header_refusal b ≡ None) × (IsWhole (header_at b).kind b × (Some (pdu_of (view_from (header_at b) b)) ≡ reading b))
+known_to_read b is =
+    let passes = read_passes (refusal_of b) (pdu_from (header_at b) b) is in
+    let parts = not_refused_parts (header_refusal b) (body_refusal (header_at b).kind b) (not_refused (view_refusal b) passes) in (
+      parts.0,
+      (
+        refused_whole (header_at b).kind b (header_reads b parts.0).room parts.1,
+        ap (λ (o : Option PduFault). unless_refused o (pdu_from (header_at b) b)) (sym passes),
+      ),
+    ) where
+      read_passes : (refusal : Option PduFault) (p : Pdu) → is_some (unless_refused refusal p) ≡ true → refusal ≡ None
+      read_passes None p e = refl
+      read_passes (Some fault) p e = absurd cc
 
 -- ---- what is read is spelled so
 

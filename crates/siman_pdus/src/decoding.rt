@@ -1,6 +1,6 @@
 //! Datagrams to PDUs.
 
-ghost use Rattle.std.specs.Prelude.{◌≡◌, ◌+◌, ◌≤◌, ◌⊎◌, ℕ, List, [], ◌++◌, length, IfOk, IfErr, Ok, Err, Some, None};
+ghost use Rattle.std.specs.Prelude.{◌≡◌, ◌+◌, ◌≤◌, ◌⊎◌, ℕ, List, [], ◌++◌, length, true, is_some, IfOk, IfErr, Ok, Err, Some, None};
 ghost use Rattle.std.specs.Result.{result_ok};
 ghost use Rattle.dis_records.specs.ClockTime.{clock_time_at};
 ghost use Rattle.dis_records.specs.Entity.{entity_at};
@@ -16,7 +16,9 @@ use crate::pdu::Pdu;
 use crate::shape::check_body;
 use crate::views::{BodyView, PduView};
 use dis_records::field::{u8_at, u16_at, u32_at};
-use dis_records::{ClockTime, DatumsView, EntityId, Header, IdsView, Kind, read_header};
+use dis_records::{
+    ClockTime, DatumsView, EntityId, Header, IdsView, Kind, header_again, read_header,
+};
 use std::alloc::Global;
 
 fn read_entity(bytes: &[u8], at: usize) -> EntityId
@@ -146,6 +148,24 @@ pub fn view(bytes: &[u8]) -> Result<PduView<'_>, ViewFault>
     ensures reads { viewed result ≡ reading bytes.now }
 {
     show(bytes)
+}
+
+/// The PDU that a datagram is known to spell, in place: as [`view`] shows it, without another look at what
+/// it could be refused for, and without a walk over its records.
+pub fn view_again(bytes: &[u8]) -> PduView<'_>
+    requires { is_some (reading bytes.now) ≡ true }
+    ensures { Some (pdu_of result) ≡ reading bytes.now }
+{
+    let header = header_again(bytes);
+    PduView {
+        version: header.version,
+        exercise: header.exercise,
+        stamp: header.stamp,
+        status: header.status,
+        origin: read_entity(bytes, 12),
+        target: read_entity(bytes, 18),
+        body: body_view(header.kind, bytes),
+    }
 }
 
 fn read(alloc: Global, bytes: &[u8]) -> Result<Pdu, PduFault>

@@ -3,7 +3,7 @@
 //!
 //! It knows no station and no history. The layers above rest on [`decode`], which accepts exactly
 //! the grammar and answers the reading of a datagram, on [`view`], which shows the same in place
-//! and takes no memory, on [`encode`], which appends the canonical text of a PDU, and on exact
+//! and takes no memory, on [`view_again`], which shows what is known to be read, on [`encode`], which appends the canonical text of a PDU, and on exact
 //! tests: [`role`], [`same_order`], [`request_id`] and [`answers`], which are asked of any
 //! [`Message`], a PDU or the view of one.
 #![tactic(auto)]
@@ -24,7 +24,7 @@ mod size;
 mod views;
 
 pub use datums::{DatumIds, Datums};
-pub use decoding::{decode, spellings_are_apart, view};
+pub use decoding::{decode, spellings_are_apart, view, view_again};
 pub use encoding::{encode, kind_of};
 pub use exchange::{is_request, request_id, role};
 pub use fault::{EncodeFault, PduFault, ViewFault};

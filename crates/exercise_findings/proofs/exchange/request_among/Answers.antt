@@ -6,7 +6,13 @@ use Rattle.exercise_model.specs.History.{station_at}
 use Rattle.exercise_model.specs.Exchange.{request_brought}
 use Rattle.exercise_model.specs.Place.{own_event}
 use Rattle.exercise_findings.proofs.Keyed.{request_by_entry, taken_brings}
+use Rattle.exercise_findings.proofs.Meant.{taken_meant}
 use Rattle.exercise_findings.proofs.exchange.request_among.Goals as goal
+
+pub request_brought-requires : goal.request_brought-requires
+request_brought-requires g c =
+    taken_meant (g.L.ExerciseLog.recording c.args.log.now) c.args.station (pdu_of c.args.answer.now) c.args.before c.in-Some.entry
+    (sym c.entry_taken_up.ensures.entry ∙ c.in-Some.is)
 
 pub returns-in_default-clause-request : goal.returns-in_default-clause-request
 returns-in_default-clause-request g c =

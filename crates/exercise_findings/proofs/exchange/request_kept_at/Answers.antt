@@ -7,7 +7,13 @@ use Rattle.exercise_model.specs.Exchange.{request_brought}
 use Rattle.exercise_model.specs.Place.{own_event, brings_request}
 use Rattle.exercise_findings.proofs.FirstEntries.{order_taken}
 use Rattle.exercise_findings.proofs.Keyed.{request_by_entry}
+use Rattle.exercise_findings.proofs.Meant.{order_meant}
 use Rattle.exercise_findings.proofs.exchange.request_kept_at.Goals as goal
+
+pub request_brought-requires : goal.request_brought-requires
+request_brought-requires g c =
+    order_meant (g.L.ExerciseLog.recording c.args.log.now) c.args.before c.args.firsts.now c.requires.tied c.args.place c.in-Some.entry
+    (sym c.entry_kept_at.ensures ∙ c.in-Some.is)
 
 pub returns-in-Some-request_brought-clause-request : goal.returns-in-Some-request_brought-clause-request
 returns-in-Some-request_brought-clause-request g c =

@@ -3,7 +3,11 @@ use Rattle.std.specs.Prelude.{IfNone}
 use Rattle.exercise_findings.specs.Slots.{IsReached}
 use Rattle.exercise_findings.specs.Firsts.{has_key}
 use Rattle.exercise_findings.proofs.FirstEntries.{firsts_looked_up}
+use Rattle.exercise_findings.proofs.Meant.{firsts_meant}
 use Rattle.exercise_findings.proofs.firsts.first_hashed.Goals as goal
+
+pub find-requires : goal.find-requires
+find-requires g c = firsts_meant (g.L.ExerciseLog.recording c.args.log.now) c.args.before c.args.firsts.now c.requires.tied
 
 pub returns : goal.returns
 returns g c =

@@ -3,7 +3,11 @@ use Rattle.std.specs.Prelude.{IfNone}
 use Rattle.exercise_findings.specs.Slots.{IsReached}
 use Rattle.exercise_findings.specs.Requests.{asks_at}
 use Rattle.exercise_findings.proofs.Reused.{first_looked_up}
+use Rattle.exercise_findings.proofs.Meant.{requests_meant}
 use Rattle.exercise_findings.proofs.requests.first_request.Goals as goal
+
+pub find-requires : goal.find-requires
+find-requires g c = requests_meant (g.L.ExerciseLog.recording c.args.log.now) c.args.before c.args.requests.now c.requires.tied
 
 pub returns : goal.returns
 returns g c =

@@ -1,4 +1,4 @@
-use Rattle.std.proofs.Common.{◌≡◌, cond, Some, Bool, true, false, refl, sym, ap, ◌∙◌, arith}
+use Rattle.std.proofs.Common.{◌≡◌, cond, Some, Bool, true, false, refl, sym, ap, ◌∙◌}
 use Rattle.std.specs.Prelude.{is_some}
 use Rattle.indexmap.specs.IndexMap.{get}
 use Rattle.siman_pdus.specs.declared.pdu.Pdu.{Pdu}
@@ -6,7 +6,8 @@ use Rattle.siman_pdus.specs.Reading.{pdu_of}
 use Rattle.exercise_model.specs.Place.{log_before}
 use Rattle.exercise_model.specs.Cause.{is_reused}
 use Rattle.exercise_findings.specs.Requests.{same_identifier}
-use Rattle.exercise_findings.proofs.Reused.{first_is, itself, requests_again, reused_mixed, reused_unmixed}
+use Rattle.exercise_findings.proofs.Meant.{first_meant}
+use Rattle.exercise_findings.proofs.Reused.{itself, requests_again, reused_mixed, reused_unmixed}
 use Rattle.exercise_findings.proofs.requests.note_again.Goals as goal
 
 pub returns-then-contains_key-clause-tied : goal.returns-then-contains_key-clause-tied
@@ -31,7 +32,7 @@ returns-then-contains_key-clause-reused g c =
 pub differs-reused-requires : goal.differs-reused-requires
 differs-reused-requires g c =
     let r = g.L.ExerciseLog.recording c.args.log.now in
-    omega (arith, (first_is r c.args.identifier c.args.entry c.args.first c.requires.first).0, c.requires.within)
+    first_meant r c.args.identifier c.args.entry c.args.first c.requires.first
 
 pub returns-in_ok-keep_first-clause-tied : goal.returns-in_ok-keep_first-clause-tied
 returns-in_ok-keep_first-clause-tied g c =

@@ -16,6 +16,19 @@ loop-step-init g c =
       passed = passed_none slots c.args.hash (g.S.Sought.is_sought c.args.sought.now);
     }
 
+pub is_sought-requires : goal.is_sought-requires
+is_sought-requires g c =
+    let slots = c.args.slots.now.slots.items in
+    let s = c.index-slot.result.now in
+    c.requires s.entry (
+      c.loop-step.place,
+      s.hash,
+      record {
+        at = slice_get_read slots (length slots) c.loop-step.place s refl c.loop-step.invariant.within c.index-slot.ensures;
+        some = c.if-slot.false;
+      },
+    )
+
 pub returns-then-slot-clause-absent : goal.returns-then-slot-clause-absent
 returns-then-slot-clause-absent g c =
     let slots = c.args.slots.now.slots.items in

@@ -7,6 +7,7 @@ use Rattle.dis_records.specs.Datum.{padded}
 use Rattle.dis_records.specs.Records.{variable_sizes}
 use Rattle.dis_records.proofs.Offered.{sizes_more}
 use Rattle.siman_pdus.specs.declared.fault.ViewFault.{ViewFault}
+use Rattle.siman_pdus.specs.declared.fault.ViewFault.TheVariants as faults
 use Rattle.dis_records.specs.declared.kind.Kind.{Kind}
 use Rattle.siman_pdus.specs.Shape.{ends, body_fault, part_sizes, body_refusal, IsWhole}
 
@@ -107,6 +108,28 @@ total-append (m ∷ ms) ns = omega (arith, total-append ms ns)
 pub total-replicate : (n size : ℕ) → total (replicate n size) ≡ n * size
 total-replicate zero size = omega arith
 total-replicate (suc n) size = grind (arith, total-replicate n size)
+
+-- parts of one size that are all there
+pub parts_there : (start size count len : ℕ) → start + size * count ≤ len → ends start (replicate count size) len ≡ Ok (start + size * count)
+parts_there start size count len le =
+    let sum : total (replicate count size) ≡ size * count = grind (arith, total-replicate count size) in
+    ends_all start (replicate count size) len (omega (arith, sum, le)) ∙ ap (λ (k : ℕ). Ok (start + k)) sum
+
+-- parts of one size of which so many are there, and the next one is not
+pub parts_short : (start size there count len : ℕ) → there < count → start + size * there ≤ len → len < start + size * there + size
+    → ends start (replicate count size) len ≡ Err (faults.BodyShort (start + size * there))
+parts_short start size there zero len more le short = absurd (omega arith)
+parts_short start size zero (suc count) len more le short =
+    let none : size * zero ≡ 0 = grind arith in
+    let here : ltb len (start + size) ≡ true = lt-ltb len (start + size) (omega (arith, none, short)) in
+    let at : start ≡ start + size * zero = omega (arith, none) in
+    rw here (ap (λ (k : ℕ). Err (faults.BodyShort k)) at)
+parts_short start size (suc there) (suc count) len more le short =
+    let step : size * suc there ≡ size * there + size = grind arith in
+    let here : ltb len (start + size) ≡ false = le-ltb len (start + size) (omega (arith, step, le)) in
+    let others = parts_short (start + size) size there count len (omega arith) (omega (arith, step, le)) (omega (arith, step, short)) in
+    let at : start + size + size * there ≡ start + size * suc there = omega (arith, step) in
+    rw here (others ∙ ap (λ (k : ℕ). Err (faults.BodyShort k)) at)
 
 pub refused_whole : (kind : Kind) (b : List ℕ) → 12 ≤ length b → body_refusal kind b ≡ None → IsWhole kind b
 refused_whole kind b room e = whole (part_sizes kind b) (length b) room e

@@ -1,6 +1,6 @@
 //! Where the parts of a body end, before any of them is read.
 
-ghost use Rattle.std.specs.Prelude.{◌≡◌, ◌+◌, ◌*◌, ◌≤◌, length, replicate, IfOk, MatchResult, OnOk, Some, None, [], ◌∷◌};
+ghost use Rattle.std.specs.Prelude.{◌≡◌, ◌+◌, ◌*◌, ◌≤◌, ◌<◌, length, replicate, IfOk, MatchResult, OnOk, Some, None, [], ◌∷◌};
 ghost use Rattle.dis_records.specs.Records.{variable_sizes};
 ghost use Rattle.siman_pdus.specs.Shape.{ends, fixed_part, datum_sizes, id_sizes, part_sizes, body_refusal, IsWhole};
 
@@ -30,17 +30,21 @@ fn part_end(bytes: &[u8], at: usize, size: usize) -> Result<usize, ViewFault>
     Ok(at + size)
 }
 
-/// Where so many parts of one size end.
+/// Where so many parts of one size end. They are not walked: how many are there is told by the bytes
+/// that are left.
+#[tactic(auto, using(crate::proofs::Ends::parts_there, crate::proofs::Ends::parts_short))]
 fn parts_end(bytes: &[u8], start: usize, count: u32, size: usize) -> Result<usize, ViewFault>
     requires room { start ≤ length bytes.now }
+    requires some { 0 < size }
     ensures ends { result ≡ ends start (replicate count size) (length bytes.now) }
     ensures within { IfOk result (λ end. (end ≡ start + size * count) × (end ≤ length bytes.now)) }
 {
-    let mut at = start;
-    for _ in 0..count {
-        at = part_end(bytes, at, size)?;
+    let there = (bytes.len() - start) / size;
+    let count = count as usize;
+    if there < count {
+        return Err(ViewFault::BodyShort(start + size * there));
     }
-    Ok(at)
+    Ok(start + size * count)
 }
 
 /// Where variable datum records end.

@@ -2,9 +2,10 @@
 
 use crate::check::Happened;
 use crate::findings::{self, Findings, CAUSES, NEVER_SENT};
+use crate::made::make;
 use crate::recording::{Recording, What, NONE};
 use crate::text::Text;
-use std::{fs, io};
+use std::io;
 
 struct Search<'l, 'a> {
     log: &'l Recording<'a>,
@@ -83,7 +84,7 @@ fn search<'l, 'a>(log: &'l Recording<'a>, found: Findings) -> Search<'l, 'a> {
 pub fn audit(log: &Recording<'_>, name: &str, out: &mut Text) -> io::Result<u8> {
     let search = search(log, findings::findings(log));
     if search.cursors == search.ends {
-        fs::write(name, search.certificate)?;
+        make(name, &[&search.certificate])?;
         out.pair("explained steps=", log.heads.len() as u64)?.word("\n")?;
         return Ok(0);
     }

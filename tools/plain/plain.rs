@@ -2,8 +2,8 @@
 //! Rust with nothing but its standard library and without any proof, written to be fast: it is the yardstick that siman
 //! is timed beside (`tools/growth.py`), and its answers are compared with those of siman. It goes over a recording
 //! once, and for `log` once more to print it; it hashes each datagram once, keeps what it finds in columns of small
-//! numbers, and writes its lines into one buffer. Its tables are as hard to flood as siman's: their keys are hashed
-//! under seeds that are drawn anew in each run.
+//! numbers, and writes its lines into one buffer. What it makes is on the disk before it stands in its place. Its
+//! tables are as hard to flood as siman's: their keys are hashed under seeds that are drawn anew in each run.
 //!
 //! It is no more than that: it ends at the first thing that is wrong with a file, and does not say what.
 //!
@@ -19,6 +19,7 @@ mod facts;
 mod findings;
 mod lives;
 mod log;
+mod made;
 mod order;
 mod orders;
 mod pdu;

@@ -91,8 +91,8 @@ def timed(words, out, given):
 
 
 def exponent(now, before, doublings, least=0.005):
-    """The exponent of a growth over so many doublings of the entries, or None where the first is too small to tell."""
-    if now is None or before is None or before < least:
+    """The exponent of a growth over so many doublings of the entries, or None where one of them is too small to tell."""
+    if not now or before is None or before < least:
         return None
     return math.log2(now / before) / doublings
 

@@ -13,7 +13,7 @@ use crate::key::acknowledged_key;
 use exercise_model::{AcknowledgeKey, EntryView, ExerciseLog, key_of, meaning_again, responds};
 use siman_pdus::{ABLE, PduView, UNABLE};
 
-/// What an entry of a station that is known to be none that is "other" sends, if it sends something.
+/// What a station sends by an entry whose datagram is known to mean something, if it sends it.
 #[tactic(auto, unfolding(exercise_model::specs::Place::own_event, crate::specs::Sent::is_meant), using(crate::proofs::Meant::meant_within))]
 pub(crate) fn sent_by<L: ExerciseLog>(log: &L, station: u16, entry: usize) -> Option<PduView<'_>>
     requires { is_meant (L.recording log.now) entry ≡ true }

@@ -18,7 +18,7 @@ use dis_records::Address;
 use exercise_model::{EntryView, ExerciseLog, is_answer, is_asked, meaning_again};
 use siman_pdus::PduView;
 
-/// The request that an entry which is known to be none that is "other" brings to a station for an answer.
+/// The request that an entry, whose datagram is known to mean something, brings to a station for an answer.
 #[tactic(auto, unfolding(exercise_model::specs::Place::own_event, crate::specs::Sent::is_meant), using(crate::proofs::Meant::meant_within))]
 fn request_brought<'a, L: ExerciseLog>(
     log: &'a L,

@@ -51,7 +51,7 @@ pub(crate) fn answer_base(station: u16, pdu: &PduView<'_>) -> u32
     }
 }
 
-/// The key of an entry that is known to be none that is "other".
+/// The key of an entry whose datagram is known to mean something.
 #[tactic(auto, unfolding(crate::specs::Firsts::key_at, crate::specs::Sent::is_meant), using(crate::proofs::Meant::meant_within))]
 fn key_at<L: ExerciseLog>(log: &L, entry: usize) -> Option<Key>
     requires { is_meant (L.recording log.now) entry ≡ true }
@@ -69,7 +69,7 @@ fn key_at<L: ExerciseLog>(log: &L, entry: usize) -> Option<Key>
     }
 }
 
-/// Whether an entry that is known to be none that is "other" has a key.
+/// Whether an entry whose datagram is known to mean something has a key.
 fn has_key<L: ExerciseLog>(log: &L, key: &Key, entry: usize) -> bool
     requires { is_meant (L.recording log.now) entry ≡ true }
     ensures { result ≡ has_key (L.recording log.now) key.now entry }

@@ -105,7 +105,7 @@ fn is_under(identifier: &Identifier, station: u16, pdu: &PduView<'_>) -> bool
     }
 }
 
-/// Whether an entry that is known to be none that is "other" sends a request under an identifier.
+/// Whether an entry, whose datagram is known to mean something, sends a request under an identifier.
 #[tactic(auto, unfolding(crate::specs::Requests::request_at, crate::specs::Sent::is_meant), using(crate::proofs::Meant::meant_within))]
 fn asks_at<L: ExerciseLog>(log: &L, identifier: &Identifier, entry: usize) -> bool
     requires { is_meant (L.recording log.now) entry ≡ true }
@@ -152,8 +152,8 @@ fn first_request<L: ExerciseLog>(
     find(&requests.firsts.slots, hash, &Asking { log, identifier })
 }
 
-/// Whether a PDU is another order than what an entry of a station sends that is known to be none that is
-/// "other".
+/// Whether a PDU is another order than what a station sends by an entry whose datagram is known to mean
+/// something.
 fn differs<L: ExerciseLog>(log: &L, station: u16, entry: usize, pdu: &PduView<'_>) -> bool
     requires { is_meant (L.recording log.now) entry ≡ true }
     ensures { let r = L.recording log.now in result ≡ option_map_or (λ q. not (is_same_order (pdu_of pdu.now) q)) (option_and_then (meant_by_send r.setting.exercise) (own_event r station entry)) false }

@@ -3,9 +3,9 @@
 //!
 //! It knows no station and no history. The layers above rest on [`decode`], which accepts exactly
 //! the grammar and answers the reading of a datagram, on [`view`], which shows the same in place
-//! and takes no memory, on [`view_again`], which shows what is known to be read, on [`encode`], which appends the canonical text of a PDU, and on exact
-//! tests: [`role`], [`same_order`], [`request_id`] and [`answers`], which are asked of any
-//! [`Message`], a PDU or the view of one.
+//! and takes no memory, on [`view_again`], which shows what is known to be read, on [`encode`],
+//! which appends the canonical text of a PDU, and on exact tests: [`role`], [`same_order`],
+//! [`request_id`] and [`answers`], which are asked of any [`Message`], a PDU or the view of one.
 #![tactic(auto)]
 
 mod datums;

@@ -7,11 +7,18 @@ ghost use Rattle.exercise_check.specs.Certificate.{step_text, head_text, certifi
 
 use crate::certificate::{Certificate, Step};
 use crate::certificate_fault::CertificateWriterFault;
+use arrayvec::ArrayVec;
 use byte_files::{WriteFailed, put};
 use std::io::Write;
 
 /// The first bytes of a certificate: the format's name and version.
 pub(crate) const MAGIC: [u8; 8] = *b"DSCT0001";
+
+/// How many steps are put at once.
+const BLOCK: usize = 512;
+
+/// The text of a block of steps, of eight bytes each.
+type BlockText = ArrayVec<u8, 4096>;
 
 fn step_bytes(step: Step) -> [u8; 8]
     ensures { result ≡ step_text step }
@@ -21,13 +28,37 @@ fn step_bytes(step: Step) -> [u8; 8]
     [p0, p1, p2, p3, l0, l1, l2, l3]
 }
 
+/// The text of so few steps.
+fn block_text(steps: &[Step]) -> BlockText
+    requires { length steps.now ≤ 512 }
+    ensures { result.items ≡ flat_map step_text steps.now }
+{
+    let mut text = BlockText::new();
+    for step in steps {
+        text.try_extend_from_slice(&step_bytes(*step)).unwrap();
+    }
+    text
+}
+
+/// Puts so few steps at once.
+fn put_block<W: Write>(writer: &mut W, steps: &[Step]) -> Result<(), WriteFailed>
+    requires { length steps.now ≤ 512 }
+    ensures { Writes result (W.contents writer.old) (W.contents writer.new) (flat_map step_text steps.now) }
+{
+    let text = block_text(steps);
+    put(writer, text.as_slice())
+}
+
 fn put_steps<W: Write>(writer: &mut W, steps: &[Step]) -> Result<(), WriteFailed>
     ensures { Writes result (W.contents writer.old) (W.contents writer.new) (flat_map step_text steps.now) }
 {
-    for step in steps {
-        put(writer, &step_bytes(*step))?;
+    let mut others = steps;
+    while others.len() > BLOCK {
+        let (block, rest) = others.split_at(BLOCK);
+        put_block(writer, block)?;
+        others = rest;
     }
-    Ok(())
+    put_block(writer, others)
 }
 
 fn head_bytes(count: u32) -> [u8; 12]

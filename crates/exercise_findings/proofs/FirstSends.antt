@@ -41,7 +41,7 @@ none_passes f (suc n) j none within passes P =
     ] refl none
 
 -- two sends of the same bytes are sends by one station
-same_sends : (r : PlainRecording) (b : List ℕ) (j n : ℕ) → is_source r b j ≡ true → is_source r b n ≡ true
+pub same_sends : (r : PlainRecording) (b : List ℕ) (j n : ℕ) → is_source r b j ≡ true → is_source r b n ≡ true
     → (t : ℕ) × (((stamp : ℕ) × (slice_get r.entries j ≡ Some (Sent t stamp b))) × ((stamp : ℕ) × (slice_get r.entries n ≡ Some (Sent t stamp b))))
 same_sends r b j n one other =
     let x = source_entry r b j one in

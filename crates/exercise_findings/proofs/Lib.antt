@@ -16,5 +16,6 @@ mod Sources
 mod FirstSends
 mod NewRequests
 mod Looks
+mod FirstAnswers
 mod EarlierEntries
 pub mod Offered

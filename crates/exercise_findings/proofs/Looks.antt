@@ -29,6 +29,7 @@ use Rattle.exercise_findings.specs.Hashed.{key_base}
 use Rattle.exercise_findings.specs.Firsts.{acknowledged_key, answer_base, sent_key, received_key, event_key, key_at}
 use Rattle.exercise_findings.specs.Behind.{key_behind, event_behind, behind_at}
 use Rattle.exercise_findings.specs.Requests.{IsSendOf}
+use Rattle.exercise_findings.specs.Answered.{is_unasked, unasked_by, unasked_at}
 use Rattle.exercise_findings.specs.Source.{source_by, source_at}
 use Rattle.exercise_findings.specs.FirstSends.{IsNewSend}
 use Rattle.exercise_findings.specs.Tables.{event_own_cause, own_cause, other_at, IsFound}
@@ -40,6 +41,10 @@ cause_here r n e at = ap (option_and_then (λ e. event_own_cause r n (event_of e
 pub pair_here : (r : PlainRecording) (n : ℕ) (e : Entry) → slice_get r.entries n ≡ Some e → pair_of r n ≡ pair_of_entry r n e
 unfolding pair_of
 pair_here r n e at = ap (option_and_then (pair_of_entry r n)) at
+
+pub unasked_here : (r : PlainRecording) (n : ℕ) (e : Entry) → slice_get r.entries n ≡ Some e → unasked_at r n ≡ unasked_by r n (event_of e)
+unfolding unasked_at
+unasked_here r n e at = ap (λ o. option_map_or (λ e. unasked_by r n (event_of e)) o false) at
 
 pub change_here : (r : PlainRecording) (n : ℕ) (e : Entry) → slice_get r.entries n ≡ Some e → change_at r n ≡ changed_by r n (event_of e)
 unfolding change_at
@@ -90,11 +95,12 @@ pair_number r n few = number_back (pair_of r n) (below (pair_of r n) n 429496729
 -- ---- what is found of an entry is what its event says
 
 found : (r : PlainRecording) (n : ℕ) (e : Entry) (f : Found) → slice_get r.entries n ≡ Some e → f.cause ≡ event_own_cause r n (event_of e)
-    → f.pair ≡ pair_of_entry r n e → f.change ≡ changed_by r n (event_of e) → f.key ≡ event_key r (event_of e)
+    → f.pair ≡ pair_of_entry r n e → f.is_unasked ≡ unasked_by r n (event_of e) → f.change ≡ changed_by r n (event_of e) → f.key ≡ event_key r (event_of e)
     → ((k : Key) → Some k ≡ f.key → f.base ≡ key_base k) → f.behind ≡ event_behind r (event_of e) → f.is_source ≡ source_by r n e → (f.is_new ≡ true → IsNewSend r n) → f.other ≡ is_other r.setting.exercise e → IsFound r n f
-found r n e f at cause pair change key based behind source fresh other = record {
+found r n e f at cause pair unasked change key based behind source fresh other = record {
   cause = cause ∙ sym (cause_here r n e at);
   pair = pair ∙ sym (pair_here r n e at);
+  unasked = unasked ∙ sym (unasked_here r n e at);
   change = change ∙ sym (change_here r n e at);
   key = key ∙ sym (key_here r n e at);
   based = λ k is. based k (is ∙ sym (key ∙ sym (key_here r n e at)));
@@ -106,11 +112,11 @@ found r n e f at cause pair change key based behind source fresh other = record 
 
 -- an entry that this cause speaks against, or none, and of which nothing else is found
 abbrev pub plain : Option Cause → Found
-plain x = record { cause = x; pair = None; change = None; key = None; base = 0; behind = None; is_source = false; is_new = false; other = false }
+plain x = record { cause = x; pair = None; is_unasked = false; change = None; key = None; base = 0; behind = None; is_source = false; is_new = false; other = false }
 
 -- an "other" datagram
 abbrev pub other_found : Found
-other_found = record { cause = None; pair = None; change = None; key = None; base = 0; behind = None; is_source = false; is_new = false; other = true }
+other_found = record { cause = None; pair = None; is_unasked = false; change = None; key = None; base = 0; behind = None; is_source = false; is_new = false; other = true }
 
 -- the base of the keys of an answer is that of the key that it has
 sent_based : (s : ℕ) (p : Pdu) (k : Key) → Some k ≡ sent_key s p → answer_base s p ≡ key_base k
@@ -131,12 +137,13 @@ sent_based s p k =
 -- a PDU that was sent
 pub sent_found : (r : PlainRecording) (n s : ℕ) (p : Pdu) (f : Found) → IsRecording r → s < length r.setting.stations → IsSendOf r n s p
     → f.cause ≡ send_cause r.setting.exercise (station_at r s) (log_before r s n) p
-    → f.pair ≡ pair_of_sent r s n p → f.change ≡ change_by r.setting.exercise (station_at r s) (log_before r s n) p → f.key ≡ sent_key s p → f.base ≡ answer_base s p
+    → f.pair ≡ pair_of_sent r s n p → f.is_unasked ≡ is_unasked r s n p → f.change ≡ change_by r.setting.exercise (station_at r s) (log_before r s n) p → f.key ≡ sent_key s p → f.base ≡ answer_base s p
     → f.behind ≡ None → f.is_source ≡ is_from (station_at r s).address p → (f.is_new ≡ true → IsNewSend r n) → f.other ≡ false → IsFound r n f
-sent_found r n s p f limits here send cause pair change key base behind source fresh other =
+sent_found r n s p f limits here send cause pair unasked change key base behind source fresh other =
     found r n (Sent s send.stamp send.bytes) f send.at
     (cause ∙ sym (ap (option_and_then (send_cause r.setting.exercise (station_at r s) (log_before r s n))) send.means))
     (pair ∙ sym (ap (option_and_then (pair_of_sent r s n)) send.means))
+    (unasked ∙ sym (ap (λ o. option_map_or (is_unasked r s n) o false) send.means))
     (change ∙ sym (ap (option_and_then (change_by r.setting.exercise (station_at r s) (log_before r s n))) send.means))
     (key ∙ sym (ap (option_and_then (sent_key s)) send.means))
     (λ k is. base ∙ sent_based s p k (is ∙ key))
@@ -152,6 +159,7 @@ other_sent r n s stamp b at other =
     found r n (Sent s stamp b) other_found at
     (sym (ap (option_and_then (send_cause r.setting.exercise (station_at r s) (log_before r s n))) other))
     (sym (ap (option_and_then (pair_of_sent r s n)) other))
+    (sym (ap (λ o. option_map_or (is_unasked r s n) o false) other))
     (sym (ap (option_and_then (change_by r.setting.exercise (station_at r s) (log_before r s n))) other))
     (sym (ap (option_and_then (sent_key s)) other))
     (λ k is. absurd (cc is))
@@ -167,13 +175,13 @@ get_here r s b = refl
 
 -- a PDU that was received
 pub received_found : (r : PlainRecording) (n s stamp : ℕ) (b : List ℕ) (p : Pdu) (f : Found) → slice_get r.entries n ≡ Some (Received s stamp b)
-    → meaning r.setting.exercise b ≡ Some p → f.cause ≡ get_cause r.setting [] b p → f.pair ≡ None → f.change ≡ None
+    → meaning r.setting.exercise b ≡ Some p → f.cause ≡ get_cause r.setting [] b p → f.pair ≡ None → f.is_unasked ≡ false → f.change ≡ None
     → f.key ≡ received_key s (station_at r s).address p → ((k : Key) → Some k ≡ f.key → f.base ≡ key_base k) → f.behind ≡ key_behind (sender_of r p) p → f.is_source ≡ false → f.is_new ≡ false → f.other ≡ false
     → IsFound r n f
-received_found r n s stamp b p f at means cause pair change key based behind source new other =
+received_found r n s stamp b p f at means cause pair unasked change key based behind source new other =
     found r n (Received s stamp b) f at
     (cause ∙ sym (get_here r s b ∙ ap (option_and_then (get_cause r.setting [] b)) means))
-    pair change
+    pair unasked change
     (key ∙ sym (ap (option_and_then (received_key s (station_at r s).address)) means))
     based
     (behind ∙ sym (ap (option_and_then (λ p. key_behind (sender_of r p) p)) means))
@@ -187,7 +195,7 @@ pub other_received : (r : PlainRecording) (n s stamp : ℕ) (b : List ℕ) → s
 other_received r n s stamp b at other =
     found r n (Received s stamp b) other_found at
     (sym (get_here r s b ∙ ap (option_and_then (get_cause r.setting [] b)) other))
-    refl refl
+    refl refl refl
     (sym (ap (option_and_then (received_key s (station_at r s).address)) other))
     (λ k is. absurd (cc is))
     (sym (ap (option_and_then (λ p. key_behind (sender_of r p) p)) other))
@@ -198,7 +206,7 @@ other_received r n s stamp b at other =
 -- a state that was told
 pub told_found : (r : PlainRecording) (n s e : ℕ) (y : EntityState) (x : Option Cause) → slice_get r.entries n ≡ Some (Told s e y)
     → x ≡ first_cause (tell_rows y (state_after r.setting.exercise (station_at r s) (log_before r s n) e)) → IsFound r n (plain x)
-told_found r n s e y x at cause = found r n (Told s e y) (plain x) at cause refl refl refl (λ k is. absurd (cc is)) refl refl (λ e. absurd (cc e)) refl
+told_found r n s e y x at cause = found r n (Told s e y) (plain x) at cause refl refl refl refl (λ k is. absurd (cc is)) refl refl (λ e. absurd (cc e)) refl
 
 -- ---- how many are "other"
 

@@ -14,7 +14,7 @@ use Rattle.exercise_model.specs.Place.{first_below}
 use Rattle.exercise_model.specs.Account.{sender_of}
 
 -- the first that passes stays the first
-first_stays : (f : ℕ → Bool) (k n j : ℕ) → first_below f n ≡ Some j → first_below f (k + n) ≡ Some j
+pub first_stays : (f : ℕ → Bool) (k n j : ℕ) → first_below f n ≡ Some j → first_below f (k + n) ≡ Some j
 unfolding first_below
 first_stays f zero n j e = let same : 0 + n ≡ n = omega arith in ap (first_below f) same ∙ e
 first_stays f (suc k) n j e =

@@ -8,6 +8,7 @@ pub mod Hashed
 pub mod Firsts
 pub mod Behind
 pub mod TakenUp
+pub mod Answered
 pub mod Requests
 pub mod Decided
 pub mod Source

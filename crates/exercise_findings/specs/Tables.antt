@@ -17,6 +17,7 @@ use Rattle.exercise_findings.specs.Firsts.{key_at, AreFirsts, IsBased}
 use Rattle.exercise_findings.specs.ChangeNumber.{change_in}
 use Rattle.exercise_findings.specs.Column.{IsColumn}
 use Rattle.exercise_findings.specs.Behind.{behind_at, AreBehind}
+use Rattle.exercise_findings.specs.Answered.{unasked_at, AreAnswered}
 use Rattle.exercise_findings.specs.Source.{source_at}
 use Rattle.exercise_findings.specs.Earlier.{IsEarlierAt, IsSoFarAt}
 use Rattle.exercise_findings.specs.FirstSends.{AreFirstSends, IsNewSend}
@@ -52,6 +53,7 @@ other_at r j = option_map_or (is_other r.setting.exercise) (slice_get r.entries 
 pub record IsFound (r : PlainRecording) (n : ℕ) (f : Found) : Type 0 where
   pub cause : f.cause ≡ own_cause r n
   pub pair : f.pair ≡ pair_of r n
+  pub unasked : f.is_unasked ≡ unasked_at r n
   pub change : f.change ≡ change_at r n
   pub key : f.key ≡ key_at r n
   pub based : IsBased r n f.base
@@ -68,6 +70,7 @@ pub record IsPass (r : PlainRecording) (n : ℕ) (f : Pass) : Type 0 where
   pub earlier : IsColumn 0 (IsSoFarAt r) n f.earlier.items
   pub later : f.looks.later ≡ 0 → IsColumn 0 (IsEarlierAt r) n f.earlier.items
   pub ables : AreBehind r n f.ables.items
+  pub answered : AreAnswered r n f.answered
   pub sends : AreFirstSends r n f.sends
   pub others : f.others ≡ others_among r.setting.exercise (take n r.entries)
   pub few : f.others ≤ n

@@ -13,6 +13,7 @@ ghost use Rattle.exercise_model.specs.State.{change_by};
 ghost use Rattle.exercise_findings.specs.declared.key.Key.{Key};
 ghost use Rattle.exercise_findings.specs.Firsts.{answer_base, sent_key, received_key};
 ghost use Rattle.exercise_findings.specs.Hashed.{key_base};
+ghost use Rattle.exercise_findings.specs.Answered.{is_unasked};
 ghost use Rattle.exercise_findings.specs.Behind.{key_behind};
 ghost use Rattle.exercise_findings.specs.Requests.{AreRequests};
 ghost use Rattle.exercise_findings.specs.Sent.{Sends, Receives};
@@ -29,7 +30,7 @@ use crate::requests::{IdentifierUse, Requests, note_request};
 use crate::sender::{Places, sender_of};
 use crate::state::change_by;
 use crate::tables::Tables;
-use exercise_model::{Cause, Change, ExerciseLog, is_from, meaning_view};
+use exercise_model::{Cause, Change, ExerciseLog, is_answer, is_from, meaning_view};
 use siman_pdus::PduView;
 use std::alloc::AllocError;
 
@@ -40,6 +41,8 @@ pub(crate) struct Found {
     pub cause: Option<Cause>,
     /// The entry of the request that it takes up, where it is an answer that was sent.
     pub pair: Option<u32>,
+    /// Whether it is an answer that was sent and takes up no request.
+    pub is_unasked: bool,
     /// What it changes at its station.
     pub change: Option<Change>,
     /// What it is looked up by.
@@ -58,11 +61,12 @@ pub(crate) struct Found {
 
 /// An entry that this cause speaks against, or none, and of which nothing else is found.
 fn judged(cause: Option<Cause>) -> Found
-    ensures { result ≡ record { cause = cause; pair = None; change = None; key = None; base = 0; behind = None; is_source = false; is_new = false; other = false } }
+    ensures { result ≡ record { cause = cause; pair = None; is_unasked = false; change = None; key = None; base = 0; behind = None; is_source = false; is_new = false; other = false } }
 {
     Found {
         cause,
         pair: None,
+        is_unasked: false,
         change: None,
         key: None,
         base: 0,
@@ -75,7 +79,7 @@ fn judged(cause: Option<Cause>) -> Found
 
 /// An entry with a datagram that is "other".
 fn found_other() -> Found
-    ensures { result ≡ record { cause = None; pair = None; change = None; key = None; base = 0; behind = None; is_source = false; is_new = false; other = true } }
+    ensures { result ≡ record { cause = None; pair = None; is_unasked = false; change = None; key = None; base = 0; behind = None; is_source = false; is_new = false; other = true } }
 {
     Found {
         other: true,
@@ -109,6 +113,7 @@ fn found_sent<L: ExerciseLog>(
     requires reused { let r = L.recording log.now in asked.reused ≡ (is_request_body (pdu_of pdu.now).body && is_reused r.setting.exercise (pdu_of pdu.now) (log_before r station entry)) }
     ensures cause { let r = L.recording log.now in result.cause ≡ send_cause r.setting.exercise (station_at r station) (log_before r station entry) (pdu_of pdu.now) }
     ensures pair { result.pair ≡ pair_of_sent (L.recording log.now) station entry (pdu_of pdu.now) }
+    ensures unasked { result.is_unasked ≡ is_unasked (L.recording log.now) station entry (pdu_of pdu.now) }
     ensures change { let r = L.recording log.now in result.change ≡ change_by r.setting.exercise (station_at r station) (log_before r station entry) (pdu_of pdu.now) }
     ensures key { result.key ≡ sent_key station (pdu_of pdu.now) }
     ensures base { result.base ≡ answer_base station (pdu_of pdu.now) }
@@ -136,6 +141,7 @@ fn found_sent<L: ExerciseLog>(
             &taken,
         ),
         pair: pair_of(&taken),
+        is_unasked: is_answer(pdu) && taken.is_none(),
         change: change_by(log, station, entry, pdu, first, &taken),
         key: sent_key(station, pdu),
         base,
@@ -166,6 +172,7 @@ fn found_received<L: ExerciseLog>(
     requires { station < length (L.recording log.now).setting.stations }
     ensures cause { (b : List ℕ) → result.cause ≡ get_cause (L.recording log.now).setting [] b (pdu_of pdu.now) }
     ensures pair { result.pair ≡ None }
+    ensures unasked { result.is_unasked ≡ false }
     ensures change { result.change ≡ None }
     ensures key { let r = L.recording log.now in result.key ≡ received_key station (station_at r station).address (pdu_of pdu.now) }
     ensures base { (k : Key) → Some k ≡ result.key → result.base ≡ key_base k }

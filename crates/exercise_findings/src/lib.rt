@@ -12,6 +12,7 @@
 
 mod account;
 mod accounting;
+mod answered;
 mod behind;
 mod cause;
 mod change;

@@ -1,6 +1,6 @@
 //! One pass over a log, which finds what the log of each station says of its own entries.
 
-ghost use Rattle.std.specs.Prelude.{◌≡◌, ◌<◌, ◌+◌, length, slice_get, Some, OnOk, IfOk, if◌then◌else◌};
+ghost use Rattle.std.specs.Prelude.{◌≡◌, ◌<◌, ◌+◌, ◌||◌, length, slice_get, Some, OnOk, IfOk, if◌then◌else◌};
 ghost use Rattle.exercise_model.specs.Entry.{Told};
 ghost use Rattle.exercise_model.specs.Recording.{IsRecording};
 ghost use Rattle.exercise_findings.specs.Requests.{AreRequests};
@@ -8,6 +8,7 @@ ghost use Rattle.exercise_findings.specs.Senders.{AreSenders};
 ghost use Rattle.exercise_findings.specs.Sent.{Sends, Receives};
 ghost use Rattle.exercise_findings.specs.Tables.{IsPass, AreFound, AreFindings};
 
+use crate::answered::{Answered, none_answered, note_answer};
 use crate::behind::note_behind;
 use crate::cause::judge_told;
 use crate::change_number::{NO_CHANGE, change_number};
@@ -47,6 +48,8 @@ pub(crate) struct Pass {
     pub looks: Looks,
     /// The entries that received an Able behind which there is a change to look up.
     pub ables: Vec<u32>,
+    /// What was answered.
+    pub answered: Answered,
     /// The entry by which each datagram was sent first by the station that it comes from.
     pub sends: FirstSends,
     /// How many datagrams are "other".
@@ -127,6 +130,7 @@ fn nothing_found<L: ExerciseLog>(alloc: Global, log: &L) -> Result<Pass, AllocEr
     let tables = no_tables(alloc, log)?;
     let places = places_of(alloc, log)?;
     let answers = Hint::new();
+    let answered = none_answered(alloc, log)?;
     Ok(Pass {
         places,
         tables,
@@ -140,6 +144,7 @@ fn nothing_found<L: ExerciseLog>(alloc: Global, log: &L) -> Result<Pass, AllocEr
             most: (entries / MANY) as u32,
         },
         ables: Vec::new(alloc),
+        answered,
         sends: no_sends(alloc, entries),
         others: 0,
     })
@@ -150,6 +155,14 @@ fn one_if(so: bool) -> u32
     ensures { result ≡ (if so then 1 else 0) }
 {
     if so { 1 } else { 0 }
+}
+
+/// Whether what is sent is known to be new: by its request identifier, by its key, or by the request that
+/// it takes up.
+fn is_known_new(identifier: bool, key: bool, request: bool) -> bool
+    ensures { result ≡ (identifier || (key || request)) }
+{
+    identifier || key || request
 }
 
 /// Keeps what the next entry is found to be, by which a station sends a datagram.
@@ -189,7 +202,8 @@ fn keep_sent<L: ExerciseLog>(
         here.key,
         here.base,
     )?;
-    let is_new = here.is_new || first;
+    let fresh = note_answer(&mut found.answered, log, entry, here.pair, here.is_unasked);
+    let is_new = is_known_new(here.is_new, first, fresh);
     note_send(&mut found.sends, log, entry, bytes, here.is_source, is_new)
 }
 

@@ -14,7 +14,7 @@ returns-in-Some g c =
     let here = c.found_received.ensures in
     received_found r c.args.entry c.args.station c.requires.receives.0 b (pdu_of c.in-Some.pdu) c.found_received.result c.requires.receives.1
     (ap (λ x. meaning x b) (sym c.exercise.ensures) ∙ sym c.meaning_view.ensures ∙ ap (option_map pdu_of) c.in-Some.is)
-    (here.cause b) here.pair here.change here.key here.base here.behind here.source here.new here.other
+    (here.cause b) here.pair here.unasked here.change here.key here.base here.behind here.source here.new here.other
 
 pub returns-in-None : goal.returns-in-None
 returns-in-None g c =

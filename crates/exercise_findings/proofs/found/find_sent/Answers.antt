@@ -22,7 +22,7 @@ returns-in_ok-asked-in-Some-clause-found g c =
       at = c.requires.sends.1;
       means = ap (λ x. meaning x b) (sym c.exercise.ensures) ∙ sym c.meaning_view.ensures ∙ ap (option_map pdu_of) c.in-Some.is;
     })
-    c.found_sent.ensures.cause c.found_sent.ensures.pair c.found_sent.ensures.change c.found_sent.ensures.key c.found_sent.ensures.base c.found_sent.ensures.behind
+    c.found_sent.ensures.cause c.found_sent.ensures.pair c.found_sent.ensures.unasked c.found_sent.ensures.change c.found_sent.ensures.key c.found_sent.ensures.base c.found_sent.ensures.behind
     c.found_sent.ensures.source
     (λ new. c.in_ok-asked-in-Some.ensures.first (sym c.found_sent.ensures.new ∙ new)) c.found_sent.ensures.other
 

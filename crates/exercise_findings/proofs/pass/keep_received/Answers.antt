@@ -5,8 +5,9 @@ use Rattle.exercise_model.specs.Entry.{Entry, Received}
 use Rattle.exercise_findings.specs.Column.{IsColumn}
 use Rattle.exercise_findings.specs.Earlier.{IsEarlierAt, IsSoFarAt}
 use Rattle.exercise_findings.specs.Tables.{IsOwnCause, IsChangeAt, other_at}
+use Rattle.exercise_findings.proofs.FirstAnswers.{answered_still}
 use Rattle.exercise_findings.proofs.Columns.{column_more, on_ok}
-use Rattle.exercise_findings.proofs.Looks.{change_here, at_most_one, others_next}
+use Rattle.exercise_findings.proofs.Looks.{pair_here, unasked_here, change_here, at_most_one, others_next}
 use Rattle.exercise_findings.proofs.FirstSends.{sends_still}
 use Rattle.exercise_findings.proofs.Sources.{not_sent}
 use Rattle.exercise_findings.proofs.pass.keep_received.Goals as goal
@@ -39,6 +40,7 @@ returns g c =
       later = λ none. subst (λ (xs : List ℕ). IsColumn 0 (IsEarlierAt r) (n + 1) xs) (sym c.in_ok-push-3.ensures.items)
           (column_more 0 (IsEarlierAt r) n _ c.in_ok-earlier.earlier (was.later (earlier.later none).0) (earlier.later none).1);
       ables = c.in_ok-note_behind.ensures;
+      answered = answered_still r n c.args.found.now.answered (pair_here r n got at) (unasked_here r n got at) was.answered;
       sends = sends_still r n c.earlier_so_far.new.sends (not_sent r n got at (λ b. refl)) earlier.tied;
       others = omega (arith, one, others_next r n c.requires.within, was.others);
       few = omega (arith, one, at_most_one (other_at r n), was.few);

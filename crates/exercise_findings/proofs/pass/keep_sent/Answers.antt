@@ -9,10 +9,10 @@ use Rattle.exercise_findings.specs.FirstSends.{IsNewSend}
 use Rattle.exercise_findings.specs.Tables.{IsOwnCause, IsChangeAt, other_at}
 use Rattle.exercise_findings.proofs.Ables.{behind_still}
 use Rattle.exercise_findings.proofs.Columns.{column_more, on_ok}
+use Rattle.exercise_findings.proofs.FirstAnswers.{one_of}
 use Rattle.exercise_findings.proofs.EarlierEntries.{sent_earlier, known_so_far}
 use Rattle.exercise_findings.proofs.Looks.{behind_here, at_most_one, others_next}
 use Rattle.exercise_findings.proofs.Sources.{source_is}
-use Rattle.exercise_findings.proofs.pass.keep_sent.Goals.{then-here, else-here}
 use Rattle.exercise_findings.proofs.pass.keep_sent.Goals as goal
 
 pub note_send-requires-clause-sends : goal.note_send-requires-clause-sends
@@ -22,10 +22,9 @@ pub note_send-requires-clause-new : goal.note_send-requires-clause-new
 note_send-requires-clause-new g c new source =
     let r = g.L.ExerciseLog.recording c.args.log.now in
     let n = c.args.entry in
-    let fresh : IsNewSend r n = elim c.if-here.branch [
-      | then-here w ↦ c.in_ok-here.ensures.found.fresh w.if-here.true
-      | else-here w ↦ c.in_ok-first.ensures.new (sym w.is_new-is ∙ new)
-    ] in
+    let fresh : IsNewSend r n =
+    one_of c.in_ok-here.here.is_new c.in_ok-first.first c.note_answer-fresh.result (IsNewSend r n) (sym c.is_known_new-is_new.ensures ∙ new)
+    c.in_ok-here.ensures.found.fresh c.in_ok-first.ensures.new c.note_answer-fresh.ensures.new in
     fresh c.args.bytes.now (source_is r n c.args.station c.requires.sends.0 c.args.bytes.now c.requires.sends.1 source)
 
 pub returns-clause-found : goal.returns-clause-found
@@ -51,6 +50,7 @@ returns-clause-found g c =
       later = λ none. subst (λ (xs : List ℕ). IsColumn 0 (IsEarlierAt r) (n + 1) xs) (sym c.in_ok-push-3.ensures.items)
           (column_more 0 (IsEarlierAt r) n _ c.entry_number.result (was.later none) earlier);
       ables = behind_still r n c.args.found.now.ables.items (sym (behind_here r n sent at)) was.ables;
+      answered = c.note_answer-fresh.ensures.tied;
       sends = sends;
       others = omega (arith, one, others_next r n c.requires.within, was.others);
       few = omega (arith, one, at_most_one (other_at r n), was.few);

@@ -5,6 +5,7 @@ use Rattle.exercise_findings.specs.Column.{IsColumn}
 use Rattle.exercise_findings.specs.Earlier.{IsEarlierAt, IsSoFarAt}
 use Rattle.exercise_findings.specs.Tables.{IsFound, IsOwnCause, IsChangeAt}
 use Rattle.exercise_findings.proofs.Ables.{behind_still}
+use Rattle.exercise_findings.proofs.FirstAnswers.{answered_still}
 use Rattle.exercise_findings.proofs.Columns.{column_more}
 use Rattle.exercise_findings.proofs.EarlierEntries.{told_earlier, known_so_far}
 use Rattle.exercise_findings.proofs.FirstEntries.{firsts_still}
@@ -37,6 +38,7 @@ returns g c =
       later = λ none. subst (λ (xs : List ℕ). IsColumn 0 (IsEarlierAt r) (n + 1) xs) (sym c.in_ok-push-3.ensures.items)
           (column_more 0 (IsEarlierAt r) n _ 4294967295 (was.later none) earlier);
       ables = behind_still r n old.ables.items here.behind was.ables;
+      answered = answered_still r n old.answered (sym here.pair) (sym here.unasked) was.answered;
       sends = sends_still r n old.sends (not_sent r n (Told c.args.station c.args.entity c.args.state) c.requires.told (λ b. refl)) was.sends;
       others = omega (arith, others_next r n c.requires.within, ap (λ b. cond {A = ℕ} b 1 0) here.other, was.others);
       few = omega (arith, was.few);

@@ -18,6 +18,7 @@ returns g c =
       earlier = subst (λ (xs : List ℕ). IsColumn 0 (IsSoFarAt r) 0 xs) (sym c.in_ok-earlier.ensures.items) (column_none 0 (IsSoFarAt r));
       later = λ _. subst (λ (xs : List ℕ). IsColumn 0 (IsEarlierAt r) 0 xs) (sym c.in_ok-earlier.ensures.items) (column_none 0 (IsEarlierAt r));
       ables = subst (λ (xs : List ℕ). AreBehind r 0 xs) (sym c.new.ensures.items) (behind_none r);
+      answered = c.in_ok-answered.ensures;
       sends = c.no_sends.ensures r;
       others = refl;
       few = omega arith;

@@ -5,7 +5,7 @@ use Rattle.std.specs.Option.{option_map_or}
 use Rattle.std.proofs.lemmas.Bool.{cases_eq, cases_lt}
 use Rattle.std.proofs.lemmas.Option.{same_Some}
 use Rattle.siman_pdus.specs.declared.pdu.Pdu.{Pdu}
-use Rattle.exercise_model.specs.Entry.{Entry, Sent}
+use Rattle.exercise_model.specs.Entry.{Sent}
 use Rattle.exercise_model.specs.Recording.{PlainRecording}
 use Rattle.exercise_model.specs.Meaning.{meaning}
 use Rattle.exercise_model.specs.Exchange.{is_answer_body}
@@ -34,7 +34,7 @@ same_answer : (r : PlainRecording) (s j n e : ℕ) (o : Option Pdu) → j < n �
 same_answer r s j n e None before pair = absurd (cc pair)
 same_answer r s j n e (Some p) before pair =
     elim (is_answer_body p.body) as (λ t. (if t then entry_taken_up r s p n else None) ≡ Some e
-        → ((if t then entry_taken_up r s p j else None) ≡ Some e) ⊎ ((t && is_none (if t then entry_taken_up r s p j else None)) ≡ true)) [
+    → ((if t then entry_taken_up r s p j else None) ≡ Some e) ⊎ ((t && is_none (if t then entry_taken_up r s p j else None)) ≡ true)) [
       | false ↦ λ none. absurd (cc none)
       | true ↦ λ pair. elim (entry_taken_up r s p j) as (λ o. entry_taken_up r s p j ≡ o → (o ≡ Some e) ⊎ ((true && is_none o) ≡ true)) [
         | None ↦ λ _. inr refl

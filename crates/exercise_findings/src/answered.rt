@@ -19,10 +19,7 @@ pub(crate) struct Answered {
 }
 
 /// Nothing is answered before the first entry.
-pub(crate) fn none_answered<L: ExerciseLog>(
-    alloc: Global,
-    log: &L,
-) -> Result<Answered, AllocError>
+pub(crate) fn none_answered<L: ExerciseLog>(alloc: Global, log: &L) -> Result<Answered, AllocError>
     ensures { IfOk result (AreAnswered (L.recording log.now) 0) }
 {
     Ok(Answered {

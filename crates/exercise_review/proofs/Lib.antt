@@ -33,4 +33,5 @@ mod TakenBy
 mod Telling
 mod Came
 mod Conversions
+mod Unfiltered
 pub mod Offered

@@ -1,9 +1,10 @@
 -- An answer that is the first to take up its request was not sent before.
-use Rattle.std.proofs.Common.{◌≡◌, ℕ, ◌+◌, ◌-◌, ◌<◌, ◌≤◌, List, length, length-set, set, Option, Some, None, Bool, true, false, refl, sym, ap, ◌∙◌, ⊎_elim, inl, inr, subst, arith}
+use Rattle.std.proofs.Common.{◌≡◌, ℕ, zero, suc, ◌+◌, ◌-◌, ◌<◌, ◌≤◌, List, [], ◌∷◌, ◌++◌, length, length-set, set, take, Option, Some, None, Bool, true, false, refl, sym, ap, ◌∙◌, ⊎_elim, inl, inr, subst, arith}
 use Rattle.std.specs.Prelude.{◌⊎◌, ◌≢◌, ◌&&◌, ◌||◌, not, IfSome, is_none, slice_get, option_and_then, if◌then◌else◌}
 use Rattle.std.specs.Option.{option_map_or}
 use Rattle.std.proofs.lemmas.Bool.{cases_eq, cases_lt}
 use Rattle.std.proofs.lemmas.Option.{same_Some}
+use Rattle.std.proofs.lemmas.List.{take_all}
 use Rattle.siman_pdus.specs.declared.pdu.Pdu.{Pdu}
 use Rattle.exercise_model.specs.Entry.{Sent}
 use Rattle.exercise_model.specs.Recording.{PlainRecording}
@@ -13,10 +14,11 @@ use Rattle.exercise_model.specs.Place.{first_below, brings_request, entry_taken_
 use Rattle.exercise_model.specs.Account.{pair_of_sent, pair_of}
 use Rattle.exercise_findings.specs.declared.answered.Answered.{Answered}
 use Rattle.exercise_findings.specs.Answered.{is_unasked, unasked_at, AreAnswered}
+use Rattle.exercise_findings.specs.Firsts.{key_at}
 use Rattle.exercise_findings.specs.FirstSends.{IsNewSend}
 use Rattle.exercise_findings.specs.Source.{is_source, first_source}
 use Rattle.exercise_findings.proofs.EntityStates.{get-set_here, get-set_other}
-use Rattle.exercise_findings.proofs.FirstSends.{same_sends}
+use Rattle.exercise_findings.proofs.FirstSends.{same_sends, key_of_send}
 use Rattle.exercise_findings.proofs.Keyed.{passes}
 use Rattle.exercise_findings.proofs.Looks.{pair_here, pair_earlier, unasked_here}
 use Rattle.exercise_findings.proofs.Recorded.{first_stays}
@@ -42,11 +44,16 @@ same_answer r s j n e (Some p) before pair =
       ] refl
     ] pair
 
--- THE FIRST ANSWER to a request was not sent before
-pub new_answer : (r : PlainRecording) (n e : ℕ) (a : Answered) → AreAnswered r n a → pair_of r n ≡ Some e → a.unasked ≡ false
-    → slice_get a.taken.items e ≡ Some false → IsNewSend r n
+-- two sends of the same bytes by one station have the same key
+same_key : (r : PlainRecording) (j n t s u : ℕ) (b : List ℕ) → slice_get r.entries j ≡ Some (Sent t s b) → slice_get r.entries n ≡ Some (Sent t u b)
+    → key_at r j ≡ key_at r n
+same_key r j n t s u b there here = key_of_send r j t s b there ∙ sym (key_of_send r n t u b here)
+
+-- THE FIRST ANSWER to a request was not sent before, where it has no key
+pub new_answer : (r : PlainRecording) (n e : ℕ) (a : Answered) → AreAnswered r n a → key_at r n ≡ None → pair_of r n ≡ Some e → a.unasked ≡ false
+    → (slice_get a.taken.items e ≡ Some true → ⊥) → IsNewSend r n
 unfolding first_source
-new_answer r n e a tied pair asked free b source =
+new_answer r n e a tied unkeyed pair asked free b source =
     elim (first_below (is_source r b) n) as (λ o. first_below (is_source r b) n ≡ o → o ≡ None) [
       | None ↦ λ _. refl
       | Some j ↦ λ found.
@@ -56,7 +63,8 @@ new_answer r n e a tied pair asked free b source =
           let there : slice_get r.entries j ≡ Some (Sent s sends.1.0.0 b) = sends.1.0.1 in
           let here : slice_get r.entries n ≡ Some (Sent s sends.1.1.0 b) = sends.1.1.1 in
           ⊎_elim
-          (λ same. absurd (cc (sym (tied.taken j e before.0 (pair_here r j (Sent s sends.1.0.0 b) there ∙ same)) ∙ free)))
+          (λ same. absurd (free (tied.taken j e before.0 (same_key r j n s sends.1.0.0 sends.1.1.0 b there here ∙ unkeyed)
+          (pair_here r j (Sent s sends.1.0.0 b) there ∙ same))))
           (λ none. absurd (cc (sym (tied.unasked j before.0 (unasked_here r j (Sent s sends.1.0.0 b) there ∙ none)) ∙ asked)))
           (same_answer r s j n e (meaning r.setting.exercise b) before.0 (sym (pair_here r n (Sent s sends.1.1.0 b) here) ∙ pair))
     ] refl
@@ -70,15 +78,15 @@ one_of false false c P any first second third = third any
 -- ---- one entry more
 
 -- what is marked stays, and what the next entry takes up, or that it takes up nothing, is known
-pub answered_more : (r : PlainRecording) (n : ℕ) (a b : Answered) → length b.taken.items ≡ length a.taken.items
+pub answered_more : (r : PlainRecording) (n : ℕ) (a b : Answered) → length b.taken.items ≤ length r.entries
     → ((e : ℕ) → slice_get a.taken.items e ≡ Some true → slice_get b.taken.items e ≡ Some true) → (a.unasked ≡ true → b.unasked ≡ true)
-    → ((e : ℕ) → pair_of r n ≡ Some e → slice_get b.taken.items e ≡ Some true) → (unasked_at r n ≡ true → b.unasked ≡ true)
+    → ((e : ℕ) → key_at r n ≡ None → pair_of r n ≡ Some e → slice_get b.taken.items e ≡ Some true) → (unasked_at r n ≡ true → b.unasked ≡ true)
     → AreAnswered r n a → AreAnswered r (n + 1) b
 answered_more r n a b room kept known taken unasked tied = record {
-  room = room ∙ tied.room;
-  taken = λ j e within pair. ⊎_elim
-      (λ (below : j < n). kept e (tied.taken j e below pair))
-      (λ (from : n ≤ j). let here : n ≡ j = omega (arith, from, within) in taken e (ap (pair_of r) here ∙ pair))
+  room = room;
+  taken = λ j e within unkeyed pair. ⊎_elim
+      (λ (below : j < n). kept e (tied.taken j e below unkeyed pair))
+      (λ (from : n ≤ j). let here : n ≡ j = omega (arith, from, within) in taken e (ap (key_at r) here ∙ unkeyed) (ap (pair_of r) here ∙ pair))
       (cases_lt j n);
   unasked = λ j within asked. ⊎_elim
       (λ (below : j < n). known (tied.unasked j below asked))
@@ -89,14 +97,14 @@ answered_more r n a b room kept known taken unasked tied = record {
 -- an entry that is no answer
 pub answered_still : (r : PlainRecording) (n : ℕ) (a : Answered) → pair_of r n ≡ None → unasked_at r n ≡ false → AreAnswered r n a → AreAnswered r (n + 1) a
 answered_still r n a none asked tied =
-    answered_more r n a a refl (λ e marked. marked) (λ known. known)
-    (λ e pair. absurd (cc (sym none ∙ pair))) (λ unasked. absurd (cc (sym asked ∙ unasked))) tied
+    answered_more r n a a tied.room (λ e marked. marked) (λ known. known)
+    (λ e unkeyed pair. absurd (cc (sym none ∙ pair))) (λ unasked. absurd (cc (sym asked ∙ unasked))) tied
 
 -- the request that an entry takes up is an entry of the log
-pub taken_within : (r : PlainRecording) (n e : ℕ) (a : Answered) → n < length r.entries → pair_of r n ≡ Some e → AreAnswered r n a → e < length a.taken.items
-taken_within r n e a within pair tied =
+pub taken_within : (r : PlainRecording) (n e : ℕ) → n < length r.entries → pair_of r n ≡ Some e → e < length r.entries
+taken_within r n e within pair =
     let earlier : e < n = subst (λ o. IfSome o (λ e. e < n)) pair (pair_earlier r n) in
-    omega (arith, earlier, within, tied.room)
+    omega (arith, earlier, within)
 
 -- what was marked stays so where one more is
 pub marked_stays : (xs : List Bool) (i e : ℕ) → i < length xs → slice_get xs e ≡ Some true → slice_get (set xs i true) e ≡ Some true
@@ -105,33 +113,45 @@ marked_stays xs i e within marked = ⊎_elim
     (λ (apart : e ≢ i). get-set_other xs i true e apart ∙ marked)
     (cases_eq e i)
 
-known_stays : (a b : Bool) → a ≡ true → (a || b) ≡ true
+found_in_front : {X : Type 0} (xs ys : List X) (e : ℕ) (x : X) → slice_get xs e ≡ Some x → slice_get (xs ++ ys) e ≡ Some x
+found_in_front [] ys e x at = absurd (cc at)
+found_in_front (z ∷ xs) ys zero x at = at
+found_in_front (z ∷ xs) ys (suc e) x at = found_in_front xs ys e x at
+
+-- and where room for all entries is made
+pub marked_within : (xs free : List Bool) (n e : ℕ) → length xs ≤ n → slice_get xs e ≡ Some true → slice_get (take n xs ++ free) e ≡ Some true
+marked_within xs free n e room marked = ap (λ ys. slice_get (ys ++ free) e) (take_all n xs room) ∙ found_in_front xs free e true marked
+
+pub known_stays : (a b : Bool) → a ≡ true → (a || b) ≡ true
 known_stays true b known = refl
 known_stays false b known = absurd (cc known)
 
-known_here : (a b : Bool) → b ≡ true → (a || b) ≡ true
+pub known_here : (a b : Bool) → b ≡ true → (a || b) ≡ true
 known_here true b known = refl
 known_here false b known = known
 
--- an answer whose request is marked
-pub answered_marked : (r : PlainRecording) (n i : ℕ) (unasked : Bool) (a b : Answered) → n < length r.entries → pair_of r n ≡ Some i → unasked ≡ unasked_at r n
-    → b.taken.items ≡ set a.taken.items i true → b.unasked ≡ (a.unasked || unasked) → AreAnswered r n a → AreAnswered r (n + 1) b
-answered_marked r n i unasked a b here pair none marked known tied =
-    let within : i < length a.taken.items = taken_within r n i a here pair tied in
-    answered_more r n a b (ap length marked ∙ length-set a.taken.items i true)
-    (λ e was. ap (λ xs. slice_get xs e) marked ∙ marked_stays a.taken.items i e within was)
-    (λ was. known ∙ known_stays a.unasked unasked was)
-    (λ e other. ap (slice_get b.taken.items) (same_Some e i (sym other ∙ pair)) ∙ ap (λ xs. slice_get xs i) marked ∙ get-set_here a.taken.items i true within)
-    (λ is. known ∙ known_here a.unasked unasked (none ∙ is))
+-- an answer without a key, whose request is marked
+pub answered_marked : (r : PlainRecording) (n i : ℕ) (xs : List Bool) (a b : Answered) → pair_of r n ≡ Some i → i < length xs → length xs ≤ length r.entries
+    → ((e : ℕ) → slice_get a.taken.items e ≡ Some true → slice_get xs e ≡ Some true) → b.taken.items ≡ set xs i true → b.unasked ≡ a.unasked
+    → (unasked_at r n ≡ true → a.unasked ≡ true) → AreAnswered r n a → AreAnswered r (n + 1) b
+answered_marked r n i xs a b pair within room kept marked same unasked tied =
+    let long : length b.taken.items ≡ length xs = ap length marked ∙ length-set xs i true in
+    answered_more r n a b (omega (arith, long, room))
+    (λ e was. ap (λ ys. slice_get ys e) marked ∙ marked_stays xs i e within (kept e was))
+    (λ was. same ∙ was)
+    (λ e unkeyed other. ap (slice_get b.taken.items) (same_Some e i (sym other ∙ pair)) ∙ ap (λ ys. slice_get ys i) marked ∙ get-set_here xs i true within)
+    (λ is. same ∙ unasked is)
     tied
 
-unmarked : (a b c : Bool) → not (a || (b || c)) ≡ true → (a ≡ false) × (b ≡ false)
-unmarked false false c new = (refl, refl)
-unmarked false true c new = absurd (cc new)
-unmarked true b c new = absurd (cc new)
+unmarked : (a b : Bool) → not (a || b) ≡ true → (a ≡ false) × (b ≡ false)
+unmarked false false new = (refl, refl)
+unmarked false true new = absurd (cc new)
+unmarked true b new = absurd (cc new)
 
--- an answer whose request was not marked
-pub new_unmarked : (r : PlainRecording) (n i : ℕ) (was unasked : Bool) (a : Answered) → pair_of r n ≡ Some i → slice_get a.taken.items i ≡ Some was
-    → not (was || (a.unasked || unasked)) ≡ true → AreAnswered r n a → IsNewSend r n
-new_unmarked r n i was unasked a pair marked new tied =
-    let none = unmarked was a.unasked unasked new in new_answer r n i a tied pair none.1 (marked ∙ ap Some none.0)
+-- an answer without a key, whose request was not marked
+pub new_unmarked : (r : PlainRecording) (n i : ℕ) (was : Bool) (xs : List Bool) (a : Answered) → key_at r n ≡ None → pair_of r n ≡ Some i
+    → ((e : ℕ) → slice_get a.taken.items e ≡ Some true → slice_get xs e ≡ Some true) → slice_get xs i ≡ Some was
+    → not (was || a.unasked) ≡ true → AreAnswered r n a → IsNewSend r n
+new_unmarked r n i was xs a unkeyed pair kept marked new tied =
+    let none = unmarked was a.unasked new in
+    new_answer r n i a tied unkeyed pair none.1 (λ was_so. cc (sym (kept i was_so) ∙ marked ∙ ap Some none.0))

@@ -62,7 +62,7 @@ new_by r n f none same b source =
           none_passes f n j none before.0 (same j sends.0 sends.1.0.0 sends.1.1.0 b sends.1.0.1 sends.1.1.1) (Some j ≡ None)
     ] refl
 
-key_of_send : (r : PlainRecording) (j t stamp : ℕ) (b : List ℕ) → slice_get r.entries j ≡ Some (Sent t stamp b) → key_at r j ≡ event_key r (Send t b)
+pub key_of_send : (r : PlainRecording) (j t stamp : ℕ) (b : List ℕ) → slice_get r.entries j ≡ Some (Sent t stamp b) → key_at r j ≡ event_key r (Send t b)
 unfolding key_at
 key_of_send r j t stamp b at = ap (option_and_then (λ e. event_key r (event_of e))) at
 

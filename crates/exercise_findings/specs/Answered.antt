@@ -1,5 +1,5 @@
 -- Which requests were taken up so far, and whether an answer was sent that takes up none (profile).
-use Rattle.std.specs.Prelude.{◌≡◌, ◌<◌, ℕ, Bool, true, false, ◌&&◌, is_none, Some, length, slice_get}
+use Rattle.std.specs.Prelude.{◌≡◌, ◌<◌, ◌≤◌, ℕ, Bool, true, false, ◌&&◌, is_none, Some, None, length, slice_get}
 use Rattle.std.specs.Option.{option_map_or}
 use Rattle.siman_pdus.specs.declared.pdu.Pdu.{Pdu}
 use Rattle.exercise_model.specs.Recording.{PlainRecording}
@@ -8,6 +8,7 @@ use Rattle.exercise_model.specs.Meaning.{meaning}
 use Rattle.exercise_model.specs.Exchange.{is_answer_body}
 use Rattle.exercise_model.specs.Account.{pair_of_sent, pair_of}
 use Rattle.exercise_findings.specs.declared.answered.Answered.{Answered}
+use Rattle.exercise_findings.specs.Firsts.{key_at}
 
 -- p, sent by station s at entry i, is an answer that takes up no request
 abbrev pub is_unasked : PlainRecording → ℕ → ℕ → Pdu → Bool
@@ -22,8 +23,8 @@ unasked_by r i (Tell s e y) = false
 unfoldable pub unasked_at : PlainRecording → ℕ → Bool
 unasked_at r i = option_map_or (λ e. unasked_by r i (event_of e)) (slice_get r.entries i) false
 
--- THE TIE: each request that an entry below n takes up is marked, and an answer there that takes up none is known
+-- THE TIE: each request that an entry without a key takes up below n is marked, and an answer there that takes up none is known
 pub record AreAnswered (r : PlainRecording) (n : ℕ) (a : Answered) : Type 0 where
-  pub room : length a.taken.items ≡ length r.entries
-  pub taken : (j e : ℕ) → j < n → pair_of r j ≡ Some e → slice_get a.taken.items e ≡ Some true
+  pub room : length a.taken.items ≤ length r.entries
+  pub taken : (j e : ℕ) → j < n → key_at r j ≡ None → pair_of r j ≡ Some e → slice_get a.taken.items e ≡ Some true
   pub unasked : (j : ℕ) → j < n → unasked_at r j ≡ true → a.unasked ≡ true

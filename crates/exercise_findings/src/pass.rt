@@ -130,7 +130,7 @@ fn nothing_found<L: ExerciseLog>(alloc: Global, log: &L) -> Result<Pass, AllocEr
     let tables = no_tables(alloc, log)?;
     let places = places_of(alloc, log)?;
     let answers = Hint::new();
-    let answered = none_answered(alloc, log)?;
+    let answered = none_answered(alloc, log);
     Ok(Pass {
         places,
         tables,
@@ -202,7 +202,14 @@ fn keep_sent<L: ExerciseLog>(
         here.key,
         here.base,
     )?;
-    let fresh = note_answer(&mut found.answered, log, entry, here.pair, here.is_unasked);
+    let fresh = note_answer(
+        &mut found.answered,
+        log,
+        entry,
+        here.pair,
+        here.is_unasked,
+        here.key,
+    )?;
     let is_new = is_known_new(here.is_new, first, fresh);
     note_send(&mut found.sends, log, entry, bytes, here.is_source, is_new)
 }

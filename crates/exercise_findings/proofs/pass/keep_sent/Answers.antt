@@ -23,8 +23,8 @@ note_send-requires-clause-new g c new source =
     let r = g.L.ExerciseLog.recording c.args.log.now in
     let n = c.args.entry in
     let fresh : IsNewSend r n =
-    one_of c.in_ok-here.here.is_new c.in_ok-first.first c.note_answer-fresh.result (IsNewSend r n) (sym c.is_known_new-is_new.ensures ∙ new)
-    c.in_ok-here.ensures.found.fresh c.in_ok-first.ensures.new c.note_answer-fresh.ensures.new in
+    one_of c.in_ok-here.here.is_new c.in_ok-first.first c.in_ok-fresh.fresh (IsNewSend r n) (sym c.is_known_new-is_new.ensures ∙ new)
+    c.in_ok-here.ensures.found.fresh c.in_ok-first.ensures.new c.in_ok-fresh.ensures.new in
     fresh c.args.bytes.now (source_is r n c.args.station c.requires.sends.0 c.args.bytes.now c.requires.sends.1 source)
 
 pub returns-clause-found : goal.returns-clause-found
@@ -50,7 +50,7 @@ returns-clause-found g c =
       later = λ none. subst (λ (xs : List ℕ). IsColumn 0 (IsEarlierAt r) (n + 1) xs) (sym c.in_ok-push-3.ensures.items)
           (column_more 0 (IsEarlierAt r) n _ c.entry_number.result (was.later none) earlier);
       ables = behind_still r n c.args.found.now.ables.items (sym (behind_here r n sent at)) was.ables;
-      answered = c.note_answer-fresh.ensures.tied;
+      answered = c.in_ok-fresh.ensures.tied;
       sends = sends;
       others = omega (arith, one, others_next r n c.requires.within, was.others);
       few = omega (arith, one, at_most_one (other_at r n), was.few);

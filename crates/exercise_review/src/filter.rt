@@ -175,7 +175,7 @@ fn holds_under<T: Filtered>(filters: &[Filter], item: &T, key: u8) -> bool
     !any || passed
 }
 
-/// Whether filters keep a line: of the filters under each key it passes one, or there are none.
+/// As [`keeps`], key by key.
 #[tactic(auto, unfolding(crate::specs::Filter::keeps))]
 fn keeps_some<T: Filtered>(filters: &[Filter], item: &T) -> bool
     ensures { result ≡ keeps filters.now (T.test item.now) }
@@ -187,7 +187,8 @@ fn keeps_some<T: Filtered>(filters: &[Filter], item: &T) -> bool
         && holds_under(filters, item, 4)
 }
 
-/// As [`keeps_some`]. Mostly there are no filters, which keep every line.
+/// Whether filters keep a line: of the filters under each key it passes one, or there are none. Mostly there
+/// are none at all.
 #[tactic(auto, using(crate::proofs::Unfiltered::none_keep))]
 pub fn keeps<T: Filtered>(filters: &[Filter], item: &T) -> bool
     ensures { result ≡ keeps filters.now (T.test item.now) }

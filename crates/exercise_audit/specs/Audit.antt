@@ -1,5 +1,5 @@
 -- What a search for an order says (profile).
-use Rattle.std.specs.Prelude.{◌≡◌, ◌≢◌, ◌⊎◌, ℕ, zero, suc, List, [], ◌∷◌, ◌++◌, length, Some, None}
+use Rattle.std.specs.Prelude.{◌≡◌, ◌≢◌, ◌⊎◌, ℕ, zero, suc, List, [], ◌∷◌, ◌++◌, length, Some, None, Bool, true, false}
 use Rattle.exercise_model.specs.Recording.{PlainRecording}
 use Rattle.exercise_model.specs.History.{Event, History, log_at, log_of}
 use Rattle.exercise_model.specs.Cause.{cause_of}
@@ -38,6 +38,11 @@ pub record IsBlocked (r : PlainRecording) (blocks : List Block) : Type 0 where
   pub unexplained : (k : History) → Explains r k → ⊥
   pub some_end : (end : History) × IsStuck r end
   pub blocks_are : (end : History) → IsStuck r end → AreBlocks r end (length r.setting.stations) blocks
+
+-- some run explains the recording, or none does
+abbrev pub IsExplained : PlainRecording → (explained : Bool) → Type 0
+IsExplained r true = (h : History) × Explains r h
+IsExplained r false = (h : History) → Explains r h → ⊥
 
 abbrev pub IsAuditOf : PlainRecording → Audit → Type 0
 IsAuditOf r (Explained certificate) = IsGood r certificate.steps.items

@@ -1,3 +1,4 @@
 pub mod Audit
 pub mod Search
 pub mod Waiting
+pub mod Written

@@ -9,11 +9,13 @@
 #![tactic(auto)]
 
 mod blocks;
+mod explained;
 mod laws;
 mod search;
 mod sweeps;
 mod waiting;
 
 pub use blocks::{Audit, Block};
+pub use explained::{Explanation, explanation_of};
 pub use laws::conversion_keeps_searches;
 pub use sweeps::{Searched, audit, audit_found};

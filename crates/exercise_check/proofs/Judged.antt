@@ -70,12 +70,12 @@ abbrev rows : Bool → Bool → Bool → Option Cause
 rows heard must sent = first_cause ((not heard, Stranger) ∷ (must && not sent, NeverSent) ∷ [])
 
 -- what was never sent, as if nothing had been, means a PDU of a recorded station
-record Unsent (w : SettingData) (b : List ℕ) : Type 0 where
-  pdu : Pdu
-  means : meaning w.exercise b ≡ Some pdu
-  known : is_recorded w pdu ≡ true
+pub record Unsent (w : SettingData) (b : List ℕ) : Type 0 where
+  pub pdu : Pdu
+  pub means : meaning w.exercise b ≡ Some pdu
+  pub known : is_recorded w pdu ≡ true
 
-unsent : (w : SettingData) (b : List ℕ) (s : ℕ) → cause_of w [] (Get s b) ≡ Some NeverSent → Unsent w b
+pub unsent : (w : SettingData) (b : List ℕ) (s : ℕ) → cause_of w [] (Get s b) ≡ Some NeverSent → Unsent w b
 unfolding cause_of get_cause was_sent
 unsent w b s =
     elim (meaning w.exercise b) as (λ o. meaning w.exercise b ≡ o → option_and_then (get_cause w [] b) o ≡ Some NeverSent → Unsent w b) [
@@ -90,7 +90,7 @@ unsent w b s =
     ] refl
 
 -- else what was sent before changes nothing
-received_else : (w : SettingData) (h : History) (b : List ℕ) (s : ℕ) → cause_of w [] (Get s b) ≢ Some NeverSent
+pub received_else : (w : SettingData) (h : History) (b : List ℕ) (s : ℕ) → cause_of w [] (Get s b) ≢ Some NeverSent
     → cause_of w h (Get s b) ≡ cause_of w [] (Get s b)
 unfolding cause_of get_cause was_sent
 received_else w h b s =

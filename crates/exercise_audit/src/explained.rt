@@ -1,0 +1,99 @@
+//! Whether some run explains a recording. Mostly the entries happened in the order in which they are
+//! written, which is seen at once; only where it is not a search is made.
+
+ghost use Rattle.std.specs.Prelude.{◌≡◌, ◌<◌, ◌+◌, true, length, IfOk};
+ghost use Rattle.exercise_audit.specs.Audit.{IsAuditOf, IsExplained};
+ghost use Rattle.exercise_audit.specs.Written.{RunsAsWritten, is_sent_before};
+
+use crate::blocks::Audit;
+use crate::sweeps::{Searched, audit_found};
+use exercise_findings::Findings;
+use exercise_model::{Cause, ExerciseLog};
+use std::alloc::{AllocError, Global};
+
+/// Whether what an entry receives from a recorded station was sent by an entry before it.
+fn is_sent_before<L: ExerciseLog>(findings: &mut Findings<'_, L>, entry: usize) -> bool
+    ensures findings { findings.new ≡ findings.old }
+    ensures sent { result ≡ is_sent_before findings.old entry }
+{
+    findings.settle_source(entry);
+    match findings.source(entry) {
+        Some(source) => (source as usize) < entry,
+        None => false,
+    }
+}
+
+/// Whether an entry is seen to be allowed after those before it, which are a run.
+#[tactic(auto, using(crate::proofs::Written::alone_follows, crate::proofs::Written::sent_follows))]
+fn follows<L: ExerciseLog>(findings: &mut Findings<'_, L>, entry: usize) -> bool
+    requires within { entry < length findings.old.entries }
+    requires run { RunsAsWritten findings.old entry }
+    ensures findings { findings.new ≡ findings.old }
+    ensures run { result ≡ true → RunsAsWritten findings.old (entry + 1) }
+{
+    match findings.cause(entry) {
+        None => true,
+        Some(Cause::NeverSent) => is_sent_before(findings, entry),
+        Some(_) => false,
+    }
+}
+
+/// Whether the entries are seen to be a run in the order in which they are written.
+fn runs_as_written<L: ExerciseLog>(findings: &mut Findings<'_, L>) -> bool
+    ensures findings { findings.new ≡ findings.old }
+    ensures run { result ≡ true → RunsAsWritten findings.old (length findings.old.entries) }
+{
+    for entry in 0..findings.log().entry_count() {
+        if !follows(findings, entry) {
+            return false;
+        }
+    }
+    true
+}
+
+/// Whether some run explains a recording, and what was found in it.
+#[derive(Drop)]
+pub struct Explanation<'a, L: ExerciseLog> {
+    /// Whether some run explains it.
+    pub is_explained: bool,
+    /// What the log of each station says of its own entries.
+    pub findings: Findings<'a, L>,
+}
+
+/// Whether what a search came to says that some run explains the recording.
+#[tactic(auto, using(crate::proofs::Written::good_explained, crate::proofs::Written::blocked_unexplained))]
+fn tells_run<L: ExerciseLog>(log: &L, audit: Audit) -> bool
+    requires { IsAuditOf (L.recording log.now) audit }
+    ensures { IsExplained (L.recording log.now) result }
+{
+    let _end = log.entry_count();
+    match audit {
+        Audit::Explained(_) => true,
+        Audit::Blocked(_) => false,
+    }
+}
+
+/// Whether some run explains a recording of which this was found, which is given back. No order is
+/// named: [`audit_found`] does that. It is searched for one only where the entries are not a run in the
+/// order in which they are written.
+#[tactic(auto, using(crate::proofs::Written::written_explained))]
+pub fn explanation_of<'a, L: ExerciseLog>(
+    alloc: Global,
+    findings: Findings<'a, L>,
+) -> Result<Explanation<'a, L>, AllocError>
+    ensures explained { IfOk result (λ x. IsExplained findings.entry x.is_explained) }
+    ensures findings { IfOk result (λ x. x.findings ≡ findings.entry) }
+{
+    let mut findings = findings;
+    if runs_as_written(&mut findings) {
+        return Ok(Explanation {
+            is_explained: true,
+            findings,
+        });
+    }
+    let Searched { audit, findings } = audit_found(alloc, findings)?;
+    Ok(Explanation {
+        is_explained: tells_run(findings.log(), audit),
+        findings,
+    })
+}

@@ -17,5 +17,6 @@ mod FirstSends
 mod NewRequests
 mod Looks
 mod FirstAnswers
+mod HigherMarks
 mod EarlierEntries
 pub mod Offered

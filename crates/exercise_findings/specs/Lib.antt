@@ -10,6 +10,7 @@ pub mod Behind
 pub mod TakenUp
 pub mod Answered
 pub mod Requests
+pub mod Rising
 pub mod Decided
 pub mod Source
 pub mod Missing

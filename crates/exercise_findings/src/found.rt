@@ -16,6 +16,7 @@ ghost use Rattle.exercise_findings.specs.Hashed.{key_base};
 ghost use Rattle.exercise_findings.specs.Answered.{is_unasked};
 ghost use Rattle.exercise_findings.specs.Behind.{key_behind};
 ghost use Rattle.exercise_findings.specs.Requests.{AreRequests};
+ghost use Rattle.exercise_findings.specs.Rising.{AreRising};
 ghost use Rattle.exercise_findings.specs.Sent.{Sends, Receives};
 ghost use Rattle.exercise_findings.specs.Tables.{AreTied, IsFound};
 
@@ -26,7 +27,8 @@ use crate::exchange::taken_up;
 use crate::firsts::{answer_base, key_base};
 use crate::hint::Hint;
 use crate::key::{Key, received_key, sent_key};
-use crate::requests::{IdentifierUse, Requests, note_request};
+use crate::requests::{Requests, note_request};
+use crate::rising::{Rising, note_rise};
 use crate::sender::{Places, sender_of};
 use crate::state::change_by;
 use crate::tables::Tables;
@@ -53,7 +55,8 @@ pub(crate) struct Found {
     pub behind: Option<Key>,
     /// Whether it sends what comes from its own station.
     pub is_source: bool,
-    /// Whether it is known to send this first, as a request that is the first under its identifier.
+    /// Whether it is known to send this first: a request that is the first under its identifier, or what
+    /// stands above all that its station sent before.
     pub is_new: bool,
     /// Whether its datagram is "other".
     pub other: bool,
@@ -97,7 +100,8 @@ fn pair_of(taken: &Option<(u32, PduView<'_>)>) -> Option<u32>
     }
 }
 
-/// What a PDU is found to be that a station sends at an entry and that uses its identifier so.
+/// What a PDU is found to be that a station sends at an entry, where this is known of its identifier and
+/// of whether it is new.
 fn found_sent<L: ExerciseLog>(
     log: &L,
     tables: &Tables,
@@ -105,12 +109,13 @@ fn found_sent<L: ExerciseLog>(
     station: u16,
     entry: usize,
     pdu: &PduView<'_>,
-    asked: IdentifierUse,
+    reused: bool,
+    is_new: bool,
 ) -> Found
     requires at { station < length (L.recording log.now).setting.stations }
     requires within { entry < length (L.recording log.now).entries }
     requires tied { AreTied (L.recording log.now) entry tables.now }
-    requires reused { let r = L.recording log.now in asked.reused ≡ (is_request_body (pdu_of pdu.now).body && is_reused r.setting.exercise (pdu_of pdu.now) (log_before r station entry)) }
+    requires reused { let r = L.recording log.now in reused ≡ (is_request_body (pdu_of pdu.now).body && is_reused r.setting.exercise (pdu_of pdu.now) (log_before r station entry)) }
     ensures cause { let r = L.recording log.now in result.cause ≡ send_cause r.setting.exercise (station_at r station) (log_before r station entry) (pdu_of pdu.now) }
     ensures pair { result.pair ≡ pair_of_sent (L.recording log.now) station entry (pdu_of pdu.now) }
     ensures unasked { result.is_unasked ≡ is_unasked (L.recording log.now) station entry (pdu_of pdu.now) }
@@ -119,7 +124,7 @@ fn found_sent<L: ExerciseLog>(
     ensures base { result.base ≡ answer_base station (pdu_of pdu.now) }
     ensures behind { result.behind ≡ None }
     ensures source { result.is_source ≡ is_from (station_at (L.recording log.now) station).address (pdu_of pdu.now) }
-    ensures new { result.is_new ≡ asked.first }
+    ensures new { result.is_new ≡ is_new }
     ensures other { result.other ≡ false }
 {
     let address = log.station(usize::from(station)).address();
@@ -129,16 +134,7 @@ fn found_sent<L: ExerciseLog>(
     let first = is_change(log, &tables.firsts, station, entry, pdu, base);
     Found {
         cause: judge_sent(
-            log,
-            tables,
-            station,
-            entry,
-            pdu,
-            base,
-            from,
-            asked.reused,
-            first,
-            &taken,
+            log, tables, station, entry, pdu, base, from, reused, first, &taken,
         ),
         pair: pair_of(&taken),
         is_unasked: is_answer(pdu) && taken.is_none(),
@@ -147,7 +143,7 @@ fn found_sent<L: ExerciseLog>(
         base,
         behind: None,
         is_source: from,
-        is_new: asked.first,
+        is_new,
         other: false,
     }
 }
@@ -197,6 +193,7 @@ pub(crate) fn find_sent<L: ExerciseLog>(
     log: &L,
     tables: &Tables,
     requests: &mut Requests,
+    rising: &mut Rising,
     hint: &mut Hint,
     entry: usize,
     station: u16,
@@ -209,13 +206,26 @@ pub(crate) fn find_sent<L: ExerciseLog>(
     requires sends { Sends (L.recording log.now) entry station bytes.now }
     requires tied { AreTied (L.recording log.now) entry tables.now }
     requires requests { AreRequests (L.recording log.now) entry requests.old }
+    requires rising { AreRising (L.recording log.now) entry rising.old }
     ensures found { IfOk result (IsFound (L.recording log.now) entry) }
     ensures requests { OnOk result (AreRequests (L.recording log.now) (entry + 1) requests.new) }
+    ensures rising { OnOk result (AreRising (L.recording log.now) (entry + 1) rising.new) }
 {
     match meaning_view(log.exercise(), bytes) {
         Some(pdu) => {
             let asked = note_request(requests, log, station, entry, &pdu)?;
-            Ok(found_sent(log, tables, hint, station, entry, &pdu, asked))
+            let is_above = note_rise(rising, log, station, entry, &pdu);
+            let is_new = asked.first | is_above;
+            Ok(found_sent(
+                log,
+                tables,
+                hint,
+                station,
+                entry,
+                &pdu,
+                asked.reused,
+                is_new,
+            ))
         }
         None => Ok(found_other()),
     }

@@ -33,6 +33,7 @@ mod missing;
 mod number;
 mod pass;
 mod requests;
+mod rising;
 mod sender;
 mod senders;
 mod slots;

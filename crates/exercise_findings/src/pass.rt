@@ -4,6 +4,7 @@ ghost use Rattle.std.specs.Prelude.{◌≡◌, ◌<◌, ◌+◌, ◌||◌, lengt
 ghost use Rattle.exercise_model.specs.Entry.{Told};
 ghost use Rattle.exercise_model.specs.Recording.{IsRecording};
 ghost use Rattle.exercise_findings.specs.Requests.{AreRequests};
+ghost use Rattle.exercise_findings.specs.Rising.{AreRising};
 ghost use Rattle.exercise_findings.specs.Senders.{AreSenders};
 ghost use Rattle.exercise_findings.specs.Sent.{Sends, Receives};
 ghost use Rattle.exercise_findings.specs.Tables.{IsPass, AreFound, AreFindings};
@@ -18,6 +19,7 @@ use crate::found::{find_received, find_sent};
 use crate::hint::Hint;
 use crate::number::{NO_ENTRY, entry_number};
 use crate::requests::{Requests, no_requests};
+use crate::rising::{Rising, none_risen};
 use crate::sender::{Places, places_of};
 use crate::senders::{Hints, Senders, no_hints};
 use crate::tables::{Tables, no_tables, note_key, note_tables};
@@ -169,6 +171,7 @@ fn is_known_new(identifier: bool, key: bool, request: bool) -> bool
 fn keep_sent<L: ExerciseLog>(
     found: &mut Pass,
     requests: &mut Requests,
+    rising: &mut Rising,
     log: &L,
     entry: usize,
     station: u16,
@@ -181,15 +184,19 @@ fn keep_sent<L: ExerciseLog>(
     requires sends { Sends (L.recording log.now) entry station bytes.now }
     requires found { IsPass (L.recording log.now) entry found.old }
     requires requests { AreRequests (L.recording log.now) entry requests.old }
+    requires rising { AreRising (L.recording log.now) entry rising.old }
     ensures found { OnOk result (IsPass (L.recording log.now) (entry + 1) found.new) }
     ensures requests { OnOk result (AreRequests (L.recording log.now) (entry + 1) requests.new) }
+    ensures rising { OnOk result (AreRising (L.recording log.now) (entry + 1) rising.new) }
 {
     let Pass {
         tables,
         answers,
         ..
     } = found;
-    let here = find_sent(log, tables, requests, answers, entry, station, bytes)?;
+    let here = find_sent(
+        log, tables, requests, rising, answers, entry, station, bytes,
+    )?;
     found.causes.push(here.cause)?;
     found.changes.push(change_number(here.change))?;
     found.earlier.push(entry_number(here.pair))?;
@@ -268,6 +275,7 @@ fn keep_told<L: ExerciseLog>(
 fn find_entry<L: ExerciseLog>(
     found: &mut Pass,
     requests: &mut Requests,
+    rising: &mut Rising,
     log: &L,
     entry: usize,
 ) -> Result<(), AllocError>
@@ -275,12 +283,14 @@ fn find_entry<L: ExerciseLog>(
     requires within { entry < length (L.recording log.now).entries }
     requires found { IsPass (L.recording log.now) entry found.old }
     requires requests { AreRequests (L.recording log.now) entry requests.old }
+    requires rising { AreRising (L.recording log.now) entry rising.old }
     ensures found { OnOk result (IsPass (L.recording log.now) (entry + 1) found.new) }
     ensures requests { OnOk result (AreRequests (L.recording log.now) (entry + 1) requests.new) }
+    ensures rising { OnOk result (AreRising (L.recording log.now) (entry + 1) rising.new) }
 {
     match log.entry(entry) {
         EntryView::Sent { station, bytes, .. } => {
-            keep_sent(found, requests, log, entry, station, bytes)
+            keep_sent(found, requests, rising, log, entry, station, bytes)
         }
         EntryView::Received { station, bytes, .. } => {
             keep_received(found, log, entry, station, bytes)
@@ -293,15 +303,17 @@ fn find_entry<L: ExerciseLog>(
     }
 }
 
-/// Passes over all entries. What is kept of requests is not asked for after that.
+/// Passes over all entries. What is kept of requests, and of how far
+/// stations rose, is not asked for after that.
 fn pass_over<L: ExerciseLog>(alloc: Global, log: &L) -> Result<Pass, AllocError>
     ensures found { let r = L.recording log.now in IfOk result (IsPass r (length r.entries)) }
     ensures limits { OnOk result (IsRecording (L.recording log.now)) }
 {
     let mut found = nothing_found(alloc, log)?;
     let mut requests = no_requests(alloc, log);
+    let mut rising = none_risen(alloc, log)?;
     for entry in 0..log.entry_count() {
-        find_entry(&mut found, &mut requests, log, entry)?;
+        find_entry(&mut found, &mut requests, &mut rising, log, entry)?;
     }
     Ok(found)
 }

@@ -7,6 +7,8 @@ use Rattle.exercise_model.specs.Meaning.{meaning}
 use Rattle.exercise_findings.specs.declared.found.Found.{Found}
 use Rattle.exercise_findings.specs.Tables.{IsFound}
 use Rattle.exercise_findings.proofs.Looks.{sent_found, other_sent}
+use Rattle.exercise_findings.specs.FirstSends.{IsNewSend}
+use Rattle.exercise_findings.proofs.HigherMarks.{new_either, rising_pass, other_unmarked}
 use Rattle.exercise_findings.proofs.Reused.{requests_pass, other_unasked}
 use Rattle.exercise_findings.proofs.found.find_sent.Goals as goal
 
@@ -24,7 +26,8 @@ returns-in_ok-asked-in-Some-clause-found g c =
     })
     c.found_sent.ensures.cause c.found_sent.ensures.pair c.found_sent.ensures.unasked c.found_sent.ensures.change c.found_sent.ensures.key c.found_sent.ensures.base c.found_sent.ensures.behind
     c.found_sent.ensures.source
-    (λ new. c.in_ok-asked-in-Some.ensures.first (sym c.found_sent.ensures.new ∙ new)) c.found_sent.ensures.other
+    (λ new. new_either _ _ (IsNewSend r c.args.entry) (sym c.found_sent.ensures.new ∙ new) c.in_ok-asked-in-Some.ensures.first c.note_rise-is_above.ensures.new)
+    c.found_sent.ensures.other
 
 pub returns-in-None-clause-found : goal.returns-in-None-clause-found
 returns-in-None-clause-found g c =
@@ -41,3 +44,11 @@ returns-in-None-clause-requests g c =
     requests_pass r c.args.entry (Sent c.args.station c.requires.sends.0 b) c.args.requests.now c.requires.sends.1
     (other_unasked r c.args.station b (ap (λ x. meaning x b) (sym c.exercise.ensures) ∙ sym c.meaning_view.ensures ∙ ap (option_map pdu_of) c.in-None.is))
     c.requires.requests
+
+pub returns-in-None-clause-rising : goal.returns-in-None-clause-rising
+returns-in-None-clause-rising g c =
+    let r = g.L.ExerciseLog.recording c.args.log.now in
+    let b = c.args.bytes.now in
+    rising_pass r c.args.entry (Sent c.args.station c.requires.sends.0 b) c.args.rising.now c.requires.sends.1
+    (other_unmarked r c.args.station b (ap (λ x. meaning x b) (sym c.exercise.ensures) ∙ sym c.meaning_view.ensures ∙ ap (option_map pdu_of) c.in-None.is))
+    c.requires.rising

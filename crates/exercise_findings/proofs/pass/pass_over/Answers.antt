@@ -3,7 +3,7 @@ use Rattle.exercise_findings.specs.Tables.{IsPass}
 use Rattle.exercise_findings.proofs.pass.pass_over.Goals as goal
 
 pub loop-entry-init : goal.loop-entry-init
-loop-entry-init g c = (c.in_ok-found.ensures, c.no_requests-requests.ensures)
+loop-entry-init g c = (c.in_ok-found.ensures, c.no_requests-requests.ensures, c.in_ok-rising.ensures)
 
 pub returns-clause-found : goal.returns-clause-found
 returns-clause-found g c =

@@ -19,6 +19,7 @@ mod Registered
 mod KnownKeys
 mod Under
 mod Paired
+mod Moved
 mod FirstOnes
 mod Receiving
 mod Replied

@@ -2,7 +2,7 @@
 //! another one. Strangers choose what requests say, so the hasher is one for which nobody writes down
 //! many that fall together.
 
-ghost use Rattle.std.specs.Prelude.{◌≡◌, ◌-◌, fold, length, take, map};
+ghost use Rattle.std.specs.Prelude.{◌≡◌, ◌-◌, ℕ, fold, length, take, map};
 ghost use Rattle.std.specs.Hash.DefaultHasher.{write, initial};
 ghost use Rattle.dis_records.specs.Datum.{canonical};
 ghost use Rattle.dis_records.specs.Records.{shown};
@@ -169,4 +169,12 @@ pub(crate) fn at_station(station: u16, digest: u64) -> u64
     ensures { result ≡ at_station station digest }
 {
     digest.wrapping_add(u64::from(station).wrapping_mul(STEP))
+}
+
+/// The digest at one station of what has this one at another.
+#[tactic(auto, using(crate::proofs::Moved::moved_digest))]
+pub(crate) fn moved(from: u16, to: u16, digest: u64) -> u64
+    ensures { (d : ℕ) → digest ≡ at_station from d → result ≡ at_station to d }
+{
+    at_station(to, digest.wrapping_sub(u64::from(from).wrapping_mul(STEP)))
 }

@@ -1,14 +1,14 @@
 //! The keys by which entries are looked up.
 
-ghost use Rattle.std.specs.Prelude.{◌≡◌, ◌<◌, ◌≤◌, Some, length, option_map, option_and_then, IfOk, IfSome};
+ghost use Rattle.std.specs.Prelude.{◌≡◌, ◌<◌, ◌≤◌, true, Some, is_some, length, option_map, option_and_then, IfOk, IfSome};
 ghost use Rattle.siman_pdus.specs.Reading.{pdu_of};
 ghost use Rattle.exercise_model.specs.Entry.{Entry};
 ghost use Rattle.exercise_model.specs.Meaning.{meaning};
-ghost use Rattle.exercise_review.specs.Entries.{bytes_sent, got_by};
+ghost use Rattle.exercise_review.specs.Entries.{bytes_sent, bytes_got, got_by};
 ghost use Rattle.siman_pdus.specs.declared.pdu.Pdu.{Pdu};
 ghost use Rattle.exercise_review.specs.Register.{request_digest, order_key, id_key, sent_key, got_key, key_at, second_at, AreKeys};
 
-use crate::digest::{at_station, digest};
+use crate::digest::{at_station, digest, moved};
 use crate::ways::Keying;
 use exercise_findings::Findings;
 use exercise_model::{EntryView, ExerciseLog, Form, meaning_view};
@@ -163,8 +163,72 @@ fn got_key(form: Form, station: u16, pdu: &PduView<'_>) -> Option<u64>
     }
 }
 
+/// The key at one station of the request that has this key at another.
+#[tactic(auto, unfolding(crate::specs::Register::order_key, crate::specs::Digest::digest_of))]
+fn moved_key(from: u16, to: u16, key: Option<u64>) -> Option<u64>
+    ensures { (p : Pdu) → key ≡ order_key from p → result ≡ order_key to p }
+{
+    match key {
+        Some(key) => Some(moved(from, to, key)),
+        None => None,
+    }
+}
+
+/// The key of what a station receives at an entry, where that can be told from the keys of the entries
+/// before. What sends the same bytes has the key of the same request at its own station; what takes up
+/// a request is none, and brings no key. An open recording keys answers too, and is read.
+#[tactic(auto, using(crate::proofs::Moved::answer_brought, crate::proofs::Moved::request_brought))]
+fn brought_key<L: ExerciseLog>(
+    findings: &Findings<'_, L>,
+    keys: &[Option<u64>],
+    station: u16,
+    entry: usize,
+) -> Option<Option<u64>>
+    requires known { AreKeys findings.now (length keys.now) keys.now }
+    requires within { length keys.now ≤ length findings.now.entries }
+    requires received { is_some (bytes_got findings.now station entry) ≡ true }
+    ensures { IfSome result (λ key. key ≡ key_at findings.now entry) }
+{
+    let log = findings.log();
+    if log.form() == Form::Open {
+        return None;
+    }
+    let source = findings.source(entry)? as usize;
+    if source >= keys.len() {
+        return None;
+    }
+    if findings.pair(source).is_some() {
+        return Some(None);
+    }
+    Some(moved_key(log.entry(source).station(), station, keys[source]))
+}
+
+/// The key of what a station receives at an entry, where these are the keys of those before. What came
+/// from one of them is not read.
+fn received_key<L: ExerciseLog>(
+    findings: &Findings<'_, L>,
+    keys: &[Option<u64>],
+    station: u16,
+    entry: usize,
+    bytes: &[u8],
+) -> Option<u64>
+    requires known { AreKeys findings.now (length keys.now) keys.now }
+    requires within { length keys.now ≤ length findings.now.entries }
+    requires received { bytes_got findings.now station entry ≡ Some bytes.now }
+    ensures { result ≡ key_at findings.now entry }
+{
+    if let Some(key) = brought_key(findings, keys, station, entry) {
+        return key;
+    }
+    let log = findings.log();
+    match meaning_view(log.exercise(), bytes) {
+        Some(pdu) => got_key(log.form(), station, &pdu),
+        None => None,
+    }
+}
+
 /// The key of an entry, where these are the keys of those before.
-#[tactic(auto, unfolding(crate::specs::Register::key_at, crate::specs::Entries::bytes_sent))]
+#[tactic(auto, unfolding(crate::specs::Register::key_at, crate::specs::Entries::bytes_sent, crate::specs::Entries::bytes_got))]
 fn key_at<L: ExerciseLog>(
     findings: &Findings<'_, L>,
     keys: &[Option<u64>],
@@ -178,10 +242,9 @@ fn key_at<L: ExerciseLog>(
     let log = findings.log();
     match log.entry(entry) {
         EntryView::Sent { station, bytes, .. } => sent_key(findings, keys, station, entry, bytes),
-        EntryView::Received { station, bytes, .. } => match meaning_view(log.exercise(), bytes) {
-            Some(pdu) => got_key(log.form(), station, &pdu),
-            None => None,
-        },
+        EntryView::Received { station, bytes, .. } => {
+            received_key(findings, keys, station, entry, bytes)
+        }
         EntryView::Told { .. } => None,
     }
 }

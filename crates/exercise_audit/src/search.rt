@@ -64,7 +64,7 @@ fn go_on<L: ExerciseLog>(
     let Some(entry) = course.next_entry(station) else {
         return Ok(false);
     };
-    match course.go_on(alloc, entry)? {
+    match course.go_on_at(alloc, station, entry)? {
         Progress::Taken(_) => {
             wake_at(alloc, waiting, ready, entry)?;
             Ok(true)

@@ -28,7 +28,7 @@ fn let_go_on<L: ExerciseLog>(
     let Some(entry) = course.next_entry(station) else {
         return Ok(false);
     };
-    match course.go_on(alloc, entry)? {
+    match course.go_on_at(alloc, station, entry)? {
         Progress::Taken(_) => Ok(true),
         Progress::Barred(_) => Ok(false),
     }

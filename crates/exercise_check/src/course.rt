@@ -10,7 +10,7 @@ ghost use Rattle.exercise_check.specs.Course.{CourseData, IsCourse, begun, so_fa
 ghost use Rattle.exercise_check.specs.Judging.{Keeps};
 
 use crate::certificate::{Certificate, Step};
-use crate::cursors::{Cursors, first_cursors, is_next, next_entry, pass};
+use crate::cursors::{Cursors, first_cursors, is_next, next_entry, pass_at};
 use crate::judgement::{Judgement, judge};
 use crate::number::link_number;
 use exercise_findings::{Account, Findings};
@@ -90,6 +90,7 @@ impl<'a, L: ExerciseLog> Course<'a, L> {
     pub fn next_entry(&self, station: usize) -> Option<usize>
         ensures within { IfSome result (λ place. place < length self.now.recording.entries) }
         ensures own { IfSome result (λ place. IfSome (slice_get self.now.recording.entries place) (λ e. station_of (event_of e) ≡ station)) }
+        ensures at { IfSome result (λ place. station < length self.now.recording.setting.stations) }
         ensures next { IfSome result (λ place. IsNext self.now place) }
         ensures done { IfNone result (log_at station (so_far self.now) ≡ log_of self.now.recording station) }
         ensures course { IsCourse self.now }
@@ -104,12 +105,19 @@ impl<'a, L: ExerciseLog> Course<'a, L> {
         self.found.source(place)
     }
 
-    /// Goes on by an entry that is its station's next one: where its event is allowed after what
+    /// Goes on by an entry of a station, that is its next one: where its event is allowed after what
     /// happened so far, the entry is taken, with the link that its step should have; else the first
     /// cause that holds is told, and the course stays as it is. It does so too where there is no
     /// memory to take the step; judging the event takes none.
-    pub fn go_on(&mut self, alloc: Global, place: usize) -> Result<Progress, AllocError>
+    pub fn go_on_at(
+        &mut self,
+        alloc: Global,
+        station: usize,
+        place: usize,
+    ) -> Result<Progress, AllocError>
         requires within { place < length self.old.recording.entries }
+        requires at { station < length self.old.recording.setting.stations }
+        requires own { IfSome (slice_get self.old.recording.entries place) (λ e. station_of (event_of e) ≡ station) }
         requires next { IsNext self.old place }
         ensures judged { IfOk result (λ progress. IfSome (slice_get self.old.recording.entries place) (GoesOn self.old self.new place progress)) }
         ensures course { IfOk result (λ progress. IsCourse self.new) }
@@ -127,10 +135,24 @@ impl<'a, L: ExerciseLog> Course<'a, L> {
                     place: place as u32,
                     link,
                 })?;
-                pass(&mut self.cursors, self.found.log(), place);
+                pass_at(&mut self.cursors, self.found.log(), station, place);
                 Ok(Progress::Taken(link))
             }
         }
+    }
+
+    /// As [`Course::go_on_at`], where it is read from the log which station the entry is one of.
+    pub fn go_on(&mut self, alloc: Global, place: usize) -> Result<Progress, AllocError>
+        requires within { place < length self.old.recording.entries }
+        requires next { IsNext self.old place }
+        ensures judged { IfOk result (λ progress. IfSome (slice_get self.old.recording.entries place) (GoesOn self.old self.new place progress)) }
+        ensures course { IfOk result (λ progress. IsCourse self.new) }
+        ensures memory { OnErr result (self.new ≡ self.old) }
+        // It lacks memory only where the event is allowed.
+        ensures allowed { OnErr result (IfSome (slice_get self.old.recording.entries place) (λ e. IsAllowed self.old.recording.setting (so_far self.old) (event_of e))) }
+    {
+        let station = usize::from(self.found.log().entry(place).station());
+        self.go_on_at(alloc, station, place)
     }
 
     /// What was found in the log. What is kept of the steps is given back.

@@ -95,7 +95,21 @@ pub(crate) fn was_taken<L: ExerciseLog>(log: &L, cursors: &Cursors, entry: usize
     cursors.next[station] as usize > entry
 }
 
-/// Moves the cursor of a station on, past the entry of a step that is taken.
+/// Moves the cursor of a station on, past the entry of a step that is taken, which is one of that station.
+pub(crate) fn pass_at<L: ExerciseLog>(cursors: &mut Cursors, log: &L, station: usize, place: usize)
+    requires within { place < length (L.recording log.now).entries }
+    requires at { station < length (L.recording log.now).setting.stations }
+    requires own { IfSome (slice_get (L.recording log.now).entries place) (λ e. station_of (event_of e) ≡ station) }
+    requires followers { length cursors.old.followers.items ≡ length (L.recording log.now).entries }
+    requires next { length cursors.old.next.items ≡ length (L.recording log.now).setting.stations }
+    ensures { let r = L.recording log.now in (steps : List Step) (link : ℕ) → IfSome (slice_get r.entries place) (λ e. length (log_at (station_of (event_of e)) (order_of r steps)) ≡ length (log_before r (station_of (event_of e)) place)) → AreCursors r steps cursors.old → AreCursors r (steps ++ record { place = place; link = link } ∷ []) cursors.new }
+{
+    let _log = log;
+    let follower = cursors.followers[place];
+    replace(&mut cursors.next, station, follower);
+}
+
+/// As [`pass_at`], where it is read from the log which station that is.
 pub(crate) fn pass<L: ExerciseLog>(cursors: &mut Cursors, log: &L, place: usize)
     requires within { place < length (L.recording log.now).entries }
     requires followers { length cursors.old.followers.items ≡ length (L.recording log.now).entries }
@@ -103,6 +117,5 @@ pub(crate) fn pass<L: ExerciseLog>(cursors: &mut Cursors, log: &L, place: usize)
     ensures { let r = L.recording log.now in (steps : List Step) (link : ℕ) → IfSome (slice_get r.entries place) (λ e. length (log_at (station_of (event_of e)) (order_of r steps)) ≡ length (log_before r (station_of (event_of e)) place)) → AreCursors r steps cursors.old → AreCursors r (steps ++ record { place = place; link = link } ∷ []) cursors.new }
 {
     let station = usize::from(log.entry(place).station());
-    let follower = cursors.followers[place];
-    replace(&mut cursors.next, station, follower);
+    pass_at(cursors, log, station, place);
 }

@@ -52,7 +52,7 @@ pub(crate) fn request_in(number: u32) -> Option<u32>
 }
 
 /// The source that a number stands for.
-fn source_in(number: u32) -> Option<u32>
+pub(crate) fn source_in(number: u32) -> Option<u32>
     ensures { result ≡ source_in number }
 {
     if number < FIRST_SOURCE {

@@ -1,6 +1,6 @@
 //! What the log of each station says of its own entries.
 
-ghost use Rattle.std.specs.Prelude.{◌≡◌, ◌<◌, ◌≤◌, length, map, IfOk, OnOk, IfSome};
+ghost use Rattle.std.specs.Prelude.{◌≡◌, ◌<◌, ◌≤◌, Some, length, map, IfOk, OnOk, IfSome};
 ghost use Rattle.exercise_model.specs.Recording.{PlainRecording, IsRecording};
 ghost use Rattle.exercise_model.specs.History.{station_at};
 ghost use Rattle.exercise_model.specs.State.{state_after};
@@ -13,7 +13,7 @@ ghost use Rattle.exercise_findings.specs.Tables.{AreFindings, own_cause};
 use crate::account::Account;
 use crate::accounting::{account, states};
 use crate::change_number::change_in;
-use crate::earlier::{request_in, source_kept};
+use crate::earlier::{request_in, source_in, source_kept};
 use crate::made::state_made_before;
 use crate::pass::{Passed, find, settle};
 use dis_records::EntityState;
@@ -88,6 +88,16 @@ impl<'a, L: ExerciseLog> Findings<'a, L> {
         }
         let earlier = self.found.earlier[entry];
         source_kept(&self.found.senders, self.log, entry, earlier)
+    }
+
+    /// The same where it is at hand; `None` too where it is yet to be looked up. It takes no memory.
+    pub fn source_at_hand(&self, entry: usize) -> Option<u32>
+        ensures { IfSome result (λ source. source_of self.now entry ≡ Some source) }
+    {
+        match self.found.earlier.get(entry) {
+            Some(earlier) => source_in(*earlier),
+            None => None,
+        }
     }
 
     /// Looks up where what an entry received comes from, where that is yet to be found, so that

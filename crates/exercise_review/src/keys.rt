@@ -193,7 +193,7 @@ fn brought_key<L: ExerciseLog>(
     if log.form() == Form::Open {
         return None;
     }
-    let source = findings.source(entry)? as usize;
+    let source = findings.source_at_hand(entry)? as usize;
     if source >= keys.len() {
         return None;
     }

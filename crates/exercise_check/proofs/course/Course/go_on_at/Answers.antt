@@ -7,7 +7,7 @@ use Rattle.exercise_check.specs.Judging.{Keeps}
 use Rattle.exercise_findings.proofs.Offered.{on_err}
 use Rattle.exercise_check.proofs.Goodness.{good_push}
 use Rattle.exercise_check.proofs.Courses.{next_ready, next_counts, allows, goes_same, barred_goes, taken_goes, allowed_goes}
-use Rattle.exercise_check.proofs.course.Course.go_on.Goals as goal
+use Rattle.exercise_check.proofs.course.Course.go_on_at.Goals as goal
 
 pub invariant_of-self-in-Allowed : goal.invariant_of-self-in-Allowed
 invariant_of-self-in-Allowed g c =
@@ -16,11 +16,11 @@ invariant_of-self-in-Allowed g c =
     let next = subst (λ v. IsNext v c.args.place) (sym c.self.view_is) c.requires.next in
     let judged = (rw c.settle_source.ensures at c.judge.ensures) steps c.self.invariant.course c.self.invariant.next (next_ready r steps c.args.place c.self.invariant.course.good next) in
     let within = rw (← c.self.view_is) at c.requires.within in
-    let passed = rw (c.log.ensures, c.settle_source.ensures) at c.pass.ensures in
+    let passed = rw (c.log.ensures, c.settle_source.ensures) at c.pass_at.ensures in
     let good = (allows r steps c.args.place c.in-Allowed.link within next (rw c.in-Allowed.is at judged)).good in
     let items = c.in_ok-push-in-Allowed.ensures.items
     ∙ ap (λ xs. xs ++ record { place = c.args.place; link = c.link_number-link.result } ∷ []) c.in_ok-reserve-in-Allowed.ensures.items in
-    subst (λ (r : PlainRecording). Keeps r c.push.new.self.items c.pass.new.cursors) (sym c.settle_source.ensures) (record {
+    subst (λ (r : PlainRecording). Keeps r c.push.new.self.items c.pass_at.new.cursors) (sym c.settle_source.ensures) (record {
       course = record {
         limits = c.self.invariant.course.limits;
         good = rw (items, c.link_number-link.ensures) (good_push r steps _ c.self.invariant.course.good good);

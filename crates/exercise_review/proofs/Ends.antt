@@ -1,23 +1,25 @@
 -- Entries to which none goes back are the last under their keys, and what stands at such a head was sent once.
-use Rattle.std.proofs.Common.{◌≡◌, ⊎_elim, ℕ, zero, suc, ◌+◌, ◌-◌, ◌<◌, ◌≤◌, List, length, Bool, true, false, Option, Some, None, refl, sym, ap, ◌∙◌, subst, arith}
+use Rattle.std.proofs.Common.{◌≡◌, ⊎_elim, ℕ, zero, suc, ◌+◌, ◌-◌, ◌%◌, ◌^◌, ◌<◌, ◌≤◌, List, length, Bool, true, false, Option, Some, None, refl, sym, ap, ◌∙◌, subst, arith}
 use Rattle.std.specs.Prelude.{slice_index_or, is_some, option_map, IfSome, if◌then◌else◌}
 use Rattle.std.specs.Option.{option_map_or}
 use Rattle.std.proofs.Math.ListN.{get_or-eq_default}
 use Rattle.std.proofs.lemmas.Bool.{cases_lt}
+use Rattle.std.proofs.lemmas.Option.{same_Some}
 use Rattle.exercise_model.specs.Place.{first_below}
 use Rattle.exercise_model.specs.Recording.{PlainRecording}
 use Rattle.exercise_model.proofs.Offered.{first_found}
 use Rattle.exercise_findings.specs.Column.{IsColumn}
 use Rattle.exercise_findings.specs.Number.{entry_of}
 use Rattle.exercise_review.specs.Counted.{last_below, count_below}
-use Rattle.exercise_review.specs.Digest.{digest_of}
+use Rattle.exercise_review.specs.Digest.{digest, digest_of, at_station}
 use Rattle.exercise_review.specs.Order.{OrderData, sends_order, order_at, sends_of}
 use Rattle.exercise_review.specs.Outcome.{sends_told}
-use Rattle.exercise_review.specs.Register.{order_key, holds, has_key, no_entry, IsBefore, AreEnds, IsUnder}
+use Rattle.exercise_review.specs.Register.{request_digest, order_key, key_at, holds, has_key, no_entry, IsBefore, AreEnds, IsUnder}
+use Rattle.exercise_review.proofs.Digests.{digest_whole}
 use Rattle.exercise_review.proofs.FirstOnes.{off}
 use Rattle.exercise_review.proofs.OneOrder.{order_made}
 use Rattle.exercise_review.proofs.Runs.{none_passes}
-use Rattle.exercise_review.proofs.Under.{sends_under}
+use Rattle.exercise_review.proofs.Under.{sends_keyed, sends_under}
 use Rattle.exercise_review.proofs.Walks.{past, jump, count_still}
 
 -- ---- marks
@@ -89,3 +91,17 @@ sent_once r o s order maker last =
     let passes = (first_found f (length r.entries) o.head made.first).passes in
     let once = one_counted f (has_key r k) (length r.entries) o.head under made.first (last k (under o.head passes)) in
     sym (ap (option_map (λ s. sends_of r o)) maker ∙ ap (λ m. Some (option_map_or (λ s. count_below (sends_order r s o.request) (length r.entries)) m 0)) maker ∙ ap Some once)
+
+-- ---- the digest of what stands at its head
+
+-- THE KEY OF A HEAD is the digest of its request, told at its maker
+pub head_digest : (r : PlainRecording) (o : OrderData) (s k d : ℕ) → order_at r o.head ≡ Some o → o.maker ≡ Some s → key_at r o.head ≡ Some k
+    → ((e : ℕ) → k ≡ at_station s e → d ≡ e % 2 ^ 64) → Some d ≡ request_digest o.request
+unfolding order_key digest_of
+head_digest r o s k d order maker key back =
+    let made = order_made r o.head s o order maker in
+    let passes = (first_found (sends_order r s o.request) (length r.entries) o.head made.first).passes in
+    let own : Some k ≡ Some (digest_of s o.request) =
+    sym key ∙ sends_keyed r s o.request made.request o.head passes ∙ ap (λ b. if b then Some (digest_of s o.request) else None) made.request in
+    ap Some (back (digest o.request) (same_Some k (digest_of s o.request) own) ∙ digest_whole o.request)
+    ∙ sym (ap (λ b. if b then Some (digest o.request) else None) made.request)

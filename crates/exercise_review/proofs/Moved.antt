@@ -26,9 +26,13 @@ use Rattle.exercise_review.proofs.Paired.{paired, alone_kept}
 
 -- ---- digests
 
--- so far back for one station, and so far on for another
-pub moved_digest : (x y d key : ℕ) → x < 2 ^ 64 → key ≡ (d + x) % 2 ^ 64 → ((key + (2 ^ 64 - x)) % 2 ^ 64 + y) % 2 ^ 64 ≡ (d + y) % 2 ^ 64
-moved_digest x y d key l is = omega (arith, l, is)
+-- so far back for one station
+pub digest_back : (x d key : ℕ) → x < 2 ^ 64 → key ≡ (d + x) % 2 ^ 64 → (key + (2 ^ 64 - x)) % 2 ^ 64 ≡ d % 2 ^ 64
+digest_back x d key l is = omega (arith, l, is)
+
+-- and so far on for another
+pub digest_moved : (y d e : ℕ) → e ≡ d % 2 ^ 64 → (e + y) % 2 ^ 64 ≡ (d + y) % 2 ^ 64
+digest_moved y d e is = omega (arith, is)
 
 -- ---- what an entry is the source of
 

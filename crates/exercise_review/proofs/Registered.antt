@@ -10,6 +10,7 @@ use Rattle.exercise_findings.specs.Column.{IsColumn}
 use Rattle.exercise_findings.specs.Number.{entry_number, entry_of}
 use Rattle.exercise_review.specs.Counted.{last_below}
 use Rattle.exercise_review.specs.Register.{holds, LastEntries, no_entry, IsBefore, AreRegistered}
+use Rattle.exercise_review.proofs.Runs.{there}
 use Rattle.exercise_review.proofs.Walks.{last_found}
 
 pub column_more : {X : Type 0} (d : X) (P : ℕ → X → Type 0) (n : ℕ) (xs : List X) (x : X)
@@ -61,3 +62,11 @@ registered_more keys n l old new before earlier few key was written so_far = rec
       let same : l ≡ k = eqb-true l k (sym (ap (λ o. option_map_or (λ m. nat_eq m k) o false) key) ∙ here) in
       number_back n (holds keys l) earlier few (was ∙ so_far.last l) ∙ was ∙ so_far.last l ∙ ap (λ m. last_below (holds keys m) n) same);
 }
+
+-- AN ENTRY THAT IS KEPT as the last under a key has that key
+pub key_kept : (keys : ℕ → Option ℕ) (n k i : ℕ) (last : LastEntries) (before : List ℕ) → AreRegistered keys n last before → get nat_eq last k ≡ Some i
+    → keys i ≡ Some k
+unfolding holds
+key_kept keys n k i last before so_far is =
+    let found = there (λ l. nat_eq l k) (keys i) (last_found (holds keys k) n i (sym (so_far.last k) ∙ is)).1 in
+    found.1 ∙ ap Some (eqb-true found.0 k found.2)

@@ -168,7 +168,7 @@ if_key : (o : Option ℕ) (P : ℕ → Type 0) → ((k : ℕ) → o ≡ Some k �
 if_key None P f = tt
 if_key (Some k) P f = f k refl
 
-sends_keyed : (r : PlainRecording) (s : ℕ) (p : Pdu) → is_request_body p.body ≡ true → (i : ℕ) → sends_order r s p i ≡ true → key_at r i ≡ order_key s p
+pub sends_keyed : (r : PlainRecording) (s : ℕ) (p : Pdu) → is_request_body p.body ≡ true → (i : ℕ) → sends_order r s p i ≡ true → key_at r i ≡ order_key s p
 unfolding sends_order
 sends_keyed r s p asks i h =
     let q = there (is_same_order p) (sent_by r s i) h in

@@ -66,9 +66,9 @@ abbrev pub head_fed : (origin target : EntityId) → (request : ℕ) → Default
 head_fed origin target request =
     fed (fed initial request (both origin.entity target.entity)) (both origin.site origin.application) (both target.site target.application)
 
--- THE DIGEST OF p: of all in which it is compared with others, but the version and the exercise
+-- THE DIGEST OF p, a number of 64 bits: of all in which it is compared with others, but the version and the exercise
 unfoldable pub digest : Pdu → ℕ
-digest p = finish (body_fed (head_fed p.origin p.target (unwrap_or (request_id_of p.body) 0)) p.body)
+digest p = finish (body_fed (head_fed p.origin p.target (unwrap_or (request_id_of p.body) 0)) p.body) % 2 ^ 64
 
 -- a digest at station s: so far on for each station, an odd number
 abbrev pub at_station : (s d : ℕ) → ℕ

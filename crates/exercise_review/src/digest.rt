@@ -2,7 +2,7 @@
 //! another one. Strangers choose what requests say, so the hasher is one for which nobody writes down
 //! many that fall together.
 
-ghost use Rattle.std.specs.Prelude.{◌≡◌, ◌-◌, ℕ, fold, length, take, map};
+ghost use Rattle.std.specs.Prelude.{◌≡◌, ◌-◌, ◌%◌, ◌^◌, ℕ, fold, length, take, map};
 ghost use Rattle.std.specs.Hash.DefaultHasher.{write, initial};
 ghost use Rattle.dis_records.specs.Datum.{canonical};
 ghost use Rattle.dis_records.specs.Records.{shown};
@@ -171,10 +171,18 @@ pub(crate) fn at_station(station: u16, digest: u64) -> u64
     digest.wrapping_add(u64::from(station).wrapping_mul(STEP))
 }
 
+/// The digest of what has this one at a station.
+#[tactic(auto, using(crate::proofs::Moved::digest_back))]
+pub(crate) fn digest_under(station: u16, digest: u64) -> u64
+    ensures { (d : ℕ) → digest ≡ at_station station d → result ≡ d % 2 ^ 64 }
+{
+    digest.wrapping_sub(u64::from(station).wrapping_mul(STEP))
+}
+
 /// The digest at one station of what has this one at another.
-#[tactic(auto, using(crate::proofs::Moved::moved_digest))]
+#[tactic(auto, using(crate::proofs::Moved::digest_moved))]
 pub(crate) fn moved(from: u16, to: u16, digest: u64) -> u64
     ensures { (d : ℕ) → digest ≡ at_station from d → result ≡ at_station to d }
 {
-    at_station(to, digest.wrapping_sub(u64::from(from).wrapping_mul(STEP)))
+    at_station(to, digest_under(from, digest))
 }

@@ -1,11 +1,14 @@
 //! What is told of an order at each of its parties.
 
 ghost use Rattle.std.specs.Prelude.{◌≡◌, Some, map, IfOk};
+ghost use Rattle.siman_pdus.specs.Reading.{pdu_of};
 ghost use Rattle.exercise_review.specs.Order.{order_of, order_at};
 ghost use Rattle.exercise_review.specs.Asked.{IsAsked};
 ghost use Rattle.exercise_review.specs.Gathered.{IsGathered};
+ghost use Rattle.exercise_review.specs.Register.{request_digest};
 ghost use Rattle.exercise_review.specs.Outcome.{stamp_at, took_between, took, sends_told, outcome_here, outcome_outside, outcome_nowhere, outcome_at, outcomes_of};
 
+use crate::digest::digest_under;
 use crate::entries::entry_at;
 use crate::fate::{Fate, fate_of, traces_by};
 use crate::gathered::{Gathered, gathered_of};
@@ -17,6 +20,7 @@ use crate::party::{Outsider, Party, ToldFrom, is_maker};
 use crate::register::Register;
 use crate::reply::Replies;
 use crate::word::{Word, telling, word_of};
+use exercise_findings::Hint;
 use exercise_model::{EntryView, ExerciseLog};
 use std::alloc::{AllocError, Global};
 
@@ -129,6 +133,28 @@ pub(crate) fn asked_of<L: ExerciseLog>(
     }
 }
 
+/// The digest of the request of an order that a station made, told from the key of its head where a hint
+/// leads to that, without a look at the request. Where that key stands instead is kept.
+fn digest_at_head<L: ExerciseLog>(
+    findings: &Register<'_, L>,
+    order: &Order<'_>,
+    maker: u16,
+    hint: &mut Hint,
+) -> Option<u64>
+    requires maker { order.now.maker ≡ Some maker }
+    requires head { order_at findings.now order.now.head ≡ Some (order_of order.now) }
+    ensures { result ≡ request_digest (pdu_of order.now.request) }
+{
+    if let Some(key) = findings.key_near(order.head, hint) {
+        return Some(digest_under(maker, key));
+    }
+    let digest = request_digest(&order.request);
+    if let Some(key) = key_under(maker, digest) {
+        let _last = findings.last_near(key, hint);
+    }
+    digest
+}
+
 /// The same of an order that stands at its head: where nothing stands under its key behind that, it
 /// was sent once.
 pub(crate) fn asked_at_head<L: ExerciseLog>(
@@ -140,8 +166,8 @@ pub(crate) fn asked_at_head<L: ExerciseLog>(
     ensures { IsAsked findings.now (order_of order.now) result }
 {
     match order.maker {
-        Some(_maker) if findings.is_last(order.head) => Asked {
-            digest: request_digest(&order.request),
+        Some(maker) if findings.is_last(order.head) => Asked {
+            digest: digest_at_head(findings, order, maker, &mut hints.heads),
             sends: Some(1),
             own: None,
         },

@@ -8,7 +8,7 @@ is_last-requires g c = among_entries c.args.findings.now c.args.order.now.head (
 
 pub returns-in-Some : goal.returns-in-Some
 returns-in-Some g c = record {
-  digest = c.request_digest.ensures;
-  sends = sent_once c.args.findings.now (order_of c.args.order.now) c.in-Some._maker c.requires c.in-Some.is (c.is_last.ensures c.if-is_last.true);
+  digest = c.digest_at_head.ensures;
+  sends = sent_once c.args.findings.now (order_of c.args.order.now) c.in-Some.maker c.requires c.in-Some.is (c.is_last.ensures c.if-is_last.true);
   own = tt;
 }

@@ -1,0 +1,7 @@
+use Rattle.exercise_review.specs.Order.{order_of}
+use Rattle.exercise_review.proofs.Ends.{head_digest}
+use Rattle.exercise_review.proofs.outcome.digest_at_head.Goals as goal
+
+pub returns-in-Some : goal.returns-in-Some
+returns-in-Some g c =
+    head_digest c.args.findings.now (order_of c.args.order.now) c.args.maker c.in-Some.key c.digest_under.result c.requires.head c.requires.maker c.in-Some.ensures c.digest_under.ensures

@@ -4,7 +4,7 @@ use Rattle.exercise_model.specs.Recording.{PlainRecording}
 use Rattle.exercise_review.specs.declared.party.Party.TheVariants.{Station}
 use Rattle.exercise_review.specs.declared.review.TheConstants.{MOST_LINES}
 use Rattle.exercise_review.specs.Fate.{fate_of}
-use Rattle.exercise_audit.specs.Audit.{IsAuditOf}
+use Rattle.exercise_audit.specs.Audit.{IsExplained}
 use Rattle.exercise_review.specs.Review.{line_count, TellsReview}
 use Rattle.siman_views.specs.Review.{IsFateIn}
 use Rattle.siman_views.proofs.Reviewed.{each_fate}
@@ -14,16 +14,16 @@ pub returns : goal.returns
 returns g c =
     let r : PlainRecording = g.L.ExerciseLog.recording c.args.log.now in
     let limits = c.in_ok-of.ensures.limits in
-    let same : c.in_ok-audit.field-0.findings ≡ r = c.in_ok-audit.ensures.findings ∙ c.in_ok-of.ensures.findings in
+    let same : c.in_ok-is_explained.field-0.findings ≡ r = c.in_ok-is_explained.ensures.findings ∙ c.in_ok-of.ensures.findings in
     let law = c.fates_hold.ensures in
     record {
       recording = r;
       read = refl;
-      explained = c.is_explained-explained.result;
-      explains = c.is_explained-explained.ensures limits;
+      explained = c.in_ok-is_explained.field-0.is_explained;
+      explains = subst (λ (x : PlainRecording). IsExplained x c.in_ok-is_explained.field-0.is_explained) c.in_ok-of.ensures.findings c.in_ok-is_explained.ensures.explained;
       within = subst (λ (x : PlainRecording). line_count x ≤ MOST_LINES) same c.in_ok-review.ensures.lists.within;
       text_is = c.in_ok-text.ensures;
-      part = c.filters_take_away.ensures r c.is_explained-explained.result c.args.filters.now;
+      part = c.filters_take_away.ensures r c.in_ok-is_explained.field-0.is_explained c.args.filters.now;
       fates = λ h o s t explains within maker. each_fate (λ fate. fate_of r o (Station t) ≡ fate → IsFateIn r h o s t fate)
           (law.done r h o s t limits explains within maker) (law.answered r h o s t limits explains within maker)
           (law.refused r h o s t limits explains within maker) (law.pending r h o s t explains maker) (law.unheard r h o s t explains maker)
@@ -32,10 +32,6 @@ returns g c =
       lives = c.lives_are_states.ensures r;
     }
 
-pub is_explained-explained-requires : goal.is_explained-explained-requires
-is_explained-explained-requires g c =
-    subst (λ (x : PlainRecording). IsAuditOf x c.in_ok-audit.field-0.audit) c.in_ok-of.ensures.findings c.in_ok-audit.ensures.audit
-
 pub review_text-requires : goal.review_text-requires
 review_text-requires g c =
-    subst (λ (x : PlainRecording). TellsReview x c.in_ok-review.review) (c.in_ok-audit.ensures.findings ∙ c.in_ok-of.ensures.findings) c.in_ok-review.ensures
+    subst (λ (x : PlainRecording). TellsReview x c.in_ok-review.review) (c.in_ok-is_explained.ensures.findings ∙ c.in_ok-of.ensures.findings) c.in_ok-review.ensures

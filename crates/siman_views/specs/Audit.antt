@@ -1,7 +1,6 @@
 -- What `audit` says of a recording, and how it ends.
 use Rattle.std.specs.Prelude.{◌≡◌, ◌⊎◌, ℕ, List, [], length, string_bytes, Option, Result, Ok, Err}
-use Rattle.std.specs.Io.KnownBytes.{Appends, Keeps}
-use Rattle.byte_files.specs.Writing.{WritesPart}
+use Rattle.std.specs.Io.KnownBytes.{Keeps}
 use Rattle.exercise_model.specs.Recording.{PlainRecording}
 use Rattle.exercise_model.specs.Headline.{Holds}
 use Rattle.exercise_model.specs.Alike.{IsAlwaysAsSaid}
@@ -12,7 +11,6 @@ use Rattle.exercise_check.specs.Goodness.{IsGood}
 use Rattle.exercise_audit.specs.declared.blocks.Block.{Block}
 use Rattle.exercise_audit.specs.Audit.{IsBlocked}
 use Rattle.siman_answers.specs.declared.fault.Fault.{Fault}
-use Rattle.siman_answers.specs.declared.fault.Fault.TheVariants.{Output}
 use Rattle.siman_views.specs.declared.audit.Finding.{Finding}
 use Rattle.siman_views.specs.declared.audit.Finding.TheVariants.{Order, Stuck}
 use Rattle.siman_answers.specs.Recorded.{Recorded, IsUnsearched, explained_text}

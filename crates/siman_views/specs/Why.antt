@@ -6,8 +6,6 @@ use Rattle.exercise_model.specs.Account.{others_of}
 use Rattle.exercise_model.specs.Recording.{PlainRecording}
 use Rattle.exercise_recording.specs.Reading.{recording_at}
 use Rattle.exercise_check.specs.declared.certificate.Step.{Step}
-use Rattle.exercise_check.specs.declared.certificate_fault.CertificateFormatFault.{CertificateFormatFault}
-use Rattle.exercise_check.specs.declared.certificate_fault.CertificateFault.TheVariants as certificates
 use Rattle.exercise_check.specs.Certificate.{certificate_at}
 use Rattle.exercise_check.specs.Goodness.{IsGood}
 use Rattle.exercise_conflict.specs.declared.conflict.Conflict.{Conflict}
@@ -21,7 +19,7 @@ use Rattle.siman_conflicts.specs.Blocked.{explained_line}
 use Rattle.siman_conflicts.specs.Told.{conflict_lines, conflict_entries, refusal_lines, refusal_entries}
 use Rattle.siman_logs.specs.Named.{named_lines}
 use Rattle.siman_answers.specs.declared.fault.Fault.{Fault}
-use Rattle.siman_answers.specs.declared.fault.Fault.TheVariants.{Certificate, Output, Memory}
+use Rattle.siman_answers.specs.declared.fault.Fault.TheVariants.{Output}
 use Rattle.siman_answers.specs.declared.limits.TheConstants.{LARGEST_CERTIFICATE, LARGEST_RECORDING}
 use Rattle.siman_views.specs.declared.why.WhyText.{WhyText}
 use Rattle.siman_answers.specs.Ending.{EndsWith}

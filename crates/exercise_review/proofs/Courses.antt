@@ -1,10 +1,10 @@
 -- The changes of stations as a course keeps them: what comes next, one change more at a time, and what is passed over.
-use Rattle.std.proofs.Common.{◌≡◌, ◌≢◌, ⊎_elim, ℕ, zero, suc, ◌+◌, ◌-◌, ◌<◌, ◌≤◌, List, [], ◌∷◌, ◌++◌, length, map, set, take, drop, append-nil, get_or, replicate, Bool, true, false, Option, Some, None, Vec, refl, sym, ap, ◌∙◌, subst, arith}
+use Rattle.std.proofs.Common.{◌≡◌, ◌≢◌, ⊎_elim, ℕ, zero, suc, ◌+◌, ◌-◌, ◌<◌, ◌≤◌, List, [], ◌∷◌, ◌++◌, length, set, take, drop, get_or, replicate, Bool, true, false, Option, Some, None, Vec, refl, sym, ap, ◌∙◌, subst, arith}
 use Rattle.std.specs.Prelude.{IfSome, nat_eq, slice_get, slice_index_or, not, ◌&&◌, option_map, option_and_then, if◌then◌else◌}
 use Rattle.std.specs.Option.{option_to_list}
 use Rattle.std.specs.declared.alloc.Global.{Global}
 use Rattle.std.proofs.lemmas.Bool.{cases_eq, cases_lt, eqb-true, eq-eqb, ne_eqb}
-use Rattle.std.proofs.lemmas.List.{take_more, take_all, drop_more, drop_all, length-set, length-replicate, get_or-replicate, get_or_past}
+use Rattle.std.proofs.lemmas.List.{take_more, take_all, drop_more, drop_all, length-set, length-append, length-replicate, get_or-replicate, get_or_past}
 use Rattle.std.proofs.lemmas.Option.{slice_get_read}
 use Rattle.dis_records.specs.declared.kind.Kind.{Kind}
 use Rattle.dis_records.specs.declared.entity.Scope.{Scope}
@@ -14,22 +14,21 @@ use Rattle.dis_records.specs.declared.entity_state.EntityState.TheVariants.{Abse
 use Rattle.exercise_model.specs.declared.state.Change.{Change}
 use Rattle.exercise_model.specs.Station.{is_entity, listed_state}
 use Rattle.exercise_model.specs.Entry.{Entry}
-use Rattle.exercise_model.specs.Recording.{PlainRecording}
+use Rattle.exercise_model.specs.Recording.{PlainRecording, IsRecording}
 use Rattle.exercise_model.specs.History.{Event, event_of, station_of, station_at}
 use Rattle.exercise_model.specs.State.{state_made, scope_has, changed, change_made, entity_state}
 use Rattle.exercise_model.specs.Cause.{same_state}
 use Rattle.exercise_model.specs.Place.{event_at, own_event, log_before}
 use Rattle.exercise_model.specs.Account.{changed_by, change_at}
 use Rattle.exercise_model.proofs.Offered.{log_before-none}
-use Rattle.exercise_review.specs.declared.span.Made.{Made}
-use Rattle.exercise_review.specs.declared.span.Span.{Span}
+use Rattle.exercise_review.specs.declared.changes.Made.{Made}
 use Rattle.exercise_review.specs.declared.course.Own.{Own}
 use Rattle.exercise_review.specs.declared.course.Course.{Course}
 use Rattle.exercise_findings.specs.State.{state_before}
 use Rattle.exercise_review.specs.Life.{LifeSoFar, stretch_of, lived_on, lives_of}
 use Rattle.exercise_review.specs.Room.{lists_below}
-use Rattle.exercise_review.specs.Span.{span_of, entity_at, entity_spans, own_change, made_of, made_at, changes_made, lived_by}
-use Rattle.exercise_review.specs.Course.{AreChanges, AreNoted, no_made, change_in, is_one, is_all, is_of, moves_all, IsNextIn, AreNextIn, AreOwn, IsCourse, IsStill, lived_in, lives_in}
+use Rattle.exercise_review.specs.Span.{own_change, made_of, made_at, changes_made, lived_by}
+use Rattle.exercise_review.specs.Course.{AreChanges, no_made, change_in, is_one, is_all, is_of, moves_all, IsNextIn, AreNextIn, AreUpTo, AreOwn, IsCourse, IsStill, lived_in, lives_in}
 use Rattle.exercise_review.proofs.Lists.{lists_none}
 use Rattle.exercise_review.proofs.Spans.{state_is, lived_by-more, lives_on, lives_are, change_more, change_none}
 
@@ -94,7 +93,7 @@ changes_still r n all none so_far = record {
 
 pub changes_more : (r : PlainRecording) (n t : ℕ) (e : Entry) (c : Change) (all : List (Vec Made Global)) (old new : Vec Made Global)
     → slice_get r.entries n ≡ Some e → t ≡ station_of (event_of e) → change_at r n ≡ Some c → slice_get all t ≡ Some old → t < length all
-    → new.items ≡ old.items ++ made_of r n c ∷ [] → AreChanges r n all → AreChanges r (n + 1) (set all t new)
+    → new.items ≡ old.items ++ made_of n c ∷ [] → AreChanges r n all → AreChanges r (n + 1) (set all t new)
 changes_more r n t e c all old new at station change here within pushed so_far = record {
   count = length-set all t new ∙ so_far.count;
   each = λ s. ⊎_elim
@@ -149,54 +148,68 @@ next_later test ms a b c later up_to next = record {
   passes = next.passes;
 }
 
-pub next_none : (test : Change → Bool) (ms : List Made) (a : ℕ) (places : List ℕ) → a ≡ length ms → places ≡ replicate (length ms + 1) (length ms)
-    → AreNextIn test ms a places
-next_none test ms a places end is = record {
-  count = ap length is ∙ length-replicate (length ms + 1) (length ms);
-  each = λ k l m.
-      subst (IsNextIn test ms k)
-      (sym (ap (λ ps. slice_index_or ps k 0) is ∙ get_or-replicate (length ms + 1) k (length ms) 0 (omega (arith, m))))
-      (next_end test ms k (omega (arith, l, m, end)));
-}
+-- behind the last that passes there is none
+pub next_none : (test : Change → Bool) (ms : List Made) (a : ℕ) (places : List ℕ) → a ≤ length ms
+    → ((i : ℕ) → a ≤ i → i < length ms → test (change_in ms i) ≡ false) → places ≡ replicate a (length ms) → AreNextIn test ms a places
+next_none test ms a places within none is k l m =
+    subst (IsNextIn test ms k)
+    (sym (ap (λ ps. slice_index_or ps k (length ms)) is ∙ get_or_past (replicate a (length ms)) k (length ms) (omega (arith, l, length-replicate a (length ms)))))
+    (record {
+      from = m;
+      within = omega arith;
+      none = λ i low high. none i (omega (arith, l, low)) high;
+      passes = λ less. absurd (let no : ⊥ = omega (arith, less) in no);
+    })
 
-pub next_more : (test : Change → Bool) (ms : List Made) (a k x : ℕ) (old new : List ℕ) → k + 1 ≡ a → length new ≡ length old
-    → ((j : ℕ) → slice_index_or new j 0 ≡ (if nat_eq j k then x else slice_index_or old j 0)) → IsNextIn test ms k x
+pub next_more : (test : Change → Bool) (ms : List Made) (a k x : ℕ) (old new : List ℕ) → k + 1 ≡ a
+    → ((j : ℕ) → slice_index_or new j (length ms) ≡ (if nat_eq j k then x else slice_index_or old j (length ms))) → IsNextIn test ms k x
     → AreNextIn test ms a old → AreNextIn test ms k new
-next_more test ms a k x old new on long written here next = record {
-  count = long ∙ next.count;
-  each = λ j l m. ⊎_elim
-      (λ (same : j ≡ k).
-      subst (λ i. IsNextIn test ms i (slice_index_or new j 0)) (sym same)
-      (subst (IsNextIn test ms k) (sym (written j ∙ ap (λ b. if b then x else slice_index_or old j 0) (eq-eqb j k same))) here))
-      (λ apart.
-      subst (IsNextIn test ms j) (sym (written j ∙ ap (λ b. if b then x else slice_index_or old j 0) (ne_eqb j k apart)))
-      (next.each j (past j k l on apart) m))
-      (cases_eq j k);
-}
+next_more test ms a k x old new on written here next j l m = ⊎_elim
+    (λ (same : j ≡ k).
+    subst (λ i. IsNextIn test ms i (slice_index_or new j (length ms))) (sym same)
+    (subst (IsNextIn test ms k) (sym (written j ∙ ap (λ b. if b then x else slice_index_or old j (length ms)) (eq-eqb j k same))) here))
+    (λ apart.
+    subst (IsNextIn test ms j) (sym (written j ∙ ap (λ b. if b then x else slice_index_or old j (length ms)) (ne_eqb j k apart)))
+    (next j (past j k l on apart) m))
+    (cases_eq j k)
   where
     past : (j k : ℕ) {a : ℕ} → k ≤ j → k + 1 ≡ a → j ≢ k → a ≤ j
     past j k l on apart = ⊎_elim (λ (less : k < j). omega (arith, less, on)) (λ (up_to : j ≤ k). absurd (apart (omega (arith, l, up_to)))) (cases_lt k j)
 
 -- ---- the own changes of each entity
 
-pub own_starts : (ms : List Made) (a : ℕ) (o : Own) → a ≡ length ms → o.first.items ≡ replicate 65536 (length ms) → o.next.items ≡ replicate (length ms) (length ms)
-    → AreOwn ms a o
-own_starts ms a o end first next = record {
-  numbers = ap length first ∙ length-replicate 65536 (length ms);
+-- what is read in a list of one value, or past its end
+all_same : {X : Type 0} (n k : ℕ) (d : X) → slice_index_or (replicate n d) k d ≡ d
+all_same n k d = ⊎_elim
+    (λ (below : k < n). get_or-replicate n k d d below)
+    (λ (past : n ≤ k). get_or_past (replicate n d) k d (omega (arith, past, length-replicate n d)))
+    (cases_lt k n)
+
+pub own_starts : (ms : List Made) (last a : ℕ) (o : Own) → a ≡ length ms → o.first.items ≡ replicate (last + 1) (length ms)
+    → o.next.items ≡ replicate (length ms) (length ms) → AreOwn ms last a o
+own_starts ms last a o end first next = record {
+  numbers = ap length first ∙ length-replicate (last + 1) (length ms);
   count = ap length next ∙ length-replicate (length ms) (length ms);
-  first = λ e l.
+  first = λ e.
       subst (IsNextIn (is_of e) ms a)
-      (sym (ap (λ ps. slice_index_or ps e 0) first ∙ get_or-replicate 65536 e (length ms) 0 l))
+      (sym (ap (λ ps. slice_index_or ps e (length ms)) first ∙ all_same (last + 1) e (length ms)))
       (next_end (is_of e) ms a end);
   next = λ k l m. absurd (let no : ⊥ = omega (arith, l, m, end) in no);
 }
 
+-- the number of the entity alone that a change is one of is not past the last
+pub up_to : (ms : List Made) (last k n : ℕ) → AreUpTo last ms → k < length ms → (change_in ms k).scope ≡ One n → n < last + 1
+up_to ms last k n numbers within one = ⊎_elim
+    (λ (more : last < n). absurd (let no : false ≡ true = sym (numbers n k more within) ∙ ap (is_one n) one ∙ eq-eqb n n refl in cc))
+    (λ (less : n ≤ last). omega (arith, less))
+    (cases_lt last n)
+
 -- a change of all entities
-pub own_still : (ms : List Made) (k : ℕ) (o : Own) → (change_in ms k).scope ≡ All → AreOwn ms (k + 1) o → AreOwn ms k o
-own_still ms k o all own = record {
+pub own_still : (ms : List Made) (last k : ℕ) (o : Own) → (change_in ms k).scope ≡ All → AreOwn ms last (k + 1) o → AreOwn ms last k o
+own_still ms last k o all own = record {
   numbers = own.numbers;
   count = own.count;
-  first = λ e l. next_behind (is_of e) ms k (slice_index_or o.first.items e 0) (ap (is_one e) all) (own.first e l);
+  first = λ e. next_behind (is_of e) ms k (slice_index_or o.first.items e (length ms)) (ap (is_one e) all) (own.first e);
   next = λ j l m e here. ⊎_elim
       (λ (past : k < j). own.next j (omega (arith, past)) m e here)
       (λ (up_to : j ≤ k). let same : j ≡ k = omega (arith, l, up_to) in
@@ -205,35 +218,35 @@ own_still ms k o all own = record {
 }
 
 -- a change of entity n alone
-pub own_more : (ms : List Made) (k n : ℕ) (old new : Own) → (change_in ms k).scope ≡ One n → k < length ms → n < 65536
+pub own_more : (ms : List Made) (last k n : ℕ) (old new : Own) → (change_in ms k).scope ≡ One n → k < length ms
     → length new.first.items ≡ length old.first.items → length new.next.items ≡ length old.next.items
-    → ((e : ℕ) → slice_index_or new.first.items e 0 ≡ (if nat_eq e n then k else slice_index_or old.first.items e 0))
-    → ((j : ℕ) → slice_index_or new.next.items j 0 ≡ (if nat_eq j k then slice_index_or old.first.items n 0 else slice_index_or old.next.items j 0))
-    → AreOwn ms (k + 1) old → AreOwn ms k new
-own_more ms k n old new one within number firsts nexts first next own = record {
+    → ((e : ℕ) → slice_index_or new.first.items e (length ms) ≡ (if nat_eq e n then k else slice_index_or old.first.items e (length ms)))
+    → ((j : ℕ) → slice_index_or new.next.items j 0 ≡ (if nat_eq j k then slice_index_or old.first.items n (length ms) else slice_index_or old.next.items j 0))
+    → AreOwn ms last (k + 1) old → AreOwn ms last k new
+own_more ms last k n old new one within firsts nexts first next own = record {
   numbers = firsts ∙ own.numbers;
   count = nexts ∙ own.count;
-  first = λ e l. ⊎_elim
+  first = λ e. ⊎_elim
       (λ (same : e ≡ n).
-      subst (IsNextIn (is_of e) ms k) (sym (first e ∙ ap (λ b. if b then k else slice_index_or old.first.items e 0) (eq-eqb e n same)))
+      subst (IsNextIn (is_of e) ms k) (sym (first e ∙ ap (λ b. if b then k else slice_index_or old.first.items e (length ms)) (eq-eqb e n same)))
       (next_here (is_of e) ms k within (ap (is_one e) one ∙ eq-eqb n e (sym same))))
       (λ apart.
-      subst (IsNextIn (is_of e) ms k) (sym (first e ∙ ap (λ b. if b then k else slice_index_or old.first.items e 0) (ne_eqb e n apart)))
-      (next_behind (is_of e) ms k (slice_index_or old.first.items e 0) (ap (is_one e) one ∙ ne_eqb n e (λ same. apart (sym same))) (own.first e l)))
+      subst (IsNextIn (is_of e) ms k) (sym (first e ∙ ap (λ b. if b then k else slice_index_or old.first.items e (length ms)) (ne_eqb e n apart)))
+      (next_behind (is_of e) ms k (slice_index_or old.first.items e (length ms)) (ap (is_one e) one ∙ ne_eqb n e (λ same. apart (sym same))) (own.first e)))
       (cases_eq e n);
   next = λ j l m e here. ⊎_elim
       (λ (past : k < j).
       subst (IsNextIn (is_of e) ms (j + 1))
-      (sym (next j ∙ ap (λ b. if b then slice_index_or old.first.items n 0 else slice_index_or old.next.items j 0)
+      (sym (next j ∙ ap (λ b. if b then slice_index_or old.first.items n (length ms) else slice_index_or old.next.items j 0)
       (ne_eqb j k (λ same. let no : ⊥ = omega (arith, past, same) in no))))
       (own.next j (omega (arith, past)) m e here))
       (λ (up_to : j ≤ k).
       let same : j ≡ k = omega (arith, l, up_to) in
       let is : n ≡ e = eqb-true n e (sym (ap (is_one e) (ap (λ i. (change_in ms i).scope) same ∙ one)) ∙ here) in
       subst (IsNextIn (is_of e) ms (j + 1))
-      (sym (next j ∙ ap (λ b. if b then slice_index_or old.first.items n 0 else slice_index_or old.next.items j 0) (eq-eqb j k same)))
-      (subst (λ i. IsNextIn (is_of e) ms (i + 1) (slice_index_or old.first.items n 0)) (sym same)
-      (subst (λ f. IsNextIn (is_of f) ms (k + 1) (slice_index_or old.first.items n 0)) is (own.first n number))))
+      (sym (next j ∙ ap (λ b. if b then slice_index_or old.first.items n (length ms) else slice_index_or old.next.items j 0) (eq-eqb j k same)))
+      (subst (λ i. IsNextIn (is_of e) ms (i + 1) (slice_index_or old.first.items n (length ms))) (sym same)
+      (subst (λ f. IsNextIn (is_of f) ms (k + 1) (slice_index_or old.first.items n (length ms))) is (own.first n))))
       (cases_lt k j);
 }
 
@@ -249,16 +262,11 @@ listed-more xs i done x e at within here =
     ∙ ap (λ (y : ℕ × EntityState). listed_state (y ∷ drop (i + 1) xs) e) (sym at)
     ∙ ap (λ n. if nat_eq x.0 e then x.1 else listed_state (drop n xs) e) next
 
-pub none_start : (xs : List (ℕ × EntityState)) (ys : List EntityState) (e : ℕ) → ys ≡ replicate 65536 Absent
+pub none_start : (xs : List (ℕ × EntityState)) (ys : List EntityState) (n e : ℕ) → ys ≡ replicate n Absent
     → slice_index_or ys e Absent ≡ listed_state (drop (length xs - 0) xs) e
-none_start xs ys e is =
+none_start xs ys n e is =
     let whole : length xs ≤ length xs - 0 = omega arith in
-    ap (λ zs. slice_index_or zs e Absent) is
-    ∙ ⊎_elim
-    (λ (below : e < 65536). get_or-replicate 65536 e Absent Absent below)
-    (λ (past : 65536 ≤ e). get_or_past (replicate 65536 Absent) e Absent (omega (arith, past, length-replicate 65536 Absent)))
-    (cases_lt e 65536)
-    ∙ sym (ap (λ zs. listed_state zs e) (drop_all (length xs - 0) xs whole))
+    ap (λ zs. slice_index_or zs e Absent) is ∙ all_same n e Absent ∙ sym (ap (λ zs. listed_state zs e) (drop_all (length xs - 0) xs whole))
 
 -- ---- what is passed over
 
@@ -329,39 +337,23 @@ lives_in_are r s e c entity course =
     lives_are r s e [] (lives_in c e) (slice_index_or c.starts.items e Absent) (lived_in c e) c.changes.now entity refl
     (start_is r s e c entity course) course.changes refl refl
 
--- where there is nothing to tell, nothing is added
-pub none_added : (r : PlainRecording) (s e most : ℕ) (c : Course) (old : List Span) → is_entity e ≡ true → IsCourse r s c → length old ≤ most
-    → lives_in c e ≡ [] → (old ≡ old ++ entity_spans r s e) × (length old ≤ most)
-none_added r s e most c old entity course room none =
-    let lives : lives_of r s e ≡ [] = sym (lives_in_are r s e c entity course) ∙ none in
-    (sym (append-nil old) ∙ ap (λ xs. old ++ xs) (sym (ap (map (span_of r (entity_at (station_at r s).address e))) lives)), room)
+-- ---- as many changes as there are entries at most
 
--- the changes of one of all stations
--- ---- what is noted of changes
+one_made : (n : ℕ) (c : Option Change) → length (option_to_list (option_map (made_of n) c)) ≤ 1
+one_made n None = omega arith
+one_made n (Some c) = omega arith
 
-noted_append : (r : PlainRecording) (xs ys : List Made) → AreNoted r xs → AreNoted r ys → AreNoted r (xs ++ ys)
-noted_append r [] ys first second k l = second k l
-noted_append r (x ∷ xs) ys first second zero l = first 0 (omega arith)
-noted_append r (x ∷ xs) ys first second (suc k) l = noted_append r xs ys (λ j m. first (suc j) (omega (arith, m))) second k (omega (arith, l))
-
-noted_one : (r : PlainRecording) (n : ℕ) (c : Option Change) → AreNoted r (option_to_list (option_map (made_of r n) c))
-noted_one r n None k l = absurd (omega (arith, l))
-noted_one r n (Some c) zero l = refl
-noted_one r n (Some c) (suc k) l = absurd (omega (arith, l))
-
-noted_below : (r : PlainRecording) (s n : ℕ) → AreNoted r (lists_below (made_at r s) n)
+few_made : (r : PlainRecording) (s n : ℕ) → length (lists_below (made_at r s) n) ≤ n
 unfolding lists_below made_at
-noted_below r s zero k l = absurd (omega (arith, l))
-noted_below r s (suc n) k l =
-    noted_append r (lists_below (made_at r s) n) (made_at r s n) (noted_below r s n) (noted_one r n (own_change r s n)) k l
+few_made r s zero = omega arith
+few_made r s (suc n) =
+    omega (arith, few_made r s n, one_made n (own_change r s n), length-append (lists_below (made_at r s) n) (made_at r s n))
 
--- THE CHANGES OF A STATION have with them what their entries say
-pub changes_noted : (r : PlainRecording) (s : ℕ) → AreNoted r (changes_made r s)
+pub few_changes : (r : PlainRecording) (s : ℕ) (ms : List Made) → IsRecording r → ms ≡ changes_made r s → length ms < 4294967296
 unfolding changes_made
-changes_noted r s = noted_below r s (length r.entries)
+few_changes r s ms limits are = omega (arith, limits.count, few_made r s (length r.entries), ap length are)
 
-pub course_noted : (r : PlainRecording) (s : ℕ) (c : Course) → IsCourse r s c → AreNoted r c.changes.now
-course_noted r s c course = subst (AreNoted r) (sym course.changes) (changes_noted r s)
+-- ---- the changes of one of all stations
 
 pub changes_here : (r : PlainRecording) (all : List (Vec Made Global)) (s : ℕ) (ms : Vec Made Global) → AreChanges r (length r.entries) all → s < length all
     → ms ≡ get_or all s ms → ms.items ≡ changes_made r s

@@ -1,6 +1,6 @@
 -- The keys of entries, known one after the other.
-use Rattle.std.proofs.Common.{◌≡◌, ℕ, ◌+◌, ◌<◌, ◌≤◌, List, [], ◌∷◌, ◌++◌, length, true, false, Option, Some, None, refl, sym, ap, ◌∙◌, arith}
-use Rattle.std.specs.Prelude.{slice_index_or, slice_get, option_and_then, if◌then◌else◌}
+use Rattle.std.proofs.Common.{◌≡◌, ℕ, ◌≤◌, List, length, true, false, Option, Some, None, refl, sym, ap, ◌∙◌}
+use Rattle.std.specs.Prelude.{slice_get, option_and_then, if◌then◌else◌}
 use Rattle.std.proofs.lemmas.Bool.{eq-eqb}
 use Rattle.std.proofs.lemmas.Option.{slice_get_past}
 use Rattle.siman_pdus.specs.declared.pdu.Pdu.{Pdu}
@@ -11,17 +11,7 @@ use Rattle.exercise_model.specs.Meaning.{meaning}
 use Rattle.exercise_model.specs.Setting.{is_open}
 use Rattle.exercise_review.specs.Digest.{digest_of}
 use Rattle.exercise_review.specs.Entries.{bytes_got_by, bytes_got, got_by}
-use Rattle.exercise_review.specs.Register.{order_key, id_key, got_key, entry_key, key_at, AreKeys}
-use Rattle.exercise_review.proofs.Registered.{column_more}
-
-pub no_keys : (r : PlainRecording) → AreKeys r 0 []
-no_keys r = record { count = refl; each = λ j l. absurd (let no : ⊥ = omega (arith, l) in no) }
-
-pub keys_more : (r : PlainRecording) (n : ℕ) (keys : List (Option ℕ)) (key : Option ℕ) → AreKeys r n keys → key ≡ key_at r n → AreKeys r (n + 1) (keys ++ key ∷ [])
-keys_more r n keys key known here = column_more None (λ i x. x ≡ key_at r i) n keys key known here
-
-pub key_kept : (r : PlainRecording) (n i : ℕ) (keys : List (Option ℕ)) → AreKeys r n keys → i < n → slice_index_or keys i None ≡ key_at r i
-key_kept r n i keys known within = known.each i within
+use Rattle.exercise_review.specs.Register.{order_key, id_key, got_key, entry_key, key_at}
 
 -- past the last entry there is none
 pub key_beyond : (r : PlainRecording) (i : ℕ) → length r.entries ≤ i → None ≡ key_at r i

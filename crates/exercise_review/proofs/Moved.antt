@@ -20,7 +20,7 @@ use Rattle.exercise_findings.specs.Source.{sends_here, first_send, source_of_pdu
 use Rattle.exercise_findings.proofs.Offered.{sends_there, source_here}
 use Rattle.exercise_review.specs.Digest.{digest_of}
 use Rattle.exercise_review.specs.Entries.{bytes_got_by, bytes_sent_by, bytes_sent, bytes_got, got_by}
-use Rattle.exercise_review.specs.Register.{order_key, got_key, entry_key, key_at}
+use Rattle.exercise_review.specs.Register.{order_key, sent_key, got_key, entry_key, key_at}
 use Rattle.exercise_review.proofs.KnownKeys.{known_key}
 use Rattle.exercise_review.proofs.Paired.{paired, alone_kept}
 
@@ -67,7 +67,7 @@ sent_here r b t j sent = by_entry (slice_get r.entries j) refl
     by_entry (Some (Told s e y)) at = absurd (cc (sym (sends_never r b t j (Told s e y) at refl) ∙ sent))
 
 -- the source of what is received: what it means, and the station that sends the same bytes there
-source_sends : (r : PlainRecording) (i j s stamp : ℕ) (b : List ℕ) → slice_get r.entries i ≡ Some (Received s stamp b) → source_of r i ≡ Some j
+pub source_sends : (r : PlainRecording) (i j s stamp : ℕ) (b : List ℕ) → slice_get r.entries i ≡ Some (Received s stamp b) → source_of r i ≡ Some j
     → (p : Pdu) × (meaning r.setting.exercise b ≡ Some p) × ((t : ℕ) × IsSend r b t j)
 unfolding first_send
 source_sends r i j s stamp b at source = by_meaning (meaning r.setting.exercise b) refl (sym (source_here r i (Received s stamp b) at) ∙ source)
@@ -84,7 +84,7 @@ source_sends r i j s stamp b at source = by_meaning (meaning r.setting.exercise 
 -- ---- keys
 
 -- what is received in a recording that is not open has the key of the request that it means
-key_received : (r : PlainRecording) (i s stamp : ℕ) (b : List ℕ) (p : Pdu) → slice_get r.entries i ≡ Some (Received s stamp b)
+pub key_received : (r : PlainRecording) (i s stamp : ℕ) (b : List ℕ) (p : Pdu) → slice_get r.entries i ≡ Some (Received s stamp b)
     → is_open r.setting.form ≡ false → meaning r.setting.exercise b ≡ Some p → key_at r i ≡ order_key s p
 unfolding got_by bytes_got
 key_received r i s stamp b p at closed means =
@@ -107,12 +107,12 @@ unfolding bytes_sent
 sends_bytes r j t stamp b at = ap (option_and_then (bytes_sent_by t)) at ∙ ap (λ c. if c then Some b else None) (eq-eqb t t refl)
 
 -- what asks nothing has none
-no_order : (s : ℕ) (p : Pdu) → is_request_body p.body ≡ false → order_key s p ≡ None
+pub no_order : (s : ℕ) (p : Pdu) → is_request_body p.body ≡ false → order_key s p ≡ None
 unfolding order_key
 no_order s p asks = ap (λ c. if c then Some (digest_of s p) else None) asks
 
 -- an entry that receives these bytes at a station
-got_entry : (r : PlainRecording) (s i : ℕ) (b : List ℕ) → bytes_got r s i ≡ Some b → (stamp : ℕ) × (slice_get r.entries i ≡ Some (Received s stamp b))
+pub got_entry : (r : PlainRecording) (s i : ℕ) (b : List ℕ) → bytes_got r s i ≡ Some b → (stamp : ℕ) × (slice_get r.entries i ≡ Some (Received s stamp b))
 unfolding bytes_got
 got_entry r s i b got = by_entry (slice_get r.entries i) refl got
   where
@@ -169,3 +169,36 @@ request_brought r s i j e got closed source at pair =
       key_sent r j t send.0 b from.0 send.1 from.1 pair ∙ ap (λ v. order_key (station_of (event_of v)) from.0) same,
       sym (key_received r i s entry.0 b from.0 entry.1 closed from.1),
     )
+
+-- the key of a request that was received at a station, in a recording that is not open
+pub request_key : (r : PlainRecording) (s j : ℕ) → is_some (got_by r s j) ≡ true → is_open r.setting.form ≡ false
+    → key_at r j ≡ option_and_then (order_key s) (got_by r s j)
+unfolding got_by
+request_key r s j got closed = by_bytes (bytes_got r s j) refl got
+  where
+    by_bytes : (o : Option (List ℕ)) → bytes_got r s j ≡ o → is_some (option_and_then (meaning r.setting.exercise) o) ≡ true
+        → key_at r j ≡ option_and_then (order_key s) (option_and_then (meaning r.setting.exercise) (bytes_got r s j))
+    by_bytes None is h = absurd (cc)
+    by_bytes (Some b) is h = let entry = got_entry r s j b is in known_key r s j entry.0 b entry.1 closed
+
+-- an entry that sends these bytes at a station
+pub sent_entry : (r : PlainRecording) (s i : ℕ) (b : List ℕ) → bytes_sent r s i ≡ Some b → (stamp : ℕ) × (slice_get r.entries i ≡ Some (Sent s stamp b))
+unfolding bytes_sent
+sent_entry r s i b sent = by_entry (slice_get r.entries i) refl sent
+  where
+    by_entry : (o : Option Entry) → slice_get r.entries i ≡ o → option_and_then (bytes_sent_by s) o ≡ Some b
+        → (stamp : ℕ) × (slice_get r.entries i ≡ Some (Sent s stamp b))
+    by_entry None at h = absurd (cc)
+    by_entry (Some (Sent t stamp c)) at h = elim (nat_eq t s) as (λ k. nat_eq t s ≡ k → cond k (Some c) None ≡ Some b
+        → (stamp : ℕ) × (slice_get r.entries i ≡ Some (Sent s stamp b))) [
+          | true ↦ λ same is. (stamp, at ∙ ap (λ u. Some (Sent u stamp c)) (eqb-true t s same) ∙ ap (λ (x : List ℕ). Some (Sent s stamp x)) (same_Some c b is))
+          | false ↦ λ _ is. absurd (cc)
+        ] refl h
+    by_entry (Some (Received t stamp c)) at h = absurd (cc)
+    by_entry (Some (Told t n y)) at h = absurd (cc)
+
+-- the key of what is sent
+pub key_of_sent : (r : PlainRecording) (s i : ℕ) (b : List ℕ) → bytes_sent r s i ≡ Some b
+    → key_at r i ≡ option_and_then (sent_key r s i) (meaning r.setting.exercise b)
+unfolding key_at
+key_of_sent r s i b sent = ap (option_and_then (entry_key r i)) (sent_entry r s i b sent).1

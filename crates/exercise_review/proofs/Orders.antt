@@ -1,13 +1,13 @@
 -- Orders one after the other, and what is told of them, as loops make it.
-use Rattle.std.proofs.Common.{◌≡◌, ⊎_elim, ℕ, zero, suc, ◌+◌, ◌<◌, ◌≤◌, List, [], ◌∷◌, ◌++◌, length, map, Bool, true, false, Option, Some, None, refl, sym, ap, ◌∙◌, append-nil, subst, arith}
-use Rattle.std.specs.Prelude.{Result, Ok, Err, OnOk, slice_get, slice_index_or, option_map, option_and_then, if◌then◌else◌}
+use Rattle.std.proofs.Common.{◌≡◌, ℕ, zero, suc, ◌+◌, ◌<◌, List, [], ◌∷◌, ◌++◌, length, map, Bool, true, false, Option, Some, None, refl, sym, ap, ◌∙◌, append-nil, subst, arith}
+use Rattle.std.specs.declared.alloc.Global.{Global}
+use Rattle.std.specs.Prelude.{Vec, Result, Ok, Err, OnOk, slice_get, option_map, option_and_then, if◌then◌else◌}
 use Rattle.std.specs.List.{flat_map}
 use Rattle.std.specs.Option.{option_to_list}
 use Rattle.std.specs.Result.{IsErrAnd}
+use Rattle.std.specs.declared.alloc.Global.{Global}
 use Rattle.std.proofs.lemmas.Grind.{flat_map-append}
-use Rattle.std.proofs.lemmas.Bool.{cases_lt}
 use Rattle.std.proofs.lemmas.List.{map-append}
-use Rattle.std.proofs.lemmas.Option.{slice_get_past}
 use Rattle.siman_pdus.specs.declared.pdu.Pdu.{Pdu}
 use Rattle.siman_pdus.specs.Answers.{same_id}
 use Rattle.exercise_model.specs.Entry.{Entry, Sent, Received, Told}
@@ -15,18 +15,19 @@ use Rattle.exercise_model.specs.Meaning.{meaning}
 use Rattle.exercise_model.specs.Recording.{PlainRecording}
 use Rattle.exercise_review.specs.declared.fault.ReviewFault.{ReviewFault}
 use Rattle.exercise_review.specs.declared.fault.ReviewFault.TheVariants.{OverLimit, Memory}
-use Rattle.exercise_review.specs.declared.told.OrderAt.{OrderAt}
+use Rattle.exercise_review.specs.declared.row.Row.{Row}
 use Rattle.exercise_review.specs.declared.told.Told as lists
 use Rattle.exercise_review.specs.Order.{OrderData, made_by, order_of_entry, head_of, order_at}
-use Rattle.exercise_review.specs.Room.{lists_below, AddsWithin}
-use Rattle.exercise_review.specs.Counted.{count_at}
-use Rattle.exercise_review.specs.Tally.{makers_of, entry_places, IsTold, TellsWithin}
+use Rattle.exercise_review.specs.Room.{lists_below}
+use Rattle.exercise_review.specs.Row.{row_told, AreRows, AddsRows}
+use Rattle.exercise_review.specs.Tally.{makers_of, IsTold, TellsWithin}
+use Rattle.exercise_review.specs.Records.{AreRecords}
 use Rattle.exercise_review.specs.declared.party.Party.{Party}
 use Rattle.exercise_review.specs.Parties.{parties_of}
 use Rattle.exercise_review.specs.Outcome.{outcome_at, outcomes_at, outcomes_of}
 use Rattle.exercise_review.specs.Told.{order_told, order_at_parties, orders_at, told_at, orders_of, orders_told}
 use Rattle.exercise_review.proofs.Lists.{lists_none, lists_more, part_below}
-use Rattle.exercise_review.proofs.Tallies.{none_counted}
+use Rattle.exercise_review.proofs.Rows.{rows_count}
 
 -- ---- an order at its parties
 
@@ -65,20 +66,6 @@ at_head r i o at = let head : o.head ≡ i = here (same_id (head_of r i) (Some i
     here true e is = of_entry e is
     here false e is = absurd (cc)
 
--- and is one of the entries
-pub among_entries : (r : PlainRecording) (i : ℕ) (o : OrderData) → order_at r i ≡ Some o → i < length r.entries
-unfolding order_at
-among_entries r i o at =
-    ⊎_elim
-    (λ (below : i < length r.entries). below)
-    (λ (beyond : length r.entries ≤ i). absurd (none (same_id (head_of r i) (Some i))
-    (sym (ap (λ (e : Option Entry). if same_id (head_of r i) (Some i) then option_and_then (order_of_entry r i) e else None) (slice_get_past r.entries i beyond)) ∙ at)))
-    (cases_lt i (length r.entries))
-  where
-    none : (b : Bool) → (if b then None else None) ≡ Some o → ⊥
-    none true e = cc
-    none false e = cc
-
 -- ---- one entry more
 
 -- what is told of an entry
@@ -98,43 +85,35 @@ pub makers_still : (r : PlainRecording) (k : ℕ) → order_at r k ≡ None → 
 makers_still r k at =
     ap makers_of (lists_more (orders_at r) k ∙ ap (λ x. lists_below (orders_at r) k ++ option_to_list x) at ∙ append-nil (lists_below (orders_at r) k))
 
-pub told_none : (r : PlainRecording) (t : lists.Told) → length t.records.items ≡ length r.setting.stations
-    → ((s : ℕ) → s < length r.setting.stations → slice_index_or t.records.items s 0 ≡ 0) → t.makers.items ≡ [] → t.orders.items ≡ [] → IsTold r 0 t
-told_none r t stations none makers orders = record {
-  stations = stations;
-  records = λ s l. none s l ∙ sym (none_counted (entry_places r) s);
+pub told_none : (r : PlainRecording) (t : lists.Told) → AreRecords r (length r.entries) t.records.items → t.makers.items ≡ [] → t.rows.items ≡ [] → IsTold r 0 t
+told_none r t records makers rows = record {
+  records = records;
   makers = makers ∙ ap makers_of (sym (lists_none (orders_at r)));
-  orders = orders ∙ sym (lists_none (told_at r));
+  rows = ap (map (row_told r)) rows ∙ ap (map Some) (sym (lists_none (told_at r)));
 }
 
 -- an entry that is no head of an order
-pub told_still : (r : PlainRecording) (k : ℕ) (old new : lists.Told) → order_at r k ≡ None → IsTold r k old
-    → length new.records.items ≡ length r.setting.stations
-    → ((s : ℕ) → s < length r.setting.stations → slice_index_or new.records.items s 0 ≡ count_at (entry_places r) s (k + 1))
-    → new.makers.items ≡ old.makers.items → new.orders.items ≡ old.orders.items → IsTold r (k + 1) new
-told_still r k old new at before stations counted makers orders = record {
-  stations = stations;
-  records = counted;
-  makers = makers ∙ before.makers ∙ sym (makers_still r k at);
-  orders = orders
-      ∙ before.orders
-      ∙ sym (lists_more (told_at r) k ∙ ap (λ xs. lists_below (told_at r) k ++ xs) (nothing_there r k at) ∙ append-nil (lists_below (told_at r) k));
+pub told_still : (r : PlainRecording) (k : ℕ) (t : lists.Told) → order_at r k ≡ None → IsTold r k t → IsTold r (k + 1) t
+told_still r k t at before = record {
+  records = before.records;
+  makers = before.makers ∙ sym (makers_still r k at);
+  rows = before.rows
+      ∙ ap (map Some) (sym (lists_more (told_at r) k ∙ ap (λ xs. lists_below (told_at r) k ++ xs) (nothing_there r k at) ∙ append-nil (lists_below (told_at r) k)));
 }
 
 -- one that is
 pub told_more : (r : PlainRecording) (k most : ℕ) (o : OrderData) (old new : lists.Told) (result : Result (Unit {0}) ReviewFault) → order_at r k ≡ Some o
-    → IsTold r k old → length new.records.items ≡ length r.setting.stations
-    → ((s : ℕ) → s < length r.setting.stations → slice_index_or new.records.items s 0 ≡ count_at (entry_places r) s (k + 1))
-    → new.makers.items ≡ old.makers.items ++ o.maker ∷ [] → AddsWithin most old.orders.items (order_at_parties r o) result new.orders.items
+    → IsTold r k old → new.records ≡ old.records
+    → new.makers.items ≡ old.makers.items ++ o.maker ∷ [] → AddsRows r most old.rows.items (order_at_parties r o) result new.rows.items
     → OnOk result (IsTold r (k + 1) new)
-told_more r k most o old new (Err e) at before stations counted makers adds = tt
-told_more r k most o old new (Ok x) at before stations counted makers adds = record {
-  stations = stations;
-  records = counted;
+told_more r k most o old new (Err e) at before records makers adds = tt
+told_more r k most o old new (Ok x) at before records makers adds = record {
+  records = subst (λ (x : Vec ℕ Global). AreRecords r (length r.entries) x.items) (sym records) before.records;
   makers = makers ∙ ap (λ xs. xs ++ o.maker ∷ []) before.makers ∙ sym (makers_more r k o at);
-  orders = adds.0
-      ∙ ap (λ xs. xs ++ order_at_parties r o) before.orders
-      ∙ sym (lists_more (told_at r) k ∙ ap (λ xs. lists_below (told_at r) k ++ xs) (told_there r k o at));
+  rows = adds.0
+      ∙ ap (λ xs. xs ++ map Some (order_at_parties r o)) before.rows
+      ∙ sym (map-append Some (lists_below (told_at r) k) (order_at_parties r o))
+      ∙ ap (map Some) (sym (lists_more (told_at r) k ∙ ap (λ xs. lists_below (told_at r) k ++ xs) (told_there r k o at)));
 }
 
 -- ---- all entries
@@ -148,15 +127,15 @@ told_all r = below (length r.entries)
     below zero = refl
     below (suc n) = ap (λ xs. xs ++ told_at r n) (below n) ∙ sym (flat_map-append (order_at_parties r) (lists_below (orders_at r) n) (orders_at r n))
 
-refused : (r : PlainRecording) (part new : List OrderAt) (k most : ℕ) (e : ReviewFault) → k < length r.entries → part ≡ lists_below (told_at r) k
-    → AddsWithin most part (told_at r k) (Err e) new → TellsWithin r most (Err e)
+refused : (r : PlainRecording) (part new : List Row) (k most : ℕ) (e : ReviewFault) → k < length r.entries → AreRows r part (lists_below (told_at r) k)
+    → AddsRows r most part (told_at r k) (Err e) new → TellsWithin r most (Err e)
 refused r part new k most OverLimit l same over =
-    omega (arith, over, ap length same, part_below (told_at r) k (length r.entries) l, ap length (told_all r))
+    omega (arith, over, rows_count r part (lists_below (told_at r) k) same, part_below (told_at r) k (length r.entries) l, ap length (told_all r))
 refused r part new k most Memory l same over = tt
 
 -- there is no room for what is told of the next: so there is none for all
-pub no_room : (r : PlainRecording) (part new : List OrderAt) (k most : ℕ) (e : ReviewFault) (result : Result lists.Told ReviewFault)
-    → IsErrAnd result (λ x. x ≡ e) → k < length r.entries → part ≡ lists_below (told_at r) k → AddsWithin most part (told_at r k) (Err e) new
+pub no_room : (r : PlainRecording) (part new : List Row) (k most : ℕ) (e : ReviewFault) (result : Result lists.Told ReviewFault)
+    → IsErrAnd result (λ x. x ≡ e) → k < length r.entries → AreRows r part (lists_below (told_at r) k) → AddsRows r most part (told_at r k) (Err e) new
     → TellsWithin r most result
 no_room r part new k most e (Ok x) is l same over = absurd is
 no_room r part new k most e (Err x) is l same over = subst (λ y. TellsWithin r most (Err y)) (sym is) (refused r part new k most e l same over)

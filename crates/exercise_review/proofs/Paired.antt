@@ -1,6 +1,6 @@
 -- What takes up a request is an answer, and so no order.
 use Rattle.std.proofs.Common.{◌≡◌, ℕ, List, length, cond, true, false, Option, Some, None, refl, sym, ap, ◌∙◌}
-use Rattle.std.specs.Prelude.{nat_eq, slice_get, option_and_then, if◌then◌else◌}
+use Rattle.std.specs.Prelude.{nat_eq, slice_get, is_some, option_and_then, if◌then◌else◌}
 use Rattle.std.proofs.lemmas.Bool.{eqb-true}
 use Rattle.std.proofs.lemmas.Option.{same_Some}
 use Rattle.siman_pdus.specs.declared.pdu.Body.{Body}
@@ -13,12 +13,17 @@ use Rattle.exercise_model.specs.Account.{pair_of_sent, pair_of_entry, pair_of}
 use Rattle.exercise_model.specs.Entry.{Entry, Sent, Received, Told}
 use Rattle.exercise_model.specs.Exchange.{is_answer_role, is_answer_body}
 use Rattle.exercise_model.specs.Meaning.{meaning}
-use Rattle.exercise_model.specs.Place.{entry_taken_up, first_below}
+use Rattle.exercise_model.specs.History.{station_at}
+use Rattle.exercise_model.specs.Exchange.{is_asked}
+use Rattle.exercise_model.specs.Place.{brings_request, entry_taken_up, first_below}
+use Rattle.exercise_model.proofs.Offered.{first_found}
 use Rattle.exercise_model.specs.Recording.{PlainRecording}
 use Rattle.exercise_review.specs.Digest.{digest_of}
 use Rattle.exercise_review.specs.Entries.{bytes_sent_by, bytes_sent, got_by}
 use Rattle.exercise_review.specs.Order.{sends_order, head_sent}
 use Rattle.exercise_review.specs.Register.{order_key, sent_key}
+use Rattle.exercise_review.proofs.Brought.{brings_is}
+use Rattle.exercise_review.proofs.Runs.{there}
 use Rattle.exercise_review.proofs.Under.{answer_key}
 
 role_answer : (r : Role) → is_answer_role r ≡ true → is_request_role r ≡ false
@@ -90,3 +95,21 @@ no_head r s i j b sent pair =
     let p = paired r s i j b sent pair in
     ap (λ m. same_id (option_and_then (head_sent r s) m) (Some i)) p.1
     ∙ ap (λ k. same_id (if k then first_below (sends_order r s p.0) (length r.entries) else None) (Some i)) p.2
+
+-- WHAT IS TAKEN UP was received at the station
+pub paired_got : (r : PlainRecording) (s i j : ℕ) (b : List ℕ) → bytes_sent r s i ≡ Some b → pair_of r i ≡ Some j → is_some (got_by r s j) ≡ true
+unfolding entry_taken_up
+paired_got r s i j b sent pair = of_meaning (meaning r.setting.exercise b) (sym (pair_sent r s i b sent) ∙ pair)
+  where
+    asked : (p : Pdu) → brings_request r s p j ≡ true → is_some (got_by r s j) ≡ true
+    asked p brings = ap is_some (there (is_asked (station_at r s).address p) (got_by r s j) (sym (brings_is r s p j) ∙ brings)).1
+
+    of_pdu : (p : Pdu) → pair_of_sent r s i p ≡ Some j → is_some (got_by r s j) ≡ true
+    of_pdu p = elim (is_answer_body p.body) as (λ k. (if k then first_below (brings_request r s p) i else None) ≡ Some j → is_some (got_by r s j) ≡ true) [
+      | true ↦ λ taken. asked p (first_found (brings_request r s p) i j taken).passes
+      | false ↦ λ h. absurd (cc)
+    ]
+
+    of_meaning : (m : Option Pdu) → option_and_then (pair_of_sent r s i) m ≡ Some j → is_some (got_by r s j) ≡ true
+    of_meaning None h = absurd (cc)
+    of_meaning (Some p) h = of_pdu p h

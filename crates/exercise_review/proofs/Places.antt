@@ -1,5 +1,5 @@
 -- What falls to a place is what is counted of a station.
-use Rattle.std.proofs.Common.{◌≡◌, ℕ, ◌+◌, ◌*◌, ◌<◌, List, length, true, false, Option, Some, None, refl, sym, ap, ◌∙◌, arith}
+use Rattle.std.proofs.Common.{◌≡◌, ℕ, ◌+◌, ◌*◌, ◌<◌, List, length, map, Bool, true, false, Option, Some, None, refl, sym, ap, ◌∙◌, arith}
 use Rattle.std.specs.Prelude.{nat_eq, ◌&&◌, option_map, option_and_then, slice_get, slice_index_or}
 use Rattle.std.specs.Option.{option_map_or}
 use Rattle.std.proofs.lemmas.List.{length-map}
@@ -13,14 +13,18 @@ use Rattle.exercise_review.specs.declared.fate.Fate.{Fate}
 use Rattle.exercise_review.specs.declared.fate.Fate.TheVariants as fates
 use Rattle.exercise_review.specs.declared.party.Party.{Party}
 use Rattle.exercise_review.specs.declared.party.Party.TheVariants as parties
+use Rattle.exercise_review.specs.declared.row.Row.{Row}
 use Rattle.exercise_review.specs.declared.told.OrderAt.{OrderAt}
 use Rattle.exercise_review.specs.declared.told.Told.{Told}
 use Rattle.exercise_review.specs.declared.tally.Counts.{Counts}
 use Rattle.exercise_review.specs.Told.{orders_of, orders_told}
 use Rattle.exercise_review.specs.Counted.{count_below, count_at}
 use Rattle.exercise_review.specs.Order.{OrderData}
-use Rattle.exercise_review.specs.Tally.{fate_number, same_fate, is_station, is_fate, is_fate_at, passes_at, many, counts_by, fates_of, fates_at, fate_numbers, makers_of, IsTold, AreCounted, is_entry_of, is_made_by, place_at, fate_place, fate_places, entry_places, maker_places}
+use Rattle.exercise_review.specs.Tally.{fate_number, same_fate, is_station, is_fate, is_fate_at, passes_at, many, counts_by, fates_of, fates_at, row_numbers, makers_of, IsTold, AreCounted, is_entry_of, is_made_by, place_at, row_place, row_places, maker_places}
+use Rattle.exercise_review.specs.Records.{entry_places}
+use Rattle.exercise_review.specs.Row.{AreRows}
 use Rattle.exercise_review.proofs.Orders.{told_all}
+use Rattle.exercise_review.proofs.Rows.{rows_count, counted_alike}
 use Rattle.exercise_review.proofs.Tallies.{count_same}
 
 pub entries_counted : (r : PlainRecording) (s n : ℕ) → n ≡ length r.entries → count_at (entry_places r) s n ≡ many (is_entry_of s) r.entries
@@ -35,8 +39,8 @@ entries_counted r s n end =
     ]
 
 -- what was told on the way is told of all orders, and these are their makers
-pub orders_are_told : (r : PlainRecording) (t : Told) → IsTold r (length r.entries) t → t.orders.items ≡ orders_told r
-orders_are_told r t told = told.orders ∙ told_all r
+pub orders_are_told : (r : PlainRecording) (t : Told) → IsTold r (length r.entries) t → AreRows r t.rows.items (orders_told r)
+orders_are_told r t told = told.rows ∙ ap (map Some) (told_all r)
 
 pub orders_of_makers : (r : PlainRecording) (t : Told) → IsTold r (length r.entries) t → t.makers.items ≡ makers_of (orders_of r)
 unfolding orders_of
@@ -48,7 +52,7 @@ order_count r t told = ap length (orders_of_makers r t told) ∙ length-map (ord
 -- the entries of a station that were counted on the way are those of its log
 pub records_told : (r : PlainRecording) (t : Told) (s : ℕ) → IsTold r (length r.entries) t → s < length r.setting.stations
     → slice_index_or t.records.items s 0 ≡ many (is_entry_of s) r.entries
-records_told r t s told l = told.records s l ∙ entries_counted r s (length r.entries) refl
+records_told r t s told l = told.records.each s l ∙ entries_counted r s (length r.entries) refl
 
 makers_counted : (os : List OrderData) (s n : ℕ) → n ≡ length os → count_at (maker_places (makers_of os)) s n ≡ many (is_made_by s) os
 unfolding count_at many maker_places passes_at
@@ -99,16 +103,31 @@ fate_same s f g None = refl
 fate_same s f g (Some (parties.Station t)) = one_place t s (fate_number g) (fate_number f) (few_fates g) (few_fates f)
 fate_same s f g (Some (parties.Outside a)) = refl
 
-pub fates_counted : (xs : List OrderAt) (s n : ℕ) (f : Fate) → n ≡ length xs → count_at (fate_places xs) (s * 9 + fate_number f) n ≡ many (is_fate_at s f) xs
-unfolding count_at many fate_places passes_at
-fates_counted xs s n f end =
-    count_same (λ i. same_id (fate_places xs i) (Some (s * 9 + fate_number f))) (passes_at (is_fate_at s f) xs) same n ∙ ap (count_below (passes_at (is_fate_at s f) xs)) end
+pub fates_counted : (r : PlainRecording) (rows : List Row) (xs : List OrderAt) (s n : ℕ) (f : Fate) → AreRows r rows xs → n ≡ length rows
+    → count_at (row_places rows) (s * 9 + fate_number f) n ≡ many (is_fate_at s f) xs
+unfolding count_at many row_places passes_at
+fates_counted r rows xs s n f are end =
+    count_same (λ i. same_id (row_places rows i) (Some (s * 9 + fate_number f))) (passes_at (is_fate_at s f) xs) same n
+    ∙ ap (count_below (passes_at (is_fate_at s f) xs)) (end ∙ rows_count r rows xs are)
   where
-    same : (i : ℕ) → same_id (fate_places xs i) (Some (s * 9 + fate_number f)) ≡ passes_at (is_fate_at s f) xs i
-    same i = elim (slice_get xs i) as (λ (o : Option OrderAt). same_id (option_and_then fate_place o) (Some (s * 9 + fate_number f)) ≡ option_map_or (is_fate_at s f) o false) [
-      | None ↦ refl
-      | Some x ↦ fate_same s f x.outcome.fate x.outcome.party
-    ]
+    -- by where it is counted, if there is something
+    placed : Option (Option ℕ) → Bool
+    placed o = same_id (option_and_then (λ (p : Option ℕ). p) o) (Some (s * 9 + fate_number f))
+
+    of_row : (y : Option Row) → same_id (option_and_then row_place y) (Some (s * 9 + fate_number f)) ≡ placed (option_map row_place y)
+    of_row None = refl
+    of_row (Some y) = refl
+
+    of_told : (o : Option OrderAt) → placed (option_map (λ (x : OrderAt). place_at x.outcome.fate x.outcome.party) o) ≡ option_map_or (is_fate_at s f) o false
+    of_told None = refl
+    of_told (Some x) = fate_same s f x.outcome.fate x.outcome.party
+
+    same : (i : ℕ) → same_id (row_places rows i) (Some (s * 9 + fate_number f)) ≡ passes_at (is_fate_at s f) xs i
+    same i =
+        of_row (slice_get rows i)
+        ∙ ap placed (counted_alike r rows xs i row_place (λ (x : OrderAt). place_at x.outcome.fate x.outcome.party) are
+        (λ y t fate party. ap (λ g. place_at g y.party) fate ∙ ap (place_at t.outcome.fate) party))
+        ∙ of_told (slice_get xs i)
 
 -- a place for a fate is one of those of its station
 pub place_within : (s n : ℕ) (f : Fate) → s < n → s * 9 + fate_number f < n * 9
@@ -135,22 +154,28 @@ unfolding fates_at
 fates_are r c s are l = counts_same (λ f. slice_index_or c.fates.items (s * 9 + fate_number f) 0) (λ f. many (is_fate_at s f) (orders_told r)) (are.fates s l)
 
 -- the places of all fates are their counts
-fates_numbered : (xs : List OrderAt) (f : Fate) (n : ℕ) → n ≡ length xs → count_at (fate_numbers xs) (fate_number f) n ≡ many (is_fate f) xs
-unfolding count_at many fate_numbers passes_at
-fates_numbered xs f n end =
-    count_same (λ i. same_id (fate_numbers xs i) (Some (fate_number f))) (passes_at (is_fate f) xs) same n ∙ ap (count_below (passes_at (is_fate f) xs)) end
+fates_numbered : (r : PlainRecording) (rows : List Row) (xs : List OrderAt) (f : Fate) (n : ℕ) → AreRows r rows xs → n ≡ length rows
+    → count_at (row_numbers rows) (fate_number f) n ≡ many (is_fate f) xs
+unfolding count_at many row_numbers passes_at
+fates_numbered r rows xs f n are end =
+    count_same (λ i. same_id (row_numbers rows i) (Some (fate_number f))) (passes_at (is_fate f) xs) same n
+    ∙ ap (count_below (passes_at (is_fate f) xs)) (end ∙ rows_count r rows xs are)
   where
-    same : (i : ℕ) → same_id (fate_numbers xs i) (Some (fate_number f)) ≡ passes_at (is_fate f) xs i
-    same i = elim (slice_get xs i) as (λ (o : Option OrderAt). same_id (option_map (λ (x : OrderAt). fate_number x.outcome.fate) o) (Some (fate_number f)) ≡ option_map_or (is_fate f) o false) [
-      | None ↦ refl
-      | Some x ↦ refl
-    ]
+    of_told : (o : Option OrderAt) → same_id (option_map (λ (x : OrderAt). fate_number x.outcome.fate) o) (Some (fate_number f)) ≡ option_map_or (is_fate f) o false
+    of_told None = refl
+    of_told (Some x) = refl
 
-pub all_fates : (xs : List OrderAt) (counts : List ℕ) (n : ℕ) → n ≡ length xs
-    → ((k : ℕ) → k < 9 → slice_index_or counts k 0 ≡ count_at (fate_numbers xs) k n)
+    same : (i : ℕ) → same_id (row_numbers rows i) (Some (fate_number f)) ≡ passes_at (is_fate f) xs i
+    same i =
+        ap (λ o. same_id o (Some (fate_number f))) (counted_alike r rows xs i (λ (y : Row). fate_number y.fate) (λ (x : OrderAt). fate_number x.outcome.fate) are
+        (λ y t fate party. ap fate_number fate))
+        ∙ of_told (slice_get xs i)
+
+pub all_fates : (r : PlainRecording) (rows : List Row) (xs : List OrderAt) (counts : List ℕ) (n : ℕ) → AreRows r rows xs → n ≡ length rows
+    → ((k : ℕ) → k < 9 → slice_index_or counts k 0 ≡ count_at (row_numbers rows) k n)
     → counts_by (λ f. slice_index_or counts (0 + fate_number f) 0) ≡ fates_of xs
 unfolding fates_of
-all_fates xs counts n end each =
+all_fates r rows xs counts n are end each =
     counts_same (λ f. slice_index_or counts (0 + fate_number f) 0) (λ f. many (is_fate f) xs) (λ f.
     let first : 0 + fate_number f ≡ fate_number f = omega arith in
-    ap (λ k. slice_index_or counts k 0) first ∙ each (fate_number f) (few_fates f) ∙ fates_numbered xs f n end)
+    ap (λ k. slice_index_or counts k 0) first ∙ each (fate_number f) (few_fates f) ∙ fates_numbered r rows xs f n are end)

@@ -33,11 +33,11 @@ heard_none r heard none = record {
 }
 
 -- one entry more, which passes or does not
-first_more : (f : ℕ → Bool) (n : ℕ) (b : Bool) → f n ≡ b → first_below f (n + 1) ≡ option_or (first_below f n) (if b then Some n else None)
+pub first_more : (f : ℕ → Bool) (n : ℕ) (b : Bool) → f n ≡ b → first_below f (n + 1) ≡ option_or (first_below f n) (if b then Some n else None)
 unfolding first_below
 first_more f n b e = ap (first_below f) (add-one n) ∙ ap (λ c. option_or (first_below f n) (if c then Some n else None)) e
 
-last_more : (f : ℕ → Bool) (n : ℕ) (b : Bool) → f n ≡ b → last_below f (n + 1) ≡ (if b then Some n else last_below f n)
+pub last_more : (f : ℕ → Bool) (n : ℕ) (b : Bool) → f n ≡ b → last_below f (n + 1) ≡ (if b then Some n else last_below f n)
 unfolding last_below
 last_more f n b e = ap (last_below f) (add-one n) ∙ ap (λ c. if c then Some n else last_below f n) e
 
@@ -45,10 +45,10 @@ nothing : (o : Option ℕ) → o ≡ option_or o None
 nothing None = refl
 nothing (Some x) = refl
 
-still_first : (f : ℕ → Bool) (n : ℕ) (o : Option ℕ) → f n ≡ false → o ≡ first_below f n → o ≡ first_below f (n + 1)
+pub still_first : (f : ℕ → Bool) (n : ℕ) (o : Option ℕ) → f n ≡ false → o ≡ first_below f n → o ≡ first_below f (n + 1)
 still_first f n o fails is = is ∙ nothing (first_below f n) ∙ sym (first_more f n false fails)
 
-still_last : (f : ℕ → Bool) (n : ℕ) (o : Option ℕ) → f n ≡ false → o ≡ last_below f n → o ≡ last_below f (n + 1)
+pub still_last : (f : ℕ → Bool) (n : ℕ) (o : Option ℕ) → f n ≡ false → o ≡ last_below f n → o ≡ last_below f (n + 1)
 still_last f n o fails is = is ∙ sym (last_more f n false fails)
 
 -- an entry that receives nothing

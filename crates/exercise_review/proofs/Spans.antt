@@ -14,7 +14,7 @@ use Rattle.exercise_model.specs.Cause.{same_state}
 use Rattle.exercise_model.specs.Place.{own_event, log_before}
 use Rattle.exercise_model.proofs.Offered.{log_before-more}
 use Rattle.exercise_review.specs.declared.life.Stretch.{Stretch}
-use Rattle.exercise_review.specs.declared.span.Made.{Made}
+use Rattle.exercise_review.specs.declared.changes.Made.{Made}
 use Rattle.exercise_findings.specs.State.{state_before}
 use Rattle.exercise_review.specs.Life.{LifeSoFar, stretch_of, lived_on, life_before, lives_of}
 use Rattle.exercise_review.specs.Room.{lists_below}
@@ -66,7 +66,7 @@ lives_on l n = ap (λ b. cond b l (record { ended = l.ended ++ stretch_of l (Som
 -- what an entry makes of a life, by what its station changes there
 lived_once : (r : PlainRecording) (s e n : ℕ) (l : LifeSoFar) (c : Option Change) → l.state ≡ state_before r s e n
     → state_before r s e (suc n) ≡ option_map_or (changed e (state_before r s e n)) c (state_before r s e n)
-    → lived_by e l (option_to_list (option_map (made_of r n) c)) ≡ lived_on l n (state_before r s e (suc n))
+    → lived_by e l (option_to_list (option_map (made_of n) c)) ≡ lived_on l n (state_before r s e (suc n))
 lived_once r s e n l None at next = sym (ap (lived_on l n) (next ∙ sym at) ∙ lives_on l n)
 lived_once r s e n l (Some c) at next = sym (ap (lived_on l n) (next ∙ ap (λ y. changed e y c) (sym at)))
 
@@ -86,17 +86,17 @@ lived_whole r s e is = lived_below r s e (length r.entries) is
 -- ---- as loops make them
 
 pub change_more : (r : PlainRecording) (s k : ℕ) (c : Change) (xs ys : List Made) → own_change r s k ≡ Some c → xs ≡ lists_below (made_at r s) k
-    → ys ≡ xs ++ made_of r k c ∷ [] → ys ≡ lists_below (made_at r s) (k + 1)
+    → ys ≡ xs ++ made_of k c ∷ [] → ys ≡ lists_below (made_at r s) (k + 1)
 unfolding made_at
 change_more r s k c xs ys own before here =
-    here ∙ ap (λ zs. zs ++ made_of r k c ∷ []) before ∙ ap (λ o. lists_below (made_at r s) k ++ option_to_list (option_map (made_of r k) o)) (sym own)
+    here ∙ ap (λ zs. zs ++ made_of k c ∷ []) before ∙ ap (λ o. lists_below (made_at r s) k ++ option_to_list (option_map (made_of k) o)) (sym own)
     ∙ sym (lists_more (made_at r s) k)
 
 pub change_none : (r : PlainRecording) (s k : ℕ) (xs : List Made) → own_change r s k ≡ None → xs ≡ lists_below (made_at r s) k
     → xs ≡ lists_below (made_at r s) (k + 1)
 unfolding made_at
 change_none r s k xs own before =
-    before ∙ sym (append_none (lists_below (made_at r s) k)) ∙ ap (λ o. lists_below (made_at r s) k ++ option_to_list (option_map (made_of r k) o)) (sym own)
+    before ∙ sym (append_none (lists_below (made_at r s) k)) ∙ ap (λ o. lists_below (made_at r s) k ++ option_to_list (option_map (made_of k) o)) (sym own)
     ∙ sym (lists_more (made_at r s) k)
 
 -- a life after one change more of a list

@@ -154,7 +154,7 @@ no_request (bodies.Comment datums) k h = refl
 pub is_answering : (p q : Pdu) → is_answer_to p q ≡ true → is_request_body p.body ≡ false
 is_answering p q h = no_request p.body (body_kind q.body) (and_parts _ _ h).0
 
-ids_are : (a b : Option ℕ) → same_id a b ≡ true → a ≡ b
+pub ids_are : (a b : Option ℕ) → same_id a b ≡ true → a ≡ b
 ids_are None b h = absurd (cc)
 ids_are (Some a) None h = absurd (cc)
 ids_are (Some a) (Some b) h = ap Some (eqb-true a b h)

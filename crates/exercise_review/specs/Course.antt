@@ -1,5 +1,5 @@
 -- The changes of a station, and which of them comes next for an entity (profile).
-use Rattle.std.specs.Prelude.{◌≡◌, ℕ, ◌+◌, ◌<◌, ◌≤◌, List, [], ◌++◌, length, Bool, true, false, ◌==◌, ◌&&◌, not, Some, None, IfSome, slice_get, slice_index_or, Vec}
+use Rattle.std.specs.Prelude.{◌≡◌, ℕ, ◌+◌, ◌<◌, ◌≤◌, List, [], ◌++◌, length, Bool, true, false, ◌==◌, ◌&&◌, not, None, IfSome, slice_get, slice_index_or, Vec}
 use Rattle.std.specs.declared.alloc.Global.{Global}
 use Rattle.dis_records.specs.declared.kind.Kind.TheVariants as kinds
 use Rattle.dis_records.specs.declared.entity.Scope.{Scope}
@@ -13,12 +13,12 @@ use Rattle.exercise_model.specs.History.{station_at}
 use Rattle.exercise_model.specs.State.{state_made, changed}
 use Rattle.exercise_model.specs.Cause.{same_state}
 use Rattle.exercise_review.specs.declared.life.Stretch.{Stretch}
-use Rattle.exercise_review.specs.declared.span.Made.{Made}
+use Rattle.exercise_review.specs.declared.changes.Made.{Made}
 use Rattle.exercise_review.specs.declared.course.Own.{Own}
 use Rattle.exercise_review.specs.declared.course.Course.{Course}
 use Rattle.exercise_review.specs.Life.{LifeSoFar, stretch_of}
 use Rattle.exercise_review.specs.Room.{lists_below}
-use Rattle.exercise_review.specs.Span.{noted_of, made_at, changes_made, lived_by}
+use Rattle.exercise_review.specs.Span.{made_at, changes_made, lived_by}
 
 -- THE CHANGES OF ALL STATIONS in the entries below n, each station's in their order
 pub record AreChanges (r : PlainRecording) (n : ℕ) (all : List (Vec Made Global)) : Type 0 where
@@ -27,15 +27,11 @@ pub record AreChanges (r : PlainRecording) (n : ℕ) (all : List (Vec Made Globa
 
 -- what is read past the end of a list of changes
 abbrev pub no_made : Made
-no_made = record { entry = 0; change = record { kind = kinds.CreateEntity; scope = One 0 }; noted = record { stamp = None; by = None; request = None } }
+no_made = record { entry = 0; change = record { kind = kinds.CreateEntity; scope = One 0 } }
 
 -- the change at a place
 abbrev pub change_in : List Made → ℕ → Change
 change_in ms k = (slice_index_or ms k no_made).change
-
--- WHAT IS NOTED of each of these changes is what its entry says
-abbrev pub AreNoted : PlainRecording → List Made → Type 0
-AreNoted r ms = (k : ℕ) → k < length ms → (slice_index_or ms k no_made).noted ≡ noted_of r (Some (slice_index_or ms k no_made).entry)
 
 -- a scope is entity e alone, or all entities
 abbrev pub is_one : ℕ → Scope → Bool
@@ -61,22 +57,26 @@ pub record IsNextIn (test : Change → Bool) (ms : List Made) (a b : ℕ) : Type
   pub none : (i : ℕ) → a ≤ i → i < b → test (change_in ms i) ≡ false
   pub passes : b < length ms → test (change_in ms b) ≡ true
 
--- THE NEXT THAT PASSES, from each place on that is not before place a
-pub record AreNextIn (test : Change → Bool) (ms : List Made) (a : ℕ) (places : List ℕ) : Type 0 where
-  pub count : length places ≡ length ms + 1
-  pub each : (k : ℕ) → a ≤ k → k ≤ length ms → IsNextIn test ms k (slice_index_or places k 0)
+-- THE NEXT THAT PASSES, from each place on that is not before place a: that is the end where no place is kept
+abbrev pub AreNextIn : (Change → Bool) → List Made → (a : ℕ) → (places : List ℕ) → Type 0
+AreNextIn test ms a places = (k : ℕ) → a ≤ k → k ≤ length ms → IsNextIn test ms k (slice_index_or places k (length ms))
 
--- THE OWN CHANGES OF EACH ENTITY: the first from place a on, and from each of them the next
-pub record AreOwn (ms : List Made) (a : ℕ) (o : Own) : Type 0 where
-  pub numbers : length o.first.items ≡ 65536
+-- no change is one of an entity alone whose number is greater
+abbrev pub AreUpTo : (last : ℕ) → List Made → Type 0
+AreUpTo last ms = (e i : ℕ) → last < e → i < length ms → is_of e (change_in ms i) ≡ false
+
+-- THE OWN CHANGES OF EACH ENTITY up to the last number: the first from place a on, and from each of them the next
+pub record AreOwn (ms : List Made) (last a : ℕ) (o : Own) : Type 0 where
+  pub numbers : length o.first.items ≡ last + 1
   pub count : length o.next.items ≡ length ms
-  pub first : (e : ℕ) → e < 65536 → IsNextIn (is_of e) ms a (slice_index_or o.first.items e 0)
+  pub first : (e : ℕ) → IsNextIn (is_of e) ms a (slice_index_or o.first.items e (length ms))
   pub next : (k : ℕ) → a ≤ k → k < length ms → (e : ℕ) → is_of e (change_in ms k) ≡ true → IsNextIn (is_of e) ms (k + 1) (slice_index_or o.next.items k 0)
 
 -- A COURSE over its changes: what comes next for each entity, of its own and of all
 pub record AreInOrder (c : Course) : Type 0 where
-  pub starts : length c.starts.items ≡ 65536
-  pub own : AreOwn c.changes.now 0 c.own
+  pub starts : length c.starts.items ≡ c.last + 1
+  pub numbers : AreUpTo c.last c.changes.now
+  pub own : AreOwn c.changes.now c.last 0 c.own
   pub absent : AreNextIn (moves_all Absent) c.changes.now 0 c.absent.items
   pub stopped : AreNextIn (moves_all Stopped) c.changes.now 0 c.stopped.items
   pub running : AreNextIn (moves_all Running) c.changes.now 0 c.running.items
@@ -97,9 +97,13 @@ pub record IsStayTo (e : ℕ) (y : EntityState) (ms : List Made) (own a b : ℕ)
   pub to : b ≤ own
   pub still : IsStill e y ms a b
 
--- how entity e lived by a course
+-- the life of entity e before the first change
+abbrev pub start_in : Course → ℕ → LifeSoFar
+start_in c e = record { ended = []; state = slice_index_or c.starts.items e Absent; since = None }
+
+-- how it lived by a course
 abbrev pub lived_in : Course → ℕ → LifeSoFar
-lived_in c e = lived_by e (record { ended = []; state = slice_index_or c.starts.items e Absent; since = None }) c.changes.now
+lived_in c e = lived_by e (start_in c e) c.changes.now
 
 abbrev pub lives_in : Course → ℕ → List Stretch
 lives_in c e = let l = lived_in c e in l.ended ++ stretch_of l None

@@ -5,8 +5,11 @@ pub mod Party
 pub mod Parties
 pub mod Receipts
 pub mod Digest
+pub mod Records
 pub mod Register
 pub mod Heard
+pub mod Sourced
+pub mod Noted
 pub mod News
 pub mod Gathered
 pub mod Reply
@@ -22,7 +25,9 @@ pub mod Knowing
 pub mod Room
 pub mod Span
 pub mod Course
+pub mod Stay
 pub mod Told
+pub mod Row
 pub mod Tally
 pub mod Review
 pub mod Alike

@@ -1,9 +1,10 @@
 -- What entries are looked up by: their station, and the order that they make, bring or take up (profile).
-use Rattle.std.specs.Prelude.{◌≡◌, ℕ, ◌+◌, ◌*◌, List, length, Bool, true, false, nat_eq, Option, Some, None, option_map, option_and_then, slice_get, slice_index_or, IfSome, if◌then◌else◌}
+use Rattle.std.specs.Prelude.{◌≡◌, ◌<◌, ◌≤◌, ◌==◌, ℕ, ◌+◌, ◌*◌, length, Bool, true, false, nat_eq, Option, Some, None, option_map, option_and_then, slice_get, slice_index_or, IfSome, if◌then◌else◌}
 use Rattle.std.specs.Option.{option_map_or}
+use Rattle.std.specs.List.{IsDistinct}
 use Rattle.std.specs.declared.hash.BuildHasherDefault.{BuildHasherDefault}
 use Rattle.std.specs.declared.hash.DefaultHasher.{DefaultHasher}
-use Rattle.indexmap.specs.IndexMap.{IndexMap, get}
+use Rattle.indexmap.specs.IndexSet.{IndexSet}
 use Rattle.siman_pdus.specs.declared.pdu.Pdu.{Pdu}
 use Rattle.siman_pdus.specs.Role.{is_request_body, request_id_of}
 use Rattle.exercise_model.specs.declared.form.Form.{Form}
@@ -12,13 +13,13 @@ use Rattle.exercise_model.specs.Recording.{PlainRecording}
 use Rattle.exercise_model.specs.Account.{pair_of}
 use Rattle.exercise_model.specs.Meaning.{meaning}
 use Rattle.exercise_model.specs.Setting.{is_open}
-use Rattle.exercise_findings.specs.Column.{IsColumn}
 use Rattle.exercise_findings.specs.Number.{entry_of}
+use Rattle.exercise_review.specs.declared.ways.Keyed.{Keyed}
+use Rattle.exercise_review.specs.declared.ways.Keyed.TheVariants.{Nothing, At, Key}
 use Rattle.exercise_review.specs.declared.ways.Ways.{Ways}
 use Rattle.exercise_review.specs.Counted.{last_below}
 use Rattle.exercise_review.specs.Digest.{digest, digest_of}
 use Rattle.exercise_review.specs.Entries.{got_by}
-use Rattle.exercise_review.specs.Heard.{Heard, AreHeard}
 use Rattle.exercise_review.specs.Order.{OrderData}
 
 -- ---- keys
@@ -56,10 +57,6 @@ entry_key r i (Told s e y) = None
 unfoldable pub key_at : PlainRecording → ℕ → Option ℕ
 key_at r i = option_and_then (entry_key r i) (slice_get r.entries i)
 
--- WHAT KEEPS THE KEYS of the entries below n
-abbrev pub AreKeys : PlainRecording → ℕ → List (Option ℕ) → Type 0
-AreKeys r = IsColumn None (λ i key. key ≡ key_at r i)
-
 -- a number that no station has
 abbrev pub nowhere : ℕ
 nowhere = 65535
@@ -90,42 +87,54 @@ has_second r = holds (second_at r)
 abbrev pub IsUnder : PlainRecording → (ℕ → Bool) → ℕ → Type 0
 IsUnder r test k = (i : ℕ) → test i ≡ true → has_key r k i ≡ true
 
--- what keeps the last entry under each key
-abbrev pub LastEntries : Type 0
-LastEntries = IndexMap ℕ ℕ (BuildHasherDefault DefaultHasher)
+-- what keeps the keys of entries, in the order in which they first came
+abbrev pub Keys : Type 0
+Keys = IndexSet ℕ (BuildHasherDefault DefaultHasher)
+
+-- the key for whose place a number stands
+abbrev pub key_numbered : Keys → ℕ → Option ℕ
+key_numbered keys number = option_and_then (slice_get keys.keys) (entry_of number)
+
+-- the key that is told so
+abbrev pub key_told : Keys → Keyed → Option ℕ
+key_told keys Nothing = None
+key_told keys (At place) = slice_get keys.keys place
+key_told keys (Key k) = Some k
 
 -- a number that stands for no entry
 abbrev pub no_entry : ℕ
 no_entry = 0xFFFFFFFF
 
+-- a number stands for the place of a key, or for none where there is no key
+pub record IsPlaced (keys : Keys) (key : Option ℕ) (number : ℕ) : Type 0 where
+  pub is : key_numbered keys number ≡ key
+  pub none : key ≡ None → number ≡ no_entry
+
 -- entry j goes back to the last one before it that has its key, for which this number stands
 abbrev pub IsBefore : (ℕ → Option ℕ) → ℕ → ℕ → Type 0
 IsBefore keys j number = (k : ℕ) → holds keys k j ≡ true → entry_of number ≡ last_below (holds keys k) j
 
--- THE TIE, after the entries below n: under each key the last of them that has it, and from each of them the way back
-pub record AreRegistered (keys : ℕ → Option ℕ) (n : ℕ) (entries : LastEntries) (ways : List ℕ) : Type 0 where
-  pub last : (k : ℕ) → get nat_eq entries k ≡ last_below (holds keys k) n
-  pub before : IsColumn no_entry (IsBefore keys) n ways
+-- THE TIE, after the entries below n: of each key that stands somewhere the last of them that has it, where the key of each of them stands, and from each of
+-- them the way back
+pub record AreRegistered (keys : ℕ → Option ℕ) (n : ℕ) (w : Ways) : Type 0 where
+  pub unique : IsDistinct nat_eq w.keys.keys
+  pub count : length w.last.items ≡ length w.keys.keys
+  pub last : (p k : ℕ) → slice_get w.keys.keys p ≡ Some k → entry_of (slice_index_or w.last.items p no_entry) ≡ last_below (holds keys k) n
+  pub places : (i : ℕ) → i < n → IsPlaced w.keys (keys i) (slice_index_or w.places.items i no_entry)
+  pub rest : (i : ℕ) → n ≤ i → slice_index_or w.places.items i no_entry ≡ no_entry
+  pub before : (i : ℕ) → i < n → IsBefore keys i (slice_index_or w.before.items i no_entry)
 
--- none of the entries, which have these ways back, goes back to entry i where that is marked
-abbrev pub IsEnd : (ways : List ℕ) → ℕ → Bool → Type 0
-IsEnd ways i end = end ≡ true → (j : ℕ) → entry_of (slice_index_or ways j no_entry) ≡ Some i → ⊥
-
--- WHAT MARKS the entries to which none goes back
-abbrev pub AreEnds : (ways : List ℕ) → List Bool → Type 0
-AreEnds ways = IsColumn false (IsEnd ways) (length ways)
+-- entry n was kept, whose key stands at place p
+pub record IsKept (n p : ℕ) (old new : Ways) : Type 0 where
+  pub keys : new.keys ≡ old.keys
+  pub count : length new.last.items ≡ length old.last.items
+  pub last : (q : ℕ) → slice_index_or new.last.items q no_entry ≡ (if q == p then n else slice_index_or old.last.items q no_entry)
+  pub places : (i : ℕ) → slice_index_or new.places.items i no_entry ≡ (if i == n then p else slice_index_or old.places.items i no_entry)
+  pub before : (i : ℕ) → slice_index_or new.before.items i no_entry ≡ (if i == n then slice_index_or old.last.items p no_entry else slice_index_or old.before.items i no_entry)
 
 -- the entries below n by their second keys, if these are kept
 abbrev pub AreSeconds : PlainRecording → Option Ways → Type 0
-AreSeconds r second = IfSome second (λ (w : Ways). AreRegistered (second_at r) (length r.entries) w.last w.before.items)
-
--- WHAT A REGISTER KEEPS of a recording: its entries by their keys, the marks of the last ones, and those by their second keys, and where each datagram
--- was received
-pub record IsRegister (r : PlainRecording) (first : Ways) (marks : List Bool) (second : Option Ways) (noted : Heard) : Type 0 where
-  pub orders : AreRegistered (key_at r) (length r.entries) first.last first.before.items
-  pub ends : AreEnds first.before.items marks
-  pub seconds : AreSeconds r second
-  pub heard : AreHeard r (length r.entries) noted
+AreSeconds r second = IfSome second (AreRegistered (second_at r) (length r.entries))
 
 -- the key under which the maker of an order is told of it
 unfoldable pub told_key : OrderData → Option ℕ

@@ -1,18 +1,19 @@
 -- What is told of a whole recording, and how many lines it takes (profile).
-use Rattle.std.specs.Prelude.{◌≡◌, ℕ, ◌+◌, ◌<◌, ◌≤◌, List, length, Result, Ok, Err, Vec}
-use Rattle.std.specs.declared.alloc.Global.{Global}
+use Rattle.std.specs.Prelude.{◌≡◌, ℕ, ◌+◌, ◌<◌, ◌≤◌, List, length, map, Result, Ok, Err}
 use Rattle.exercise_model.specs.Recording.{PlainRecording}
 use Rattle.exercise_model.specs.Account.{others_of, values_below}
 use Rattle.exercise_review.specs.declared.fault.ReviewFault.{ReviewFault}
 use Rattle.exercise_review.specs.declared.fault.ReviewFault.TheVariants.{OverLimit, Memory}
 use Rattle.exercise_review.specs.declared.review.Review.{Review}
 use Rattle.exercise_review.specs.declared.review.TheConstants.{MOST_LINES}
+use Rattle.exercise_review.specs.declared.reviewed.KeptReview.{KeptReview}
 use Rattle.exercise_review.specs.declared.span.Span.{Span}
 use Rattle.exercise_review.specs.declared.told.OrderAt.{OrderAt}
-use Rattle.exercise_review.specs.declared.told.Told.{Told}
 use Rattle.exercise_review.specs.Told.{orders_of, orders_told}
 use Rattle.exercise_review.specs.Span.{all_spans}
-use Rattle.exercise_review.specs.Tally.{IsTold, fates_of, station_counts}
+use Rattle.exercise_review.specs.Row.{AreRows}
+use Rattle.exercise_review.specs.Stay.{span_at}
+use Rattle.exercise_review.specs.Tally.{fates_of, station_counts}
 
 -- HOW MANY LINES a review has: the first one, and one for each station, for each order at each of its parties, and for each stretch of a life
 abbrev pub line_count : PlainRecording → ℕ
@@ -23,11 +24,6 @@ pub record TellsLists (r : PlainRecording) (told : List OrderAt) (spans : List S
   pub told_is : told ≡ orders_told r
   pub spans_is : spans ≡ all_spans r
   pub within : line_count r ≤ MOST_LINES
-
-abbrev pub Lists : PlainRecording → Result (Told × Vec Span Global) ReviewFault → Type 0
-Lists r (Ok made) = IsTold r (length r.entries) made.0 × TellsLists r made.0.orders.items made.1.items
-Lists r (Err OverLimit) = MOST_LINES < line_count r
-Lists r (Err Memory) = Unit {0}
 
 -- A REVIEW TELLS of a recording how many orders there are, how many datagrams are "other", how many orders have each fate, what is counted of each
 -- station, the orders at their parties and the stretches of all lives
@@ -43,3 +39,12 @@ abbrev pub Reviews : PlainRecording → Result Review ReviewFault → Type 0
 Reviews r (Ok v) = TellsReview r v
 Reviews r (Err OverLimit) = MOST_LINES < line_count r
 Reviews r (Err Memory) = Unit {0}
+
+-- WHAT IS KEPT OF A RECORDING for its review: the same, in less room
+pub record KeepsReview (r : PlainRecording) (k : KeptReview) : Type 0 where
+  pub orders : k.orders ≡ length (orders_of r)
+  pub fates : k.fates ≡ fates_of (orders_told r)
+  pub stations : k.stations.items ≡ values_below (station_counts r) (length r.setting.stations)
+  pub rows : AreRows r k.rows.items (orders_told r)
+  pub stays : map (span_at r) k.stays.items ≡ all_spans r
+  pub within : line_count r ≤ MOST_LINES

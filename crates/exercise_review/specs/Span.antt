@@ -1,5 +1,5 @@
 -- The stretches of the lives of a recording's entities, as they are told: by station, entity and time (profile).
-use Rattle.std.specs.Prelude.{ℕ, ◌+◌, List, [], ◌∷◌, length, map, Option, Some, option_map, option_and_then}
+use Rattle.std.specs.Prelude.{ℕ, ◌+◌, List, [], ◌∷◌, length, map, Option, option_map, option_and_then}
 use Rattle.std.specs.Option.{option_to_list}
 use Rattle.dis_records.specs.declared.entity.EntityId.{EntityId}
 use Rattle.dis_records.specs.Address.{Pair}
@@ -14,8 +14,7 @@ use Rattle.exercise_model.specs.State.{changed, change_made}
 use Rattle.exercise_model.specs.Place.{own_event, log_before}
 use Rattle.exercise_model.specs.Account.{pair_of as pair_at_entry}
 use Rattle.exercise_review.specs.declared.life.Stretch.{Stretch}
-use Rattle.exercise_review.specs.declared.span.Made.{Made}
-use Rattle.exercise_review.specs.declared.span.Noted.{Noted}
+use Rattle.exercise_review.specs.declared.changes.Made.{Made}
 use Rattle.exercise_review.specs.declared.span.Span.{Span}
 use Rattle.exercise_review.specs.Entries.{meant_at}
 use Rattle.exercise_review.specs.Life.{LifeSoFar, lived_on, lives_of}
@@ -68,20 +67,13 @@ all_spans r = lists_below (spans_of r) (length r.setting.stations)
 abbrev pub own_change : PlainRecording → ℕ → ℕ → Option Change
 own_change r s i = option_and_then (change_made r.setting.exercise (station_at r s) (log_before r s i)) (own_event r s i)
 
--- what is noted of an entry that changes something, if there is one: its stamp, and who asked for that under which identifier
-abbrev pub noted_of : PlainRecording → Option ℕ → Noted
-noted_of r x = record {
-  stamp = option_and_then (stamp_at r) x;
-  by = option_map (λ p. outsider_at (pair_of p.origin)) (option_and_then (request_behind r) x);
-  request = option_and_then (λ p. request_id_of p.body) (option_and_then (request_behind r) x);
-}
-
-abbrev pub made_of : PlainRecording → ℕ → Change → Made
-made_of r i c = record { entry = i; change = c; noted = noted_of r (Some i) }
+-- what entry i changes, as it is kept
+abbrev pub made_of : ℕ → Change → Made
+made_of i c = record { entry = i; change = c }
 
 -- the change that station s makes at entry i, if there is one
 unfoldable pub made_at : PlainRecording → ℕ → ℕ → List Made
-made_at r s i = option_to_list (option_map (made_of r i) (own_change r s i))
+made_at r s i = option_to_list (option_map (made_of i) (own_change r s i))
 
 -- the changes of station s, in their order
 unfoldable pub changes_made : PlainRecording → ℕ → List Made

@@ -15,14 +15,17 @@ use Rattle.exercise_review.specs.declared.party.Party.{Party}
 use Rattle.exercise_review.specs.declared.party.Party.TheVariants as parties
 use Rattle.exercise_review.specs.declared.fault.ReviewFault.{ReviewFault}
 use Rattle.exercise_review.specs.declared.fault.ReviewFault.TheVariants.{OverLimit, Memory}
+use Rattle.exercise_review.specs.declared.row.Row.{Row}
 use Rattle.exercise_review.specs.declared.told.OrderAt.{OrderAt}
 use Rattle.exercise_review.specs.declared.told.Told.{Told}
 use Rattle.exercise_review.specs.declared.tally.FateCounts.{FateCounts}
 use Rattle.exercise_review.specs.declared.tally.Counts.{Counts}
 use Rattle.exercise_review.specs.declared.tally.StationCounts.{StationCounts}
-use Rattle.exercise_review.specs.Counted.{count_below, count_at}
+use Rattle.exercise_review.specs.Counted.{count_below}
 use Rattle.exercise_review.specs.Order.{OrderData}
+use Rattle.exercise_review.specs.Records.{AreRecords}
 use Rattle.exercise_review.specs.Room.{lists_below}
+use Rattle.exercise_review.specs.Row.{AreRows}
 use Rattle.exercise_review.specs.Told.{orders_at, told_at, orders_of, orders_told}
 use Rattle.exercise_review.specs.Parties.{outsider_at}
 
@@ -99,10 +102,6 @@ is_running present = same_state present.1 Running
 
 -- ---- where they are counted
 
--- the station of each entry
-unfoldable pub entry_places : PlainRecording → ℕ → Option ℕ
-entry_places r i = option_map (λ e. station_of (event_of e)) (slice_get r.entries i)
-
 -- the maker of each order, if a recorded station made it
 abbrev pub makers_of : List OrderData → List (Option ℕ)
 makers_of os = map (λ (o : OrderData). o.maker) os
@@ -116,15 +115,15 @@ place_at f None = None
 place_at f (Some (parties.Station t)) = Some (t * 9 + fate_number f)
 place_at f (Some (parties.Outside a)) = None
 
-abbrev pub fate_place : OrderAt → Option ℕ
-fate_place x = place_at x.outcome.fate x.outcome.party
+abbrev pub row_place : Row → Option ℕ
+row_place x = place_at x.fate x.party
 
-unfoldable pub fate_places : List OrderAt → ℕ → Option ℕ
-fate_places xs i = option_and_then fate_place (slice_get xs i)
+unfoldable pub row_places : List Row → ℕ → Option ℕ
+row_places xs i = option_and_then row_place (slice_get xs i)
 
 -- the number of the fate of each
-unfoldable pub fate_numbers : List OrderAt → ℕ → Option ℕ
-fate_numbers xs i = option_map (λ (x : OrderAt). fate_number x.outcome.fate) (slice_get xs i)
+unfoldable pub row_numbers : List Row → ℕ → Option ℕ
+row_numbers xs i = option_map (λ (x : Row). fate_number x.fate) (slice_get xs i)
 
 -- WHAT IS COUNTED OF STATION s, beside its address: the entries of its log, the orders that it made, the fates of those that it was party to, and its entities
 -- that are there at the end, and how many of them run
@@ -144,16 +143,15 @@ ArePresent r all = (s : ℕ) → slice_index_or all s [] ≡ states_of r s
 
 -- ---- what is told and counted, one entry after the other
 
--- WHAT WAS TOLD of the entries below n: how many of them each station has, who made each of their orders, and these at their parties
+-- WHAT WAS TOLD of the entries below n: who made each of their orders, and these at their parties; and how many entries each station has
 pub record IsTold (r : PlainRecording) (n : ℕ) (t : Told) : Type 0 where
-  pub stations : length t.records.items ≡ length r.setting.stations
-  pub records : (s : ℕ) → s < length r.setting.stations → slice_index_or t.records.items s 0 ≡ count_at (entry_places r) s n
+  pub records : AreRecords r (length r.entries) t.records.items
   pub makers : t.makers.items ≡ makers_of (lists_below (orders_at r) n)
-  pub orders : t.orders.items ≡ lists_below (told_at r) n
+  pub rows : AreRows r t.rows.items (lists_below (told_at r) n)
 
 -- all of that, where the orders at their parties are no more than so many; of want of memory nothing is said
 abbrev pub TellsWithin : PlainRecording → (most : ℕ) → Result Told ReviewFault → Type 0
-TellsWithin r most (Ok t) = IsTold r (length r.entries) t × (t.orders.items ≡ orders_told r) × (length t.orders.items ≤ most)
+TellsWithin r most (Ok t) = IsTold r (length r.entries) t × AreRows r t.rows.items (orders_told r) × (length t.rows.items ≤ most)
 TellsWithin r most (Err OverLimit) = most < length (orders_told r)
 TellsWithin r most (Err Memory) = Unit {0}
 

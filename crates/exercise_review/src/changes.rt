@@ -4,23 +4,30 @@ ghost use Rattle.std.specs.Prelude.{◌≡◌, ℕ, ◌+◌, ◌<◌, [], length
 ghost use Rattle.exercise_review.specs.Span.{own_change, changes_made};
 ghost use Rattle.exercise_review.specs.Course.{AreChanges};
 
-use crate::entries::{entry_at, entry_count};
-use crate::register::Register;
-use crate::span::{Made, made_of};
+use crate::entries::entry_in;
+use exercise_findings::Findings;
 use exercise_model::{Change, EntryView, ExerciseLog};
 use std::alloc::{AllocError, Global};
+
+/// What an entry changes.
+#[derive(Clone, Copy)]
+pub(crate) struct Made {
+    /// The entry, a number from 0.
+    pub entry: u32,
+    pub change: Change,
+}
 
 /// What an entry changes at a station, if it is one of that station.
 #[tactic(auto, unfolding(exercise_model::specs::Place::own_event, exercise_model::specs::Account::change_at))]
 fn own_change<L: ExerciseLog>(
-    findings: &Register<'_, L>,
+    findings: &Findings<'_, L>,
     station: u16,
     entry: usize,
 ) -> Option<Change>
     requires { station < length findings.now.setting.stations }
     ensures { result ≡ own_change findings.now station entry }
 {
-    match entry_at(findings, entry) {
+    match entry_in(findings.log(), entry) {
         Some(EntryView::Sent { station: at, .. }) if at == station => findings.change(entry),
         _ => None,
     }
@@ -30,16 +37,17 @@ fn own_change<L: ExerciseLog>(
 #[tactic(auto, using(crate::proofs::Lists::list_steps), unfolding(crate::specs::Span::changes_made))]
 pub(crate) fn changes_made<L: ExerciseLog>(
     alloc: Global,
-    findings: &Register<'_, L>,
+    findings: &Findings<'_, L>,
     station: u16,
 ) -> Result<Vec<Made>, AllocError>
     requires { station < length findings.now.setting.stations }
     ensures { IfOk result (λ changes. changes.items ≡ changes_made findings.now station) }
 {
     let mut changes = Vec::new(alloc);
-    for entry in 0..entry_count(findings) {
+    for entry in 0..findings.log().entry_count() {
         if let Some(change) = own_change(findings, station, entry) {
-            changes.push(made_of(findings, entry, change))?;
+            let entry = entry as u32;
+            changes.push(Made { entry, change })?;
         }
     }
     Ok(changes)
@@ -60,10 +68,11 @@ fn no_changes(alloc: Global, stations: usize) -> Result<Vec<Vec<Made>>, AllocErr
 /// Adds what the next entry changes to the changes of its station.
 fn note_change<L: ExerciseLog>(
     all: &mut Vec<Vec<Made>>,
-    findings: &Register<'_, L>,
+    findings: &Findings<'_, L>,
     entry: usize,
 ) -> Result<(), AllocError>
     requires within { entry < length findings.now.entries }
+    requires few { entry < 4294967295 }
     requires before { AreChanges findings.now entry all.old.items }
     ensures { OnOk result (AreChanges findings.now (entry + 1) all.new.items) }
 {
@@ -71,20 +80,20 @@ fn note_change<L: ExerciseLog>(
         return Ok(());
     };
     let station = usize::from(findings.log().entry(entry).station());
-    let made = made_of(findings, entry, change);
-    all[station].push(made)?;
+    let entry = entry as u32;
+    all[station].push(Made { entry, change })?;
     Ok(())
 }
 
 /// The changes of each station, in their order, in one pass over the entries.
 pub(crate) fn changes_by_station<L: ExerciseLog>(
     alloc: Global,
-    findings: &Register<'_, L>,
+    findings: &Findings<'_, L>,
 ) -> Result<Vec<Vec<Made>>, AllocError>
     ensures { IfOk result (λ all. AreChanges findings.now (length findings.now.entries) all.items) }
 {
     let mut all = no_changes(alloc, findings.log().station_count())?;
-    for entry in 0..entry_count(findings) {
+    for entry in 0..findings.log().entry_count() {
         note_change(&mut all, findings, entry)?;
     }
     Ok(all)

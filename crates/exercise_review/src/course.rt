@@ -1,29 +1,26 @@
 //! The changes of a station, and which of them comes next for an entity: of those of the entity alone,
 //! and of those of all entities.
 
-ghost use Rattle.std.specs.Prelude.{◌≡◌, ℕ, ◌+◌, ◌<◌, ◌≤◌, ◌==◌, true, length, slice_index_or, IfOk, if◌then◌else◌};
+ghost use Rattle.std.specs.Prelude.{◌≡◌, ℕ, ◌+◌, ◌-◌, ◌<◌, ◌≤◌, ◌==◌, true, false, length, slice_index_or, IfOk, if◌then◌else◌};
 ghost use Rattle.dis_records.specs.declared.entity_state.EntityState.TheVariants.{Absent};
 ghost use Rattle.exercise_model.specs.Station.{listed_state};
 ghost use Rattle.exercise_review.specs.Span.{changes_made};
-ghost use Rattle.exercise_review.specs.Course.{change_in, is_of, moves_all, IsNextIn, AreNextIn, AreOwn, AreInOrder, IsCourse};
+ghost use Rattle.exercise_review.specs.Course.{change_in, is_of, moves_all, IsNextIn, AreNextIn, AreUpTo, AreOwn, AreInOrder, IsCourse};
 
-use crate::register::Register;
-use crate::span::Made;
+use crate::changes::Made;
 use dis_records::{EntityState, Scope};
+use exercise_findings::Findings;
 use exercise_model::{Change, ExerciseLog, state_made};
 use std::alloc::{AllocError, Global};
-
-/// How many numbers of 16 bits there are.
-const NUMBERS: usize = 65_536;
 
 /// Where the changes of one entity alone stand, for each entity. Places are numbers from 0 in the
 /// list of a station's changes; its end stands for none.
 #[derive(Drop)]
 pub(crate) struct Own {
-    /// The first of each number.
-    pub first: Vec<usize>,
+    /// The first of each number, up to the last; there is none of a greater one.
+    pub first: Vec<u32>,
     /// From each such change the next of the same number.
-    pub next: Vec<usize>,
+    pub next: Vec<u32>,
 }
 
 /// The changes of a station in their order, with the states that it opens with. Which change comes
@@ -31,22 +28,37 @@ pub(crate) struct Own {
 #[derive(Drop)]
 pub(crate) struct Course<'a> {
     pub changes: &'a [Made],
-    /// The state of each number before the first change.
+    /// The greatest number of the entities that the station opens with, or that a change is one of
+    /// alone; 0 where there are none.
+    pub last: u16,
+    /// The state of each number up to the last before the first change; those of greater ones are
+    /// Absent.
     pub starts: Vec<EntityState>,
     pub own: Own,
-    /// From each place on the first change of all entities that moves those that are Absent,
-    pub absent: Vec<usize>,
+    /// From each place on the first change of all entities that moves those that are Absent: up to the
+    /// last such change, so nothing is kept where there is none;
+    pub absent: Vec<u32>,
     /// those that are Stopped,
-    pub stopped: Vec<usize>,
+    pub stopped: Vec<u32>,
     /// and those that are Running.
-    pub running: Vec<usize>,
+    pub running: Vec<u32>,
+}
+
+/// The place that is written at a place; the end where nothing is.
+fn place_in(places: &[u32], at: usize, end: usize) -> usize
+    ensures { result ≡ slice_index_or places.now at end }
+{
+    match places.get(at) {
+        Some(place) => *place as usize,
+        None => end,
+    }
 }
 
 /// Writes a place.
-fn put(places: &mut Vec<usize>, at: usize, place: usize)
+fn put(places: &mut Vec<u32>, at: usize, place: u32)
     requires { at < length places.old.items }
     ensures count { length places.new.items ≡ length places.old.items }
-    ensures each { (k : ℕ) → slice_index_or places.new.items k 0 ≡ (if k == at then place else slice_index_or places.old.items k 0) }
+    ensures each { (end k : ℕ) → slice_index_or places.new.items k end ≡ (if k == at then place else slice_index_or places.old.items k end) }
 {
     places[at] = place;
 }
@@ -61,9 +73,25 @@ fn moves_all(change: Change, state: EntityState) -> bool
     }
 }
 
+/// From which place on no change of all entities moves those in this state: the one behind the last
+/// that does, or 0 where none does.
+fn last_move(changes: &[Made], state: EntityState) -> usize
+    ensures within { result ≤ length changes.now }
+    ensures none { (i : ℕ) → result ≤ i → i < length changes.now → moves_all state (change_in changes.now i) ≡ false }
+    ensures last { 0 < result → moves_all state (change_in changes.now (result - 1)) ≡ true }
+{
+    let mut last = 0;
+    for place in 0..changes.len() {
+        if moves_all(changes[place].change, state) {
+            last = place + 1;
+        }
+    }
+    last
+}
+
 /// Where the first change of all entities stands, from a place on, that moves those in this state;
 /// for the places behind it that is written.
-fn move_from(changes: &[Made], state: EntityState, places: &[usize], place: usize) -> usize
+fn move_from(changes: &[Made], state: EntityState, places: &[u32], place: usize) -> usize
     requires within { place < length changes.now }
     requires behind { AreNextIn (moves_all state) changes.now (place + 1) places.now }
     ensures { IsNextIn (moves_all state) changes.now place result }
@@ -71,76 +99,128 @@ fn move_from(changes: &[Made], state: EntityState, places: &[usize], place: usiz
     if moves_all(changes[place].change, state) {
         place
     } else {
-        places[place + 1]
+        place_in(places, place + 1, changes.len())
     }
 }
 
 /// From each place on, where the first change of all entities stands that moves those in this state.
-fn moves_of(alloc: Global, changes: &[Made], state: EntityState) -> Result<Vec<usize>, AllocError>
+fn moves_of(alloc: Global, changes: &[Made], state: EntityState) -> Result<Vec<u32>, AllocError>
+    requires { length changes.now < 4294967296 }
     ensures { IfOk result (λ places. AreNextIn (moves_all state) changes.now 0 places.items) }
 {
-    let end = changes.len();
-    let mut places = vec![in alloc; end; end + 1]?;
-    for done in 0..end {
-        let place = end - 1 - done;
+    let count = last_move(changes, state);
+    let mut places = vec![in alloc; changes.len() as u32; count]?;
+    for done in 0..count {
+        let place = count - 1 - done;
         let next = move_from(changes, state, &places, place);
-        put(&mut places, place, next);
+        put(&mut places, place, next as u32);
     }
     Ok(places)
 }
 
-/// Notes the change at a place, where those behind it are noted.
-fn note_own(own: &mut Own, changes: &[Made], place: usize)
-    requires within { place < length changes.now }
-    requires behind { AreOwn changes.now (place + 1) own.old }
-    ensures { AreOwn changes.now place own.new }
+/// The greater of two numbers.
+fn greater(number: u16, other: u16) -> u16
+    ensures left { number ≤ result }
+    ensures right { other ≤ result }
 {
+    if number < other { other } else { number }
+}
+
+/// The greatest number of the entities that a station opens with; 0 where there are none.
+fn last_opening(opening: &[(u16, EntityState)]) -> u16
+    ensures { (i : ℕ) → i < length opening.now → (slice_index_or opening.now i (0, Absent)).0 ≤ result }
+{
+    let mut last = 0;
+    for place in 0..opening.len() {
+        last = greater(last, opening[place].0);
+    }
+    last
+}
+
+/// The number of the entity alone that a change is one of; 0 where it is one of all.
+fn own_number(change: Change) -> u16
+    ensures { (e : ℕ) → result < e → is_of e change ≡ false }
+{
+    match change.scope {
+        Scope::One(number) => number,
+        Scope::All => 0,
+    }
+}
+
+/// The greatest number of the entities that these changes are changes of alone; 0 where there are none.
+fn last_changed(changes: &[Made]) -> u16
+    ensures { AreUpTo result changes.now }
+{
+    let mut last = 0;
+    for place in 0..changes.len() {
+        last = greater(last, own_number(changes[place].change));
+    }
+    last
+}
+
+/// Notes the change at a place, where those behind it are noted.
+fn note_own(own: &mut Own, changes: &[Made], last: u16, place: usize)
+    requires few { length changes.now < 4294967296 }
+    requires within { place < length changes.now }
+    requires numbers { AreUpTo last changes.now }
+    requires behind { AreOwn changes.now last (place + 1) own.old }
+    ensures { AreOwn changes.now last place own.new }
+{
+    let _last = last;
     if let Scope::One(entity) = changes[place].change.scope {
         let number = usize::from(entity);
         let next = own.first[number];
         put(&mut own.next, place, next);
-        put(&mut own.first, number, place);
+        put(&mut own.first, number, place as u32);
     }
 }
 
 /// No change of one entity alone is noted yet.
-fn no_own(alloc: Global, changes: &[Made]) -> Result<Own, AllocError>
-    ensures { IfOk result (AreOwn changes.now (length changes.now)) }
+fn no_own(alloc: Global, changes: &[Made], last: u16) -> Result<Own, AllocError>
+    requires { length changes.now < 4294967296 }
+    ensures { IfOk result (AreOwn changes.now last (length changes.now)) }
 {
-    let end = changes.len();
+    let end = changes.len() as u32;
     Ok(Own {
-        first: vec![in alloc; end; NUMBERS]?,
-        next: vec![in alloc; end; end]?,
+        first: vec![in alloc; end; usize::from(last) + 1]?,
+        next: vec![in alloc; end; changes.len()]?,
     })
 }
 
-/// Where the changes of one entity alone stand, for each entity.
-fn own_of(alloc: Global, changes: &[Made]) -> Result<Own, AllocError>
-    ensures { IfOk result (AreOwn changes.now 0) }
+/// Where the changes of one entity alone stand, for each entity up to the last.
+fn own_of(alloc: Global, changes: &[Made], last: u16) -> Result<Own, AllocError>
+    requires few { length changes.now < 4294967296 }
+    requires numbers { AreUpTo last changes.now }
+    ensures { IfOk result (AreOwn changes.now last 0) }
 {
-    let mut own = no_own(alloc, changes)?;
+    let mut own = no_own(alloc, changes, last)?;
     let end = changes.len();
     for done in 0..end {
-        note_own(&mut own, changes, end - 1 - done);
+        note_own(&mut own, changes, last, end - 1 - done);
     }
     Ok(own)
 }
 
 /// Writes the state of a number.
 fn start(starts: &mut Vec<EntityState>, number: u16, state: EntityState)
-    requires { length starts.old.items ≡ 65536 }
-    ensures count { length starts.new.items ≡ 65536 }
+    requires { number < length starts.old.items }
+    ensures count { length starts.new.items ≡ length starts.old.items }
     ensures each { (k : ℕ) → slice_index_or starts.new.items k Absent ≡ (if number == k then state else slice_index_or starts.old.items k Absent) }
 {
     starts[usize::from(number)] = state;
 }
 
-/// The state of each number, by the entities that a station opens with.
-fn starts_of(alloc: Global, opening: &[(u16, EntityState)]) -> Result<Vec<EntityState>, AllocError>
-    ensures count { IfOk result (λ starts. length starts.items ≡ 65536) }
+/// The state of each number up to the last, by the entities that a station opens with.
+fn starts_of(
+    alloc: Global,
+    opening: &[(u16, EntityState)],
+    last: u16,
+) -> Result<Vec<EntityState>, AllocError>
+    requires { (i : ℕ) → i < length opening.now → (slice_index_or opening.now i (0, Absent)).0 ≤ last }
+    ensures count { IfOk result (λ starts. length starts.items ≡ last + 1) }
     ensures each { IfOk result (λ starts. (e : ℕ) → slice_index_or starts.items e Absent ≡ listed_state opening.now e) }
 {
-    let mut starts = vec![in alloc; EntityState::Absent; NUMBERS]?;
+    let mut starts = vec![in alloc; EntityState::Absent; usize::from(last) + 1]?;
     for done in 0..opening.len() {
         let (number, state) = opening[opening.len() - 1 - done];
         start(&mut starts, number, state);
@@ -152,7 +232,7 @@ impl<'a> Course<'a> {
     /// The course of a station, of whose changes these are the list.
     pub fn of<L: ExerciseLog>(
         alloc: Global,
-        findings: &Register<'_, L>,
+        findings: &Findings<'_, L>,
         station: u16,
         changes: &'a [Made],
     ) -> Result<Course<'a>, AllocError>
@@ -161,10 +241,12 @@ impl<'a> Course<'a> {
         ensures { IfOk result (IsCourse findings.now station) }
     {
         let opening = findings.log().station(usize::from(station)).opening();
+        let last = greater(last_opening(opening), last_changed(changes));
         Ok(Course {
             changes,
-            starts: starts_of(alloc, opening)?,
-            own: own_of(alloc, changes)?,
+            last,
+            starts: starts_of(alloc, opening, last)?,
+            own: own_of(alloc, changes, last)?,
             absent: moves_of(alloc, changes, EntityState::Absent)?,
             stopped: moves_of(alloc, changes, EntityState::Stopped)?,
             running: moves_of(alloc, changes, EntityState::Running)?,
@@ -173,10 +255,12 @@ impl<'a> Course<'a> {
 
     /// The state of a number before the first change.
     pub fn start(&self, number: u16) -> EntityState
-        requires { AreInOrder self.now }
         ensures { result ≡ slice_index_or self.now.starts.items number Absent }
     {
-        self.starts[usize::from(number)]
+        match self.starts.get(usize::from(number)) {
+            Some(state) => *state,
+            None => EntityState::Absent,
+        }
     }
 
     /// Where the first change of one entity alone stands.
@@ -184,7 +268,7 @@ impl<'a> Course<'a> {
         requires { AreInOrder self.now }
         ensures { IsNextIn (is_of number) self.now.changes.now 0 result }
     {
-        self.own.first[usize::from(number)]
+        place_in(&self.own.first, usize::from(number), self.changes.len())
     }
 
     /// Where the next change of one entity alone stands, past such a change of it.
@@ -195,7 +279,7 @@ impl<'a> Course<'a> {
         ensures { IsNextIn (is_of number) self.now.changes.now (place + 1) result }
     {
         let _number = number;
-        self.own.next[place]
+        self.own.next[place] as usize
     }
 
     /// Where the first change of all entities stands, from a place on, that moves those in this state.
@@ -204,10 +288,11 @@ impl<'a> Course<'a> {
         requires within { place ≤ length self.now.changes.now }
         ensures { IsNextIn (moves_all state) self.now.changes.now place result }
     {
-        match state {
-            EntityState::Absent => self.absent[place],
-            EntityState::Stopped => self.stopped[place],
-            EntityState::Running => self.running[place],
-        }
+        let places = match state {
+            EntityState::Absent => &self.absent,
+            EntityState::Stopped => &self.stopped,
+            EntityState::Running => &self.running,
+        };
+        place_in(places, place, self.changes.len())
     }
 }

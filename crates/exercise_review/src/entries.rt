@@ -1,6 +1,6 @@
 //! The entries of a recording, and what they send and receive.
 
-ghost use Rattle.std.specs.Prelude.{◌≡◌, ◌<◌, length, true, option_map, slice_get, IfSome};
+ghost use Rattle.std.specs.Prelude.{◌≡◌, ◌<◌, length, true, Some, is_some, option_map, slice_get, IfSome};
 ghost use Rattle.siman_pdus.specs.Reading.{pdu_of};
 ghost use Rattle.exercise_model.specs.Entry.{is_entry};
 ghost use Rattle.exercise_model.specs.Held.{shown};
@@ -8,8 +8,21 @@ ghost use Rattle.exercise_model.specs.Meaning.{meaning};
 ghost use Rattle.exercise_review.specs.Entries.{bytes_sent, bytes_got, sent_by, got_by, meant_at};
 
 use crate::register::Register;
-use exercise_model::{EntryView, ExerciseLog, meaning_view};
+use exercise_model::{EntryView, ExerciseLog, meaning_again, meaning_view};
 use siman_pdus::PduView;
+
+/// The entry of a number in a log, if there is one.
+pub(crate) fn entry_in<L: ExerciseLog>(log: &L, entry: usize) -> Option<EntryView<'_>>
+    ensures entry { option_map shown result ≡ slice_get (L.recording log.now).entries entry }
+    ensures within { IfSome result (λ _. entry < length (L.recording log.now).entries) }
+    ensures fits { let stations = length (L.recording log.now).setting.stations in IfSome result (λ view. is_entry stations (shown view) ≡ true) }
+{
+    if entry < log.entry_count() {
+        Some(log.entry(entry))
+    } else {
+        None
+    }
+}
 
 /// The entry of a number, if there is one.
 pub(crate) fn entry_at<'a, L: ExerciseLog>(
@@ -20,12 +33,7 @@ pub(crate) fn entry_at<'a, L: ExerciseLog>(
     ensures within { IfSome result (λ _. entry < length findings.now.entries) }
     ensures fits { let stations = length findings.now.setting.stations in IfSome result (λ view. is_entry stations (shown view) ≡ true) }
 {
-    let log = findings.log();
-    if entry < log.entry_count() {
-        Some(log.entry(entry))
-    } else {
-        None
-    }
+    entry_in(findings.log(), entry)
 }
 
 /// How many entries there are.
@@ -43,6 +51,17 @@ pub(crate) fn meant<'b, L: ExerciseLog>(
     ensures { option_map pdu_of result ≡ meaning findings.now.setting.exercise bytes.now }
 {
     meaning_view(findings.log().exercise(), bytes)
+}
+
+/// What a datagram is known to mean in the exercise of a recording.
+pub(crate) fn meant_again<'b, L: ExerciseLog>(
+    findings: &Register<'_, L>,
+    bytes: &'b [u8],
+) -> PduView<'b>
+    requires { is_some (meaning findings.now.setting.exercise bytes.now) ≡ true }
+    ensures { Some (pdu_of result) ≡ meaning findings.now.setting.exercise bytes.now }
+{
+    meaning_again(findings.log().exercise(), bytes)
 }
 
 /// The bytes that a station sends at an entry.
@@ -117,18 +136,25 @@ pub(crate) fn got_by<'a, L: ExerciseLog>(
     }
 }
 
-/// The PDU of an entry, sent or received, at whatever station.
+/// The PDU of an entry of a log, sent or received, at whatever station.
 #[tactic(auto, unfolding(crate::specs::Entries::meant_at))]
+pub(crate) fn meant_in<L: ExerciseLog>(log: &L, entry: usize) -> Option<PduView<'_>>
+    ensures { option_map pdu_of result ≡ meant_at (L.recording log.now) entry }
+{
+    match entry_in(log, entry) {
+        Some(EntryView::Sent { bytes, .. } | EntryView::Received { bytes, .. }) => {
+            meaning_view(log.exercise(), bytes)
+        }
+        Some(EntryView::Told { .. }) | None => None,
+    }
+}
+
+/// The same of an entry of a recording.
 pub(crate) fn meant_at<'a, L: ExerciseLog>(
     findings: &Register<'a, L>,
     entry: usize,
 ) -> Option<PduView<'a>>
     ensures { option_map pdu_of result ≡ meant_at findings.now entry }
 {
-    match entry_at(findings, entry) {
-        Some(EntryView::Sent { bytes, .. } | EntryView::Received { bytes, .. }) => {
-            meant(findings, bytes)
-        }
-        Some(EntryView::Told { .. }) | None => None,
-    }
+    meant_in(findings.log(), entry)
 }

@@ -4,7 +4,7 @@ ghost use Rattle.std.specs.Prelude.{◌≡◌};
 ghost use Rattle.exercise_findings.specs.Number.{entry_number, entry_of};
 
 /// Stands for no entry: a number that none has.
-const NO_ENTRY: u32 = u32::MAX;
+pub(crate) const NO_ENTRY: u32 = u32::MAX;
 
 /// The number of an entry, or the one that stands for none.
 pub(crate) fn entry_number(entry: Option<u32>) -> u32

@@ -13,12 +13,12 @@ ghost use Rattle.exercise_review.specs.Heard.{asks_in};
 ghost use Rattle.exercise_review.specs.Order.{order_of, sends_order};
 ghost use Rattle.exercise_review.specs.Outcome.{receipts_of};
 ghost use Rattle.exercise_review.specs.Party.{is_copy, first_copy};
-ghost use Rattle.exercise_review.specs.Register.{order_key};
+ghost use Rattle.exercise_review.specs.Register.{order_key, key_at};
 ghost use Rattle.exercise_review.specs.Reply.{is_reply, is_news};
 ghost use Rattle.exercise_review.specs.Word.{is_settling, first_settling};
 
 use crate::answered::{Replied, with_reply};
-use crate::entries::{entry_at, meant};
+use crate::entries::{entry_at, meant_again};
 use crate::hints::Hints;
 use crate::news::{HeardNews, with_news};
 use crate::order::{Gets, Sends};
@@ -53,24 +53,26 @@ pub(crate) struct Gathered {
 /// Whether what a station receives at an entry is a copy.
 #[tactic(auto, unfolding(crate::specs::Order::gets_order, crate::specs::Entries::got_by))]
 fn brings_copy<L: ExerciseLog>(replies: &Replies<'_, L>, entry: usize, bytes: &[u8]) -> bool
-    requires { bytes_got replies.now.findings.now replies.now.station entry ≡ Some bytes.now }
+    requires got { bytes_got replies.now.findings.now replies.now.station entry ≡ Some bytes.now }
+    requires keyed { is_some (key_at replies.now.findings.now entry) ≡ true }
     ensures { let q = replies.now in result ≡ is_copy q.findings.now (order_of q.order.now) q.station entry }
 {
     let _entry = entry;
-    match meant(replies.findings, bytes) {
-        Some(pdu) => same_order(&replies.order.request, &pdu),
-        None => false,
-    }
+    let pdu = meant_again(replies.findings, bytes);
+    same_order(&replies.order.request, &pdu)
 }
 
-/// What a station sends at an entry, where these bytes mean this PDU, if that is a reply.
+/// What a station sends at an entry, where these bytes mean this PDU, if that is a reply. What is known
+/// to be a copy is not read again.
 #[tactic(auto, unfolding(crate::specs::Reply::is_reply, crate::specs::Entries::sent_by, crate::specs::Word::settles_at), using(crate::proofs::Heard::meant_sent, crate::proofs::Under::is_answering))]
 fn reply_in<'b, L: ExerciseLog>(
     replies: &Replies<'_, L>,
     entry: usize,
     bytes: &'b [u8],
     pdu: &PduView<'_>,
+    known: Option<usize>,
 ) -> Option<Reply<'b>>
+    requires known { let q = replies.now in IfSome known (λ i. is_copy q.findings.now (order_of q.order.now) q.station i ≡ true) }
     requires bytes { bytes_sent replies.now.findings.now replies.now.station entry ≡ Some bytes.now }
     requires meant { meaning replies.now.findings.now.setting.exercise bytes.now ≡ Some (pdu_of pdu.now) }
     ensures reply { let q = replies.now in is_some result ≡ is_reply q.findings.now (order_of q.order.now) q.station entry }
@@ -83,7 +85,7 @@ fn reply_in<'b, L: ExerciseLog>(
     if !answers(pdu, &replies.order.request) {
         return None;
     }
-    let copy = replies.copy_taken(entry)?;
+    let copy = replies.copy_taken(entry, known)?;
     Some(Reply {
         settles: settles(&pdu.body),
         word: Word::of(&pdu.body),
@@ -109,8 +111,11 @@ fn part_sent<'a, L: ExerciseLog>(
     replies: &Replies<'_, L>,
     entry: usize,
     bytes: &'a [u8],
+    known: Option<usize>,
 ) -> Part<'a>
-    requires { bytes_sent replies.now.findings.now replies.now.station entry ≡ Some bytes.now }
+    requires known { let q = replies.now in IfSome known (λ i. is_copy q.findings.now (order_of q.order.now) q.station i ≡ true) }
+    requires sent { bytes_sent replies.now.findings.now replies.now.station entry ≡ Some bytes.now }
+    requires keyed { is_some (key_at replies.now.findings.now entry) ≡ true }
     ensures send { let q = replies.now in result.is_send ≡ sends_order q.findings.now q.station (order_of q.order.now).request entry }
     ensures copy { result.is_copy ≡ false }
     ensures reply { let q = replies.now in is_some result.reply ≡ is_reply q.findings.now (order_of q.order.now) q.station entry }
@@ -120,19 +125,23 @@ fn part_sent<'a, L: ExerciseLog>(
     ensures answers { IfSome result.reply (λ reply. asks_in replies.now.findings.now bytes.now ≡ false) }
     ensures taken { let q = replies.now in IfSome result.reply (λ reply. is_copy q.findings.now (order_of q.order.now) q.station reply.copy ≡ true) }
 {
-    let Some(pdu) = meant(replies.findings, bytes) else {
-        return no_part();
-    };
+    let pdu = meant_again(replies.findings, bytes);
     Part {
         is_send: same_order(&replies.order.request, &pdu),
         is_copy: false,
-        reply: reply_in(replies, entry, bytes, &pdu),
+        reply: reply_in(replies, entry, bytes, &pdu, known),
     }
 }
 
 /// What an entry has to do with an order at a station.
 #[tactic(auto, unfolding(crate::specs::Reply::is_reply, crate::specs::Order::sends_order, crate::specs::Order::gets_order, crate::specs::Entries::sent_by, crate::specs::Entries::got_by, crate::specs::Entries::bytes_sent, crate::specs::Entries::bytes_got))]
-fn part_at<'a, L: ExerciseLog>(replies: &Replies<'a, L>, entry: usize) -> Part<'a>
+fn part_at<'a, L: ExerciseLog>(
+    replies: &Replies<'a, L>,
+    entry: usize,
+    known: Option<usize>,
+) -> Part<'a>
+    requires keyed { is_some (key_at replies.now.findings.now entry) ≡ true }
+    requires known { let q = replies.now in IfSome known (λ i. is_copy q.findings.now (order_of q.order.now) q.station i ≡ true) }
     ensures send { let q = replies.now in result.is_send ≡ sends_order q.findings.now q.station (order_of q.order.now).request entry }
     ensures copy { let q = replies.now in result.is_copy ≡ is_copy q.findings.now (order_of q.order.now) q.station entry }
     ensures reply { let q = replies.now in is_some result.reply ≡ is_reply q.findings.now (order_of q.order.now) q.station entry }
@@ -149,7 +158,7 @@ fn part_at<'a, L: ExerciseLog>(replies: &Replies<'a, L>, entry: usize) -> Part<'
             reply: None,
         },
         Some(EntryView::Sent { station, bytes, .. }) if station == replies.station => {
-            part_sent(replies, entry, bytes)
+            part_sent(replies, entry, bytes, known)
         }
         _ => no_part(),
     }
@@ -162,7 +171,8 @@ fn part_known<'a, L: ExerciseLog>(
     entry: usize,
     known: Option<usize>,
 ) -> Part<'a>
-    requires { let q = replies.now in IfSome known (λ i. is_copy q.findings.now (order_of q.order.now) q.station i ≡ true) }
+    requires keyed { is_some (key_at replies.now.findings.now entry) ≡ true }
+    requires known { let q = replies.now in IfSome known (λ i. is_copy q.findings.now (order_of q.order.now) q.station i ≡ true) }
     ensures send { let q = replies.now in result.is_send ≡ sends_order q.findings.now q.station (order_of q.order.now).request entry }
     ensures copy { let q = replies.now in result.is_copy ≡ is_copy q.findings.now (order_of q.order.now) q.station entry }
     ensures reply { let q = replies.now in is_some result.reply ≡ is_reply q.findings.now (order_of q.order.now) q.station entry }
@@ -178,7 +188,7 @@ fn part_known<'a, L: ExerciseLog>(
             is_copy: true,
             reply: None,
         },
-        _ => part_at(replies, entry),
+        _ => part_at(replies, entry, known),
     }
 }
 
@@ -264,6 +274,7 @@ fn gathered_under<L: ExerciseLog>(replies: &Replies<'_, L>, key: u64, hints: &mu
                 findings,
                 maker,
                 gathered.news,
+                entry,
                 part.reply,
                 &mut hints.receipts,
             ),

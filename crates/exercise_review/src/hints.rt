@@ -2,12 +2,11 @@
 
 use exercise_findings::Hint;
 
-/// Where the next key, the key of the next head and the next receipt are looked for first. What is
-/// found is the same whatever stands here.
+/// Where the next key and the next receipt are looked for first. What is found is the same whatever
+/// stands here.
 #[derive(Clone, Copy)]
 pub(crate) struct Hints {
     pub keys: Hint,
-    pub heads: Hint,
     pub receipts: Hint,
 }
 
@@ -16,7 +15,6 @@ impl Hints {
     pub(crate) const fn new() -> Hints {
         Hints {
             keys: Hint::new(),
-            heads: Hint::new(),
             receipts: Hint::new(),
         }
     }

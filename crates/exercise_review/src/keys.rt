@@ -1,19 +1,18 @@
 //! The keys by which entries are looked up.
 
-ghost use Rattle.std.specs.Prelude.{◌≡◌, ◌<◌, ◌≤◌, true, Some, is_some, length, option_map, option_and_then, IfOk, IfSome};
+ghost use Rattle.std.specs.Prelude.{◌≡◌, ◌<◌, ℕ, Option, true, Some, is_some, length, slice_get, option_map, option_and_then, IfSome};
 ghost use Rattle.siman_pdus.specs.Reading.{pdu_of};
-ghost use Rattle.exercise_model.specs.Entry.{Entry};
+ghost use Rattle.exercise_model.specs.Held.{shown};
 ghost use Rattle.exercise_model.specs.Meaning.{meaning};
 ghost use Rattle.exercise_review.specs.Entries.{bytes_sent, bytes_got, got_by};
 ghost use Rattle.siman_pdus.specs.declared.pdu.Pdu.{Pdu};
-ghost use Rattle.exercise_review.specs.Register.{request_digest, order_key, id_key, sent_key, got_key, key_at, second_at, AreKeys};
+ghost use Rattle.exercise_review.specs.Register.{request_digest, order_key, id_key, got_key, key_at, second_at, key_told, AreRegistered};
 
 use crate::digest::{at_station, digest, moved};
-use crate::ways::Keying;
+use crate::ways::{Keyed, Keying, Ways, key_kept, keyed_as, keyed_by};
 use exercise_findings::Findings;
 use exercise_model::{EntryView, ExerciseLog, Form, meaning_view};
 use siman_pdus::{PduView, is_request, request_id};
-use std::alloc::{AllocError, Global};
 
 /// A number that no station has.
 const NOWHERE: u16 = 65_535;
@@ -80,71 +79,59 @@ fn got_at<'a, L: ExerciseLog>(
     }
 }
 
-/// The key of the request that a station receives at an entry, where that can be told from the keys of
-/// the entries before.
-#[tactic(auto, using(crate::proofs::KnownKeys::key_kept, crate::proofs::KnownKeys::known_key))]
-fn known_key<L: ExerciseLog>(
+/// The key of the request that a station receives at an entry.
+fn got_order_key<L: ExerciseLog>(
     findings: &Findings<'_, L>,
-    keys: &[Option<u64>],
-    station: u16,
-    entry: usize,
-) -> Option<Option<u64>>
-    requires known { AreKeys findings.now (length keys.now) keys.now }
-    requires within { length keys.now ≤ length findings.now.entries }
-    ensures { IfSome result (λ key. key ≡ option_and_then (order_key station) (got_by findings.now station entry)) }
-{
-    let log = findings.log();
-    if log.form() == Form::Open || entry >= keys.len() {
-        return None;
-    }
-    match log.entry(entry) {
-        EntryView::Received { station: at, .. } if at == station => Some(keys[entry]),
-        _ => None,
-    }
-}
-
-/// The key of the request that a station receives at an entry, where these are the keys of the entries
-/// before.
-fn taken_key<L: ExerciseLog>(
-    findings: &Findings<'_, L>,
-    keys: &[Option<u64>],
     station: u16,
     entry: usize,
 ) -> Option<u64>
-    requires known { AreKeys findings.now (length keys.now) keys.now }
-    requires within { length keys.now ≤ length findings.now.entries }
     ensures { result ≡ option_and_then (order_key station) (got_by findings.now station entry) }
 {
-    match known_key(findings, keys, station, entry) {
-        Some(key) => key,
-        None => match got_at(findings, station, entry) {
-            Some(request) => order_key(station, &request),
-            None => None,
-        },
+    match got_at(findings, station, entry) {
+        Some(request) => order_key(station, &request),
+        None => None,
     }
 }
 
-/// The key of what a station sends at an entry, where these are the keys of those before: of the order
-/// that it makes or, for an answer, of the one that it takes up. What takes up a request is not read.
-#[tactic(auto, using(crate::proofs::Paired::answer_kept, crate::proofs::Paired::alone_kept))]
-fn sent_key<L: ExerciseLog>(
+/// How the key is told of the request that an answer takes up, which its station received at an entry.
+fn keyed_taken<L: ExerciseLog>(
     findings: &Findings<'_, L>,
-    keys: &[Option<u64>],
+    ways: &Ways,
+    station: u16,
+    entry: usize,
+    taken: usize,
+) -> Keyed
+    requires tied { AreRegistered (key_at findings.now) entry ways.now }
+    requires within { entry < length findings.now.entries }
+    requires received { is_some (got_by findings.now station taken) ≡ true }
+    ensures { key_told ways.now.keys result ≡ option_and_then (order_key station) (got_by findings.now station taken) }
+{
+    if findings.log().form() == Form::Open || taken >= entry {
+        return keyed_by(got_order_key(findings, station, taken));
+    }
+    keyed_as(ways, taken)
+}
+
+/// How the key is told of what a station sends at an entry: of the order that it makes or, for an answer,
+/// of the one that it takes up. What takes up a request is not read.
+fn keyed_sent<L: ExerciseLog>(
+    findings: &Findings<'_, L>,
+    ways: &Ways,
     station: u16,
     entry: usize,
     bytes: &[u8],
-) -> Option<u64>
-    requires known { AreKeys findings.now (length keys.now) keys.now }
-    requires within { length keys.now ≤ length findings.now.entries }
+) -> Keyed
+    requires tied { AreRegistered (key_at findings.now) entry ways.now }
+    requires within { entry < length findings.now.entries }
     requires sent { bytes_sent findings.now station entry ≡ Some bytes.now }
-    ensures { let r = findings.now in result ≡ option_and_then (sent_key r station entry) (meaning r.setting.exercise bytes.now) }
+    ensures { key_told ways.now.keys result ≡ key_at findings.now entry }
 {
     if let Some(taken) = findings.pair(entry) {
-        return taken_key(findings, keys, station, taken as usize);
+        return keyed_taken(findings, ways, station, entry, taken as usize);
     }
     match meaning_view(findings.log().exercise(), bytes) {
-        Some(pdu) => order_key(station, &pdu),
-        None => None,
+        Some(pdu) => keyed_by(order_key(station, &pdu)),
+        None => Keyed::Nothing,
     }
 }
 
@@ -174,95 +161,89 @@ fn moved_key(from: u16, to: u16, key: Option<u64>) -> Option<u64>
     }
 }
 
-/// The key of what a station receives at an entry, where that can be told from the keys of the entries
+/// How the key at a station is told of what was sent at an entry of another, or of its own.
+fn keyed_moved(ways: &Ways, from: u16, to: u16, source: usize) -> Keyed
+    ensures { (keys : ℕ → Option ℕ) (n : ℕ) (p : Pdu) → AreRegistered keys n ways.now → source < n → keys source ≡ order_key from p → key_told ways.now.keys result ≡ order_key to p }
+{
+    if from == to {
+        return keyed_as(ways, source);
+    }
+    keyed_by(moved_key(from, to, key_kept(ways, source)))
+}
+
+/// How the key is told of what a station receives at an entry, where that is known from the entries
 /// before. What sends the same bytes has the key of the same request at its own station; what takes up
 /// a request is none, and brings no key. An open recording keys answers too, and is read.
-#[tactic(auto, using(crate::proofs::Moved::answer_brought, crate::proofs::Moved::request_brought))]
-fn brought_key<L: ExerciseLog>(
+fn keyed_brought<L: ExerciseLog>(
     findings: &Findings<'_, L>,
-    keys: &[Option<u64>],
+    ways: &Ways,
     station: u16,
     entry: usize,
-) -> Option<Option<u64>>
-    requires known { AreKeys findings.now (length keys.now) keys.now }
-    requires within { length keys.now ≤ length findings.now.entries }
+) -> Option<Keyed>
+    requires tied { AreRegistered (key_at findings.now) entry ways.now }
+    requires within { entry < length findings.now.entries }
     requires received { is_some (bytes_got findings.now station entry) ≡ true }
-    ensures { IfSome result (λ key. key ≡ key_at findings.now entry) }
+    ensures { IfSome result (λ keyed. key_told ways.now.keys keyed ≡ key_at findings.now entry) }
 {
     let log = findings.log();
     if log.form() == Form::Open {
         return None;
     }
     let source = findings.source_at_hand(entry)? as usize;
-    if source >= keys.len() {
+    if source >= entry {
         return None;
     }
     if findings.pair(source).is_some() {
-        return Some(None);
+        return Some(Keyed::Nothing);
     }
-    Some(moved_key(log.entry(source).station(), station, keys[source]))
+    Some(keyed_moved(ways, log.entry(source).station(), station, source))
 }
 
-/// The key of what a station receives at an entry, where these are the keys of those before. What came
-/// from one of them is not read.
-fn received_key<L: ExerciseLog>(
+/// How the key is told of what a station receives at an entry. What came from an entry before is not
+/// read.
+fn keyed_received<L: ExerciseLog>(
     findings: &Findings<'_, L>,
-    keys: &[Option<u64>],
+    ways: &Ways,
     station: u16,
     entry: usize,
     bytes: &[u8],
-) -> Option<u64>
-    requires known { AreKeys findings.now (length keys.now) keys.now }
-    requires within { length keys.now ≤ length findings.now.entries }
+) -> Keyed
+    requires tied { AreRegistered (key_at findings.now) entry ways.now }
+    requires within { entry < length findings.now.entries }
     requires received { bytes_got findings.now station entry ≡ Some bytes.now }
-    ensures { result ≡ key_at findings.now entry }
+    ensures { key_told ways.now.keys result ≡ key_at findings.now entry }
 {
-    if let Some(key) = brought_key(findings, keys, station, entry) {
-        return key;
+    if let Some(keyed) = keyed_brought(findings, ways, station, entry) {
+        return keyed;
     }
     let log = findings.log();
     match meaning_view(log.exercise(), bytes) {
-        Some(pdu) => got_key(log.form(), station, &pdu),
-        None => None,
+        Some(pdu) => keyed_by(got_key(log.form(), station, &pdu)),
+        None => Keyed::Nothing,
     }
 }
 
-/// The key of an entry, where these are the keys of those before.
+/// How the key of an entry is told, where these are the ways of the entries before and this is what
+/// stands there.
 #[tactic(auto, unfolding(crate::specs::Register::key_at, crate::specs::Entries::bytes_sent, crate::specs::Entries::bytes_got))]
-fn key_at<L: ExerciseLog>(
+pub(crate) fn keyed_at<L: ExerciseLog>(
     findings: &Findings<'_, L>,
-    keys: &[Option<u64>],
+    ways: &Ways,
+    view: EntryView<'_>,
     entry: usize,
-) -> Option<u64>
-    requires known { AreKeys findings.now (length keys.now) keys.now }
-    requires within { length keys.now ≤ length findings.now.entries }
-    requires entry { entry < length findings.now.entries }
-    ensures { result ≡ key_at findings.now entry }
+) -> Keyed
+    requires tied { AreRegistered (key_at findings.now) entry ways.now }
+    requires within { entry < length findings.now.entries }
+    requires at { slice_get findings.now.entries entry ≡ Some (shown view) }
+    ensures { key_told ways.now.keys result ≡ key_at findings.now entry }
 {
-    let log = findings.log();
-    match log.entry(entry) {
-        EntryView::Sent { station, bytes, .. } => sent_key(findings, keys, station, entry, bytes),
+    match view {
+        EntryView::Sent { station, bytes, .. } => keyed_sent(findings, ways, station, entry, bytes),
         EntryView::Received { station, bytes, .. } => {
-            received_key(findings, keys, station, entry, bytes)
+            keyed_received(findings, ways, station, entry, bytes)
         }
-        EntryView::Told { .. } => None,
+        EntryView::Told { .. } => Keyed::Nothing,
     }
-}
-
-/// The keys of all entries. They take memory.
-pub(crate) fn keys_of<L: ExerciseLog>(
-    alloc: Global,
-    findings: &Findings<'_, L>,
-) -> Result<Vec<Option<u64>>, AllocError>
-    ensures { IfOk result (λ keys. AreKeys findings.now (length findings.now.entries) keys.items) }
-{
-    let end = findings.log().entry_count();
-    let mut keys = Vec::with_capacity(alloc, end)?;
-    for entry in 0..end {
-        let key = key_at(findings, &keys, entry);
-        keys.push(key)?;
-    }
-    Ok(keys)
 }
 
 /// The second key of an entry, in an open recording.
@@ -283,46 +264,6 @@ fn second_at<L: ExerciseLog>(log: &L, entry: usize) -> Option<u64>
             None => None,
         },
         EntryView::Told { .. } => None,
-    }
-}
-
-/// The keys of entries by the orders that they have to do with, each worked out where it is asked for.
-#[derive(Drop)]
-pub(crate) struct OrderKeys<'b, 'a, L: ExerciseLog> {
-    pub findings: &'b Findings<'a, L>,
-}
-
-impl<L: ExerciseLog> Keying for OrderKeys<'_, '_, L> {
-    ghost keys = { λ q. key_at q.findings.now };
-
-    #[tactic(auto, using(crate::proofs::KnownKeys::key_beyond, crate::proofs::KnownKeys::no_keys))]
-    fn key(&self, entry: usize) -> Option<u64> {
-        if entry < self.findings.log().entry_count() {
-            key_at(self.findings, &[], entry)
-        } else {
-            None
-        }
-    }
-}
-
-/// The same, where they are known.
-#[derive(Drop)]
-pub(crate) struct KnownKeys<'b, 'a, L: ExerciseLog> {
-    pub findings: &'b Findings<'a, L>,
-    pub keys: &'b [Option<u64>],
-    ghost tied: { AreKeys findings.now (length findings.now.entries) keys.now },
-}
-
-impl<L: ExerciseLog> Keying for KnownKeys<'_, '_, L> {
-    ghost keys = { λ q. key_at q.findings.now };
-
-    #[tactic(auto, using(crate::proofs::KnownKeys::key_kept, crate::proofs::KnownKeys::key_beyond))]
-    fn key(&self, entry: usize) -> Option<u64> {
-        if entry < self.keys.len() {
-            self.keys[entry]
-        } else {
-            None
-        }
     }
 }
 

@@ -6,8 +6,9 @@
 //! logged ([`traces_of`]): done, refused, answered, pending, unheard, unanswered, lost or unknown.
 //! [`lives_of`] is when an entity was there and in which state, and [`missing_at`] the datagram that a
 //! log received and no log sent. [`review_of`] tells all orders at their parties, the lives of all
-//! entities and the counts of both, within a limit of lines, and [`keeps`] which of it filters keep;
-//! [`receipts_counted`] tells how often each datagram that was sent was received.
+//! entities and the counts of both, within a limit of lines, [`Reviewed`] the same one after the other
+//! without memory, and [`keeps`] which of it filters keep; [`receipts_counted`] tells how often each
+//! datagram that was sent was received.
 //! The laws: [`fates_hold`] says what each fate means in every run that explains the recording,
 //! [`one_side_is_not_enough`] which fates no single log can tell, [`lives_are_states`] that the
 //! stretches of a life are the states of the entity at each place, [`changes_are_made`] that a change
@@ -17,12 +18,14 @@
 //!
 //! A [`Register`] keeps the entries by the orders that they make, bring or take up, and where each
 //! datagram was received. What has to do with an order at a station is looked for among those entries
-//! alone that have its digest there; what else is asked goes over the whole log.
+//! alone that have its digest there; what else is asked goes over the whole log. [`number_at`] and
+//! [`put_number`] are inner doors to its columns, for the crate above that keeps columns of its own.
 #![tactic(auto)]
 
 mod answered;
 mod change_laws;
 mod changes;
+mod column;
 mod conversion_laws;
 mod counting;
 mod course;
@@ -33,6 +36,7 @@ mod fate;
 mod fault;
 mod filter;
 mod gathered;
+mod hearing;
 mod hints;
 mod keys;
 mod laws;
@@ -51,8 +55,13 @@ mod receipts;
 mod register;
 mod reply;
 mod review;
+mod reviewed;
+mod row;
+mod sources;
 mod span;
 mod stations;
+mod stay;
+mod stays;
 mod tally;
 mod told;
 mod walk;
@@ -60,6 +69,7 @@ mod ways;
 mod word;
 
 pub use change_laws::changes_are_made;
+pub use column::{number_at, put_number};
 pub use conversion_laws::conversion_keeps_views;
 pub use exercise_findings::Missing;
 pub use fate::{Fate, Traces, fate_of, traces_of};
@@ -77,6 +87,7 @@ pub use receipts::receipts_counted;
 pub use register::Register;
 pub use reply::change_of_order;
 pub use review::{MOST_LINES, Review, review_of};
+pub use reviewed::Reviewed;
 pub use span::{Span, spans_of};
 pub use tally::{FateCounts, StationCounts};
 pub use told::OrderAt;

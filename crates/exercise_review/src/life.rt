@@ -5,9 +5,8 @@ ghost use Rattle.exercise_model.specs.Station.{is_entity};
 ghost use Rattle.exercise_review.specs.Life.{life_in, stretch_of, lived_on, lives_of};
 ghost use Rattle.exercise_review.specs.Span.{changes_made, lived_by};
 
-use crate::changes::changes_made;
+use crate::changes::{Made, changes_made};
 use crate::register::Register;
-use crate::span::Made;
 use dis_records::EntityState;
 use exercise_model::{ExerciseLog, is_entity};
 use std::alloc::{AllocError, Global};
@@ -26,15 +25,15 @@ pub struct Stretch {
 
 /// A life so far: the stretches that ended, and the state since an entry, or since the start.
 #[derive(Drop)]
-pub(crate) struct Life {
-    pub ended: Vec<Stretch>,
-    pub state: EntityState,
-    pub since: Option<usize>,
+struct Life {
+    ended: Vec<Stretch>,
+    state: EntityState,
+    since: Option<usize>,
 }
 
 /// Ends the stretch that a life is in, at an entry or with the log; there is none where the entity
 /// is Absent.
-pub(crate) fn end_stretch(life: &mut Life, until: Option<usize>) -> Result<(), AllocError>
+fn end_stretch(life: &mut Life, until: Option<usize>) -> Result<(), AllocError>
     ensures ended { OnOk result (life.new.ended.items ≡ life.old.ended.items ++ stretch_of (life_in life.old) until) }
     ensures state { life.new.state ≡ life.old.state }
     ensures since { life.new.since ≡ life.old.since }
@@ -52,7 +51,7 @@ pub(crate) fn end_stretch(life: &mut Life, until: Option<usize>) -> Result<(), A
 }
 
 /// A life after an entry, which leaves the entity in a state.
-pub(crate) fn live_on(life: &mut Life, entry: usize, state: EntityState) -> Result<(), AllocError>
+fn live_on(life: &mut Life, entry: usize, state: EntityState) -> Result<(), AllocError>
     ensures { OnOk result (life_in life.new ≡ lived_on (life_in life.old) entry state) }
 {
     if state == life.state {
@@ -70,7 +69,7 @@ fn live_by(life: &mut Life, entity: u16, changes: &[Made]) -> Result<(), AllocEr
 {
     for made in changes {
         let state = made.change.changed(entity, life.state);
-        live_on(life, made.entry, state)?;
+        live_on(life, made.entry as usize, state)?;
     }
     Ok(())
 }
@@ -112,7 +111,7 @@ pub fn lives_of<L: ExerciseLog>(
     ensures { IfOk result (λ stretches. stretches.items ≡ lives_of findings.now station entity) }
 {
     if is_entity(entity) {
-        let changes = changes_made(alloc, findings, station)?;
+        let changes = changes_made(alloc, findings.findings(), station)?;
         lives_by(alloc, findings, station, entity, &changes)
     } else {
         Ok(Vec::new(alloc))

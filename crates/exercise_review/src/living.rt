@@ -1,18 +1,16 @@
 //! How an entity lived, by the course of its station: from one change to the next that may move it.
 
-ghost use Rattle.std.specs.Prelude.{◌≡◌, ℕ, ◌+◌, ◌<◌, ◌≤◌, [], false, length, slice_index_or, IfOk, OnOk};
-ghost use Rattle.dis_records.specs.declared.entity_state.EntityState.TheVariants.{Absent};
-ghost use Rattle.exercise_model.specs.Station.{listed_state};
-ghost use Rattle.exercise_review.specs.Life.{life_in};
-ghost use Rattle.exercise_review.specs.Span.{lived_by};
-ghost use Rattle.exercise_review.specs.Course.{is_of, change_in, IsNextIn, IsStayTo, AreInOrder, lives_in};
+ghost use Rattle.std.specs.Prelude.{◌≡◌, ℕ, ◌+◌, ◌<◌, ◌≤◌, [], false, length, map};
+ghost use Rattle.exercise_review.specs.Room.{AddsWithin};
+ghost use Rattle.exercise_review.specs.Course.{is_of, IsNextIn, IsStayTo, AreInOrder, start_in, lives_in};
+ghost use Rattle.exercise_review.specs.Stay.{stay_of, stretch_so_far};
 
 use crate::course::Course;
-use crate::life::{Life, Stretch, end_stretch, live_on};
-use crate::span::Made;
-use dis_records::{EntityState, Scope};
-use exercise_model::{Change, LARGEST_ENTITY};
-use std::alloc::{AllocError, Global};
+use crate::entry_number::NO_ENTRY;
+use crate::fault::ReviewFault;
+use crate::stay::{Stay, end_stay, stay_on};
+use dis_records::EntityState;
+use exercise_model::LARGEST_ENTITY;
 
 /// Where the next change of an entity alone stands past a place, where this is the next from that
 /// place on.
@@ -41,22 +39,44 @@ fn stay_to(course: &Course<'_>, entity: u16, state: EntityState, own: usize, pla
     if of_all < own { of_all } else { own }
 }
 
-/// A life of an entity after the changes of a course. It looks at those that are its own, and of
-/// the others at those that move it.
-fn live_by(life: &mut Life, entity: u16, course: &Course<'_>) -> Result<(), AllocError>
+/// The stay that an entity of a station is in before the first change.
+fn start_stay(course: &Course<'_>, station: u16, entity: u16) -> Stay
     requires { AreInOrder course.now }
-    ensures { OnOk result (life_in life.new ≡ lived_by entity (life_in life.old) course.now.changes.now) }
+    ensures { result ≡ stay_of station entity (stretch_so_far (start_in course.now entity)) }
 {
+    Stay {
+        station,
+        entity,
+        state: course.start(entity),
+        from: NO_ENTRY,
+        until: NO_ENTRY,
+    }
+}
+
+/// Adds the stays of an entity of a station, by the course of that station, where there is room for so
+/// many. It looks at the changes that are its own, and of the others at those that move it.
+pub(crate) fn push_life(
+    stays: &mut Vec<Stay>,
+    most: usize,
+    course: &Course<'_>,
+    station: u16,
+    entity: u16,
+) -> Result<(), ReviewFault>
+    requires order { AreInOrder course.now }
+    requires room { length stays.old.items ≤ most }
+    ensures { AddsWithin most stays.old.items (map (stay_of station entity) (lives_in course.now entity)) result stays.new.items }
+{
+    let mut stay = start_stay(course, station, entity);
     let mut own = course.first_own(entity);
-    let mut place = stay_to(course, entity, life.state, own, 0);
+    let mut place = stay_to(course, entity, stay.state, own, 0);
     while place < course.changes.len() {
         let made = course.changes[place];
-        let state = made.change.changed(entity, life.state);
-        live_on(life, made.entry, state)?;
+        let state = made.change.changed(entity, stay.state);
+        stay_on(stays, most, &mut stay, made.entry, state)?;
         own = own_past(course, entity, own, place);
-        place = stay_to(course, entity, life.state, own, place + 1);
+        place = stay_to(course, entity, stay.state, own, place + 1);
     }
-    Ok(())
+    end_stay(stays, most, stay, NO_ENTRY)
 }
 
 /// Whether there may be something to tell of an entity: it is there before the first change, or some
@@ -74,81 +94,19 @@ pub(crate) fn may_live(course: &Course<'_>, entity: u16) -> bool
     }
 }
 
-/// The greater of two numbers.
-fn greater(number: u16, other: u16) -> u16
-    ensures left { number ≤ result }
-    ensures right { other ≤ result }
-{
-    if number < other { other } else { number }
-}
-
-/// The greatest number of the entities that a station opens with; 0 where there are none.
-fn last_opening(opening: &[(u16, EntityState)]) -> u16
-    ensures { (e : ℕ) → result < e → listed_state opening.now e ≡ Absent }
-{
-    let mut last = 0;
-    for place in 0..opening.len() {
-        last = greater(last, opening[place].0);
-    }
-    last
-}
-
-/// The number of the entity alone that a change is one of; 0 where it is one of all.
-fn own_number(change: Change) -> u16
-    ensures { (e : ℕ) → result < e → is_of e change ≡ false }
-{
-    match change.scope {
-        Scope::One(number) => number,
-        Scope::All => 0,
-    }
-}
-
-/// The greatest number of the entities that these changes are changes of alone; 0 where there are none.
-fn last_changed(changes: &[Made]) -> u16
-    ensures { (e i : ℕ) → result < e → i < length changes.now → is_of e (change_in changes.now i) ≡ false }
-{
-    let mut last = 0;
-    for place in 0..changes.len() {
-        last = greater(last, own_number(changes[place].change));
-    }
-    last
-}
-
 /// The greatest number of the entities of which there may be something to tell, by the course of a
-/// station that opens with these.
-pub(crate) fn last_living(course: &Course<'_>, opening: &[(u16, EntityState)]) -> u16
-    requires order { AreInOrder course.now }
-    requires starts { (e : ℕ) → slice_index_or course.now.starts.items e Absent ≡ listed_state opening.now e }
+/// station.
+pub(crate) fn last_living(course: &Course<'_>) -> u16
+    requires { AreInOrder course.now }
     ensures within { result ≤ 65533 }
     ensures none { (e : ℕ) → result < e → e ≤ 65533 → lives_in course.now e ≡ [] }
 {
     if course.next_of_all(EntityState::Absent, 0) < course.changes.len() {
         return LARGEST_ENTITY;
     }
-    let last = greater(last_opening(opening), last_changed(course.changes));
-    if last < LARGEST_ENTITY {
-        last
+    if course.last < LARGEST_ENTITY {
+        course.last
     } else {
         LARGEST_ENTITY
     }
-}
-
-/// The stretches of the life of an entity, by the course of its station.
-pub(crate) fn lives_in(
-    alloc: Global,
-    course: &Course<'_>,
-    entity: u16,
-) -> Result<Vec<Stretch>, AllocError>
-    requires { AreInOrder course.now }
-    ensures { IfOk result (λ stretches. stretches.items ≡ lives_in course.now entity) }
-{
-    let mut life = Life {
-        ended: Vec::new(alloc),
-        state: course.start(entity),
-        since: None,
-    };
-    live_by(&mut life, entity, course)?;
-    end_stretch(&mut life, None)?;
-    let Life { ended, .. } = life;
-    Ok(ended)
 }

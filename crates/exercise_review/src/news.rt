@@ -4,6 +4,7 @@ ghost use Rattle.std.specs.Prelude.{◌≡◌, false, IfSome, if◌then◌else�
 ghost use Rattle.exercise_review.specs.Gathered.{settles_in, first_news, last_news, word_in, IsSpoken};
 ghost use Rattle.exercise_review.specs.Heard.{asks_in};
 ghost use Rattle.exercise_review.specs.News.{earlier, later};
+ghost use Rattle.exercise_review.specs.Sourced.{IsAnswerIn};
 ghost use Rattle.exercise_review.specs.Word.{word_at};
 
 use crate::receipt::Receipts;
@@ -74,16 +75,18 @@ fn later<L: ExerciseLog>(
     }
 }
 
-/// Where a maker received a reply first and last.
+/// Where a maker received a reply first and last, which an entry sends.
 #[tactic(auto, using(crate::proofs::Replied::first_word, crate::proofs::Replied::last_word))]
 fn receipts_of<L: ExerciseLog>(
     findings: &Register<'_, L>,
     maker: Option<u16>,
+    entry: usize,
     reply: Reply<'_>,
     hint: &mut Hint,
 ) -> (Option<usize>, Option<usize>)
     requires word { reply.word ≡ word_in findings.now reply.bytes.now }
     requires answers { asks_in findings.now reply.bytes.now ≡ false }
+    requires sent { IsAnswerIn findings.now entry reply.bytes.now }
     ensures first { result.0 ≡ first_news findings.now maker (Some reply.entry) }
     ensures last { result.1 ≡ last_news findings.now maker (Some reply.entry) }
     ensures words { IfSome result.0 (λ i. reply.entry.word ≡ word_at findings.now i) × IfSome result.1 (λ i. reply.entry.word ≡ word_at findings.now i) }
@@ -91,7 +94,7 @@ fn receipts_of<L: ExerciseLog>(
     let Some(maker) = maker else {
         return (None, None);
     };
-    match findings.receipts(maker, reply.bytes, hint) {
+    match findings.receipts(entry, maker, reply.bytes, hint) {
         Some(Receipts { first, last }) => (Some(first as usize), Some(last as usize)),
         None => (None, None),
     }
@@ -103,6 +106,7 @@ pub(crate) fn with_news<L: ExerciseLog>(
     findings: &Register<'_, L>,
     maker: Option<u16>,
     behind: HeardNews,
+    entry: usize,
     reply: Option<Reply<'_>>,
     hint: &mut Hint,
 ) -> HeardNews
@@ -110,6 +114,7 @@ pub(crate) fn with_news<L: ExerciseLog>(
     requires last { IsSpoken findings.now behind.last }
     requires word { IfSome reply (λ x. x.word ≡ word_in findings.now x.bytes.now) }
     requires answers { IfSome reply (λ x. asks_in findings.now x.bytes.now ≡ false) }
+    requires sent { IfSome reply (λ x. IsAnswerIn findings.now entry x.bytes.now) }
     ensures settled { result.settled.entry ≡ (if settles_in reply.entry then earlier behind.settled.entry (first_news findings.now maker reply.entry) else behind.settled.entry) }
     ensures last { result.last.entry ≡ later behind.last.entry (last_news findings.now maker reply.entry) }
     ensures words { IsSpoken findings.now result.settled × IsSpoken findings.now result.last }
@@ -117,7 +122,7 @@ pub(crate) fn with_news<L: ExerciseLog>(
     let Some(reply) = reply else {
         return behind;
     };
-    let (first, last) = receipts_of(findings, maker, reply, hint);
+    let (first, last) = receipts_of(findings, maker, entry, reply, hint);
     let settled = if reply.settles {
         earlier(findings, behind.settled, first, reply.word)
     } else {

@@ -1,16 +1,16 @@
 //! Orders, each told by the entry at which it first stands.
 
-ghost use Rattle.std.specs.Prelude.{◌≡◌, ◌<◌, ◌&&◌, option_map, option_and_then, slice_get, Some, None, length, if◌then◌else◌};
+ghost use Rattle.std.specs.Prelude.{◌≡◌, ◌<◌, ◌&&◌, true, is_some, option_map, option_and_then, slice_get, Some, None, length, if◌then◌else◌};
 ghost use Rattle.siman_pdus.specs.Answers.{same_id};
 ghost use Rattle.siman_pdus.specs.Reading.{pdu_of};
 ghost use Rattle.siman_pdus.specs.Role.{is_request_body};
 ghost use Rattle.exercise_model.specs.Held.{shown};
 ghost use Rattle.exercise_model.specs.Meaning.{meaning};
 ghost use Rattle.exercise_review.specs.Entries.{bytes_sent, sent_by};
-ghost use Rattle.exercise_review.specs.Register.{told_key};
+ghost use Rattle.exercise_review.specs.Register.{key_at, told_key};
 ghost use Rattle.exercise_review.specs.Order.{order_of, sends_order, gets_order, gets_anywhere, is_outside, is_for_station, head_sent, head_got, head_of, made_by, order_at, sends_of, sends_under_id, is_first_under_id};
 
-use crate::entries::{entry_at, entry_count, got_by, meant, sent_by};
+use crate::entries::{entry_at, entry_count, got_by, meant, meant_again, sent_by};
 use crate::keys::{id_key, order_key};
 use crate::question::{Question, first_below};
 use crate::register::Register;
@@ -214,9 +214,9 @@ fn is_head_got<L: ExerciseLog>(findings: &Register<'_, L>, pdu: &PduView<'_>, en
     findings.is_first_by_second(&gets, entry)
 }
 
-/// The order that a station makes by what it sends at an entry, if that is the head of it. What takes
-/// up a request makes none.
-#[tactic(auto, unfolding(crate::specs::Entries::sent_by), using(crate::proofs::Paired::no_head))]
+/// The order that a station makes by what it sends at an entry that has a key, if that is the head of
+/// it. What takes up a request makes none.
+#[tactic(auto, unfolding(crate::specs::Entries::sent_by), using(crate::proofs::Paired::no_head, crate::proofs::Keyed::sent_meant))]
 fn order_sent<'a, L: ExerciseLog>(
     findings: &Register<'a, L>,
     station: u16,
@@ -225,13 +225,14 @@ fn order_sent<'a, L: ExerciseLog>(
 ) -> Option<Order<'a>>
     requires within { entry < length findings.now.entries }
     requires sent { bytes_sent findings.now station entry ≡ Some bytes.now }
+    requires keyed { is_some (key_at findings.now entry) ≡ true }
     ensures { let p = meaning findings.now.setting.exercise bytes.now in
         option_map order_of result ≡ (if same_id (option_and_then (head_sent findings.now station) p) (Some entry) then option_map (made_by entry (Some station)) p else None) }
 {
     if findings.pair(entry).is_some() {
         return None;
     }
-    let request = meant(findings, bytes)?;
+    let request = meant_again(findings, bytes);
     if !is_head_sent(findings, station, &request, entry) {
         return None;
     }
@@ -272,19 +273,23 @@ fn order_got<'a, L: ExerciseLog>(
 pub fn order_at<'a, L: ExerciseLog>(findings: &Register<'a, L>, entry: usize) -> Option<Order<'a>>
     ensures { option_map order_of result ≡ order_at findings.now entry }
 {
-    let view = entry_at(findings, entry)?;
-    order_in(findings, view, entry)
+    if entry < entry_count(findings) {
+        order_keyed(findings, entry)
+    } else {
+        None
+    }
 }
 
-/// The order of which an entry is the head, where this is what stands there.
+/// The order of which an entry that has a key is the head, where this is what stands there.
 #[tactic(auto, unfolding(crate::specs::Order::order_at, crate::specs::Order::head_of, crate::specs::Entries::bytes_sent))]
-pub(crate) fn order_in<'a, L: ExerciseLog>(
+fn order_in<'a, L: ExerciseLog>(
     findings: &Register<'a, L>,
     view: EntryView<'a>,
     entry: usize,
 ) -> Option<Order<'a>>
     requires within { entry < length findings.now.entries }
     requires entry { slice_get findings.now.entries entry ≡ Some (shown view) }
+    requires keyed { is_some (key_at findings.now entry) ≡ true }
     ensures { option_map order_of result ≡ order_at findings.now entry }
 {
     match view {
@@ -292,6 +297,21 @@ pub(crate) fn order_in<'a, L: ExerciseLog>(
         EntryView::Received { bytes, .. } => order_got(findings, bytes, entry),
         EntryView::Told { .. } => None,
     }
+}
+
+/// The same as [`order_at`], of an entry that is there: one without a key is not read.
+#[tactic(auto, using(crate::proofs::Keyed::no_order))]
+pub(crate) fn order_keyed<'a, L: ExerciseLog>(
+    findings: &Register<'a, L>,
+    entry: usize,
+) -> Option<Order<'a>>
+    requires { entry < length findings.now.entries }
+    ensures { option_map order_of result ≡ order_at findings.now entry }
+{
+    if findings.key(entry).is_none() {
+        return None;
+    }
+    order_in(findings, findings.log().entry(entry), entry)
 }
 
 impl Order<'_> {

@@ -9,7 +9,7 @@ ghost use Rattle.exercise_review.specs.Register.{request_digest};
 ghost use Rattle.exercise_review.specs.Outcome.{stamp_at, took_between, took, sends_told, outcome_here, outcome_outside, outcome_nowhere, outcome_at, outcomes_of};
 
 use crate::digest::digest_under;
-use crate::entries::entry_at;
+use crate::entries::entry_in;
 use crate::fate::{Fate, fate_of, traces_by};
 use crate::gathered::{Gathered, gathered_of};
 use crate::hints::Hints;
@@ -20,7 +20,6 @@ use crate::party::{Outsider, Party, ToldFrom, is_maker};
 use crate::register::Register;
 use crate::reply::Replies;
 use crate::word::{Word, telling, word_of};
-use exercise_findings::Hint;
 use exercise_model::{EntryView, ExerciseLog};
 use std::alloc::{AllocError, Global};
 
@@ -53,15 +52,22 @@ pub struct Outcome {
     pub fate: Fate,
 }
 
-/// The stamp of an entry, by the clock of its station.
+/// The stamp of an entry of a log, by the clock of its station.
 #[tactic(auto, unfolding(crate::specs::Outcome::stamp_at))]
-pub(crate) fn stamp_at<L: ExerciseLog>(findings: &Register<'_, L>, entry: usize) -> Option<u64>
-    ensures { result ≡ stamp_at findings.now entry }
+pub(crate) fn stamp_in<L: ExerciseLog>(log: &L, entry: usize) -> Option<u64>
+    ensures { result ≡ stamp_at (L.recording log.now) entry }
 {
-    match entry_at(findings, entry) {
+    match entry_in(log, entry) {
         Some(EntryView::Sent { stamp, .. } | EntryView::Received { stamp, .. }) => Some(stamp),
         Some(EntryView::Told { .. }) | None => None,
     }
+}
+
+/// The stamp of an entry of a recording.
+fn stamp_at<L: ExerciseLog>(findings: &Register<'_, L>, entry: usize) -> Option<u64>
+    ensures { result ≡ stamp_at findings.now entry }
+{
+    stamp_in(findings.log(), entry)
 }
 
 /// How long it took from an entry to another by the clock of their station, unless it was set back.
@@ -103,16 +109,17 @@ pub(crate) struct Asked {
     pub own: Option<Gathered>,
 }
 
-/// What is asked of an order at each of its parties alike.
+/// What is asked of an order whose request has this digest at each of its parties alike.
 #[tactic(auto, unfolding(crate::specs::Order::sends_of))]
-pub(crate) fn asked_of<L: ExerciseLog>(
+fn asked_by<L: ExerciseLog>(
     findings: &Register<'_, L>,
     order: &Order<'_>,
+    digest: Option<u64>,
     hints: &mut Hints,
 ) -> Asked
+    requires { digest ≡ request_digest (pdu_of order.now.request) }
     ensures { IsAsked findings.now (order_of order.now) result }
 {
-    let digest = request_digest(&order.request);
     let Some(station) = order.maker else {
         return Asked {
             digest,
@@ -133,30 +140,35 @@ pub(crate) fn asked_of<L: ExerciseLog>(
     }
 }
 
-/// The digest of the request of an order that a station made, told from the key of its head where a hint
-/// leads to that, without a look at the request. Where that key stands instead is kept.
+/// What is asked of an order at each of its parties alike.
+pub(crate) fn asked_of<L: ExerciseLog>(
+    findings: &Register<'_, L>,
+    order: &Order<'_>,
+    hints: &mut Hints,
+) -> Asked
+    ensures { IsAsked findings.now (order_of order.now) result }
+{
+    asked_by(findings, order, request_digest(&order.request), hints)
+}
+
+/// The digest of the request of an order that a station made, told from the key of its head.
 fn digest_at_head<L: ExerciseLog>(
     findings: &Register<'_, L>,
     order: &Order<'_>,
     maker: u16,
-    hint: &mut Hint,
 ) -> Option<u64>
     requires maker { order.now.maker ≡ Some maker }
     requires head { order_at findings.now order.now.head ≡ Some (order_of order.now) }
     ensures { result ≡ request_digest (pdu_of order.now.request) }
 {
-    if let Some(key) = findings.key_near(order.head, hint) {
-        return Some(digest_under(maker, key));
+    match findings.key(order.head) {
+        Some(key) => Some(digest_under(maker, key)),
+        None => request_digest(&order.request),
     }
-    let digest = request_digest(&order.request);
-    if let Some(key) = key_under(maker, digest) {
-        let _last = findings.last_near(key, hint);
-    }
-    digest
 }
 
-/// The same of an order that stands at its head: where nothing stands under its key behind that, it
-/// was sent once.
+/// The same as [`asked_of`], of an order that stands at its head: where nothing stands under its key
+/// behind that, it was sent once.
 pub(crate) fn asked_at_head<L: ExerciseLog>(
     findings: &Register<'_, L>,
     order: &Order<'_>,
@@ -165,13 +177,17 @@ pub(crate) fn asked_at_head<L: ExerciseLog>(
     requires { order_at findings.now order.now.head ≡ Some (order_of order.now) }
     ensures { IsAsked findings.now (order_of order.now) result }
 {
-    match order.maker {
-        Some(maker) if findings.is_last(order.head) => Asked {
-            digest: digest_at_head(findings, order, maker, &mut hints.heads),
-            sends: Some(1),
-            own: None,
-        },
-        _ => asked_of(findings, order, hints),
+    let Some(maker) = order.maker else {
+        return asked_of(findings, order, hints);
+    };
+    let digest = digest_at_head(findings, order, maker);
+    if !findings.is_last(order.head) {
+        return asked_by(findings, order, digest, hints);
+    }
+    Asked {
+        digest,
+        sends: Some(1),
+        own: None,
     }
 }
 
@@ -340,7 +356,8 @@ pub fn outcomes_of<L: ExerciseLog>(
     ensures { IfOk result (λ outcomes. outcomes.items ≡ outcomes_of findings.now (order_of order.now)) }
 {
     let asked = asked_of(findings, order, &mut Hints::new());
-    let parties = parties_by(alloc, findings, order, asked.own)?;
+    let mut parties = Vec::new(alloc);
+    parties_by(&mut parties, findings, order, asked.own)?;
     if parties.is_empty() {
         let mut outcomes = Vec::new(alloc);
         outcomes.push(outcome_nowhere(findings, order, asked.sends))?;

@@ -1,6 +1,6 @@
 //! The parties of an order, one after the other by rising addresses.
 
-ghost use Rattle.std.specs.Prelude.{◌≡◌, ◌≢◌, ◌<◌, ◌≤◌, ◌+◌, ℕ, nat_lt, IsTrue, true, false, length, option_map, IfOk, IfSome};
+ghost use Rattle.std.specs.Prelude.{◌≡◌, ◌≢◌, ◌<◌, ◌≤◌, ◌+◌, ℕ, nat_lt, IsTrue, true, false, [], length, option_map, IfOk, OnOk, IfSome};
 ghost use Rattle.dis_records.specs.Entity.{pair_of, is_addressed};
 ghost use Rattle.exercise_model.specs.History.{station_at};
 ghost use Rattle.exercise_model.specs.Recording.{IsRecording};
@@ -46,7 +46,13 @@ pub(crate) fn parts_in(id: EntityId) -> Outsider
 pub(crate) fn station_parts<L: ExerciseLog>(findings: &Register<'_, L>, station: u16) -> Outsider
     ensures { pair_at result ≡ (station_at findings.now station).address }
 {
-    let log = findings.log();
+    parts_at(findings.log(), station)
+}
+
+/// The same, of a station of a log.
+pub(crate) fn parts_at<L: ExerciseLog>(log: &L, station: u16) -> Outsider
+    ensures { pair_at result ≡ (station_at (L.recording log.now) station).address }
+{
     let station = usize::from(station);
     if station < log.station_count() {
         parts_of(log.station(station).address())
@@ -58,16 +64,33 @@ pub(crate) fn station_parts<L: ExerciseLog>(findings: &Register<'_, L>, station:
     }
 }
 
+/// The site and the application of whoever made an order, by a log.
+pub(crate) fn maker_in<L: ExerciseLog>(log: &L, order: &Order<'_>) -> Outsider
+    ensures { pair_at result ≡ maker_address (L.recording log.now) (order_of order.now) }
+{
+    match order.maker {
+        Some(station) => parts_at(log, station),
+        None => parts_in(order.request.origin),
+    }
+}
+
+/// The site and the application of a party, by a log; 0 and 0 of a station past the last.
+pub(crate) fn address_in<L: ExerciseLog>(log: &L, party: Party) -> Outsider
+    ensures { pair_at result ≡ party_address (L.recording log.now) party }
+{
+    match party {
+        Party::Station(station) => parts_at(log, station),
+        Party::Outside(address) => address,
+    }
+}
+
 impl Order<'_> {
     /// The site and the application of whoever made it: those of the recorded station, or those that
     /// it comes from.
     pub fn from<L: ExerciseLog>(&self, findings: &Register<'_, L>) -> Outsider
         ensures { pair_at result ≡ maker_address findings.now (order_of self.now) }
     {
-        match self.maker {
-            Some(station) => station_parts(findings, station),
-            None => parts_in(self.request.origin),
-        }
+        maker_in(findings.log(), self)
     }
 }
 
@@ -76,10 +99,7 @@ impl Party {
     pub fn address<L: ExerciseLog>(self, findings: &Register<'_, L>) -> Outsider
         ensures { pair_at result ≡ party_address findings.now self }
     {
-        match self {
-            Party::Station(station) => station_parts(findings, station),
-            Party::Outside(address) => address,
-        }
+        address_in(findings.log(), self)
     }
 }
 
@@ -199,19 +219,19 @@ fn has_outsiders<L: ExerciseLog>(findings: &Register<'_, L>, order: &Order<'_>) 
 /// The parties of an order, wherever they may be.
 #[tactic(auto, unfolding(crate::specs::Parties::parties_of))]
 fn parties_anywhere<L: ExerciseLog>(
-    alloc: Global,
+    parties: &mut Vec<Party>,
     findings: &Register<'_, L>,
     order: &Order<'_>,
-) -> Result<Vec<Party>, AllocError>
-    ensures { IfOk result (λ parties. parties.items ≡ parties_of findings.now (order_of order.now)) }
+) -> Result<(), AllocError>
+    requires { parties.old.items ≡ [] }
+    ensures { OnOk result (parties.new.items ≡ parties_of findings.now (order_of order.now)) }
 {
-    let mut parties = Vec::new(alloc);
     let mut first = 0;
     while let Some((number, party)) = next_party(findings, order, first) {
         parties.push(party)?;
         first = number + 1;
     }
-    Ok(parties)
+    Ok(())
 }
 
 /// Whether a recorded station has an address of a smaller number than this.
@@ -266,39 +286,41 @@ fn addressed_among<L: ExerciseLog>(findings: &Register<'_, L>, target: EntityId)
 
 /// The parties of an order of which nobody else can be one: recorded stations, whose addresses rise.
 fn station_parties<L: ExerciseLog>(
-    alloc: Global,
+    parties: &mut Vec<Party>,
     findings: &Register<'_, L>,
     order: &Order<'_>,
     own: Option<Gathered>,
-) -> Result<Vec<Party>, AllocError>
+) -> Result<(), AllocError>
+    requires none { parties.old.items ≡ [] }
     requires recorded { has_outsiders findings.now (order_of order.now) ≡ false }
     requires own { IsOwn findings.now (order_of order.now) own }
-    ensures { IfOk result (λ parties. parties.items ≡ parties_of findings.now (order_of order.now)) }
+    ensures { OnOk result (parties.new.items ≡ parties_of findings.now (order_of order.now)) }
 {
     let (from, to) = addressed_among(findings, order.request.target);
-    let mut parties = Vec::new(alloc);
     for station in from..to {
         if is_party_by(findings, order, own, station as u16) {
             parties.push(Party::Station(station as u16))?;
         }
     }
-    Ok(parties)
+    Ok(())
 }
 
-/// The parties of an order, where this was gathered at its maker, if it was.
+/// The parties of an order, where this was gathered at its maker, if it was. They take the place of those
+/// that are lent.
 pub(crate) fn parties_by<L: ExerciseLog>(
-    alloc: Global,
+    parties: &mut Vec<Party>,
     findings: &Register<'_, L>,
     order: &Order<'_>,
     own: Option<Gathered>,
-) -> Result<Vec<Party>, AllocError>
+) -> Result<(), AllocError>
     requires { IsOwn findings.now (order_of order.now) own }
-    ensures { IfOk result (λ parties. parties.items ≡ parties_of findings.now (order_of order.now)) }
+    ensures { OnOk result (parties.new.items ≡ parties_of findings.now (order_of order.now)) }
 {
+    parties.clear();
     if has_outsiders(findings, order) {
-        parties_anywhere(alloc, findings, order)
+        parties_anywhere(parties, findings, order)
     } else {
-        station_parties(alloc, findings, order, own)
+        station_parties(parties, findings, order, own)
     }
 }
 
@@ -312,5 +334,7 @@ pub fn parties_of<L: ExerciseLog>(
 ) -> Result<Vec<Party>, AllocError>
     ensures { IfOk result (λ parties. parties.items ≡ parties_of findings.now (order_of order.now)) }
 {
-    parties_by(alloc, findings, order, None)
+    let mut parties = Vec::new(alloc);
+    parties_by(&mut parties, findings, order, None)?;
+    Ok(parties)
 }

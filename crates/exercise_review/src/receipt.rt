@@ -1,11 +1,12 @@
 //! Where each station received each datagram first and last, kept in a table under its bytes.
 
-ghost use Rattle.std.specs.Prelude.{◌≡◌, ◌<◌, ◌+◌, ◌==◌, ◌&&◌, length, None, IfOk, OnOk, IfSome, bytes_eq, Some, if◌then◌else◌};
+ghost use Rattle.std.specs.Prelude.{◌≡◌, ◌<◌, ◌+◌, ◌==◌, ◌&&◌, length, None, OnOk, IfSome, is_some, slice_get, bytes_eq, Some, if◌then◌else◌};
 ghost use Rattle.std.specs.Cmp.Rules.{comparing, hashing};
 ghost use Rattle.indexmap.specs.IndexMap.{get};
 ghost use Rattle.exercise_review.specs.declared.receipt.Receipt.{Receipt};
 ghost use Rattle.exercise_review.specs.Heard.{same_receipt, receipt_fed, receipts_alike, first_kept, AreHeard};
-ghost use Rattle.exercise_review.specs.Register.{AreKeys};
+ghost use Rattle.exercise_model.specs.Held.{shown};
+ghost use Rattle.exercise_review.specs.Register.{key_at};
 ghost use borrow.Author.Rules.{rules};
 
 use exercise_findings::Hint;
@@ -58,7 +59,7 @@ pub(crate) struct Receipts {
 pub(crate) type Heard<'a> = IndexMap<Receipt<'a>, Receipts, BuildHasherDefault<DefaultHasher>>;
 
 /// No receipts. It takes no memory.
-fn no_receipts<'a>(alloc: Global) -> Heard<'a>
+pub(crate) fn no_receipts<'a>(alloc: Global) -> Heard<'a>
     ensures { (k : Receipt) → get same_receipt result k ≡ None }
 {
     Heard::with_hasher(alloc, BuildHasherDefault::default())
@@ -81,23 +82,26 @@ fn keep_receipt<'a>(
     Ok(())
 }
 
-/// Keeps the next entry, where it receives something. In a recording that is not open what is received
-/// and has a key is a request, for which nobody looks.
-fn note_receipt<'a, L: ExerciseLog>(
+/// Keeps the next entry, at which this stands, where it receives something. In a recording that is not
+/// open what is received and has a key is a request, for which nobody looks.
+pub(crate) fn note_receipt<'a, L: ExerciseLog>(
     heard: &mut Heard<'a>,
     log: &'a L,
-    keys: &[Option<u64>],
+    view: EntryView<'a>,
+    has_key: bool,
     entry: usize,
 ) -> Result<(), AllocError>
-    requires keys { AreKeys (L.recording log.now) (length (L.recording log.now).entries) keys.now }
     requires within { entry < length (L.recording log.now).entries }
+    requires key { has_key ≡ is_some (key_at (L.recording log.now) entry) }
+    requires at { slice_get (L.recording log.now).entries entry ≡ Some (shown view) }
     requires tied { AreHeard (L.recording log.now) entry heard.old }
     ensures { OnOk result (AreHeard (L.recording log.now) (entry + 1) heard.new) }
 {
-    if log.form() != Form::Open && keys[entry].is_some() {
+    let _end = log.entry_count();
+    if log.form() != Form::Open && has_key {
         return Ok(());
     }
-    match log.entry(entry) {
+    match view {
         EntryView::Received { station, bytes, .. } => {
             keep_receipt(heard, Receipt { station, bytes }, entry as u32)?;
             Ok(())
@@ -105,23 +109,6 @@ fn note_receipt<'a, L: ExerciseLog>(
         EntryView::Sent { .. } => Ok(()),
         EntryView::Told { .. } => Ok(()),
     }
-}
-
-/// Where each station of a log, whose entries have these keys, received each datagram first and last
-/// that means no request. What is kept takes memory.
-pub(crate) fn heard_in<'a, L: ExerciseLog>(
-    alloc: Global,
-    log: &'a L,
-    keys: &[Option<u64>],
-) -> Result<Heard<'a>, AllocError>
-    requires { AreKeys (L.recording log.now) (length (L.recording log.now).entries) keys.now }
-    ensures { IfOk result (AreHeard (L.recording log.now) (length (L.recording log.now).entries)) }
-{
-    let mut heard = no_receipts(alloc);
-    for entry in 0..log.entry_count() {
-        note_receipt(&mut heard, log, keys, entry)?;
-    }
-    Ok(heard)
 }
 
 /// The receipts of a datagram, if these stand at a place of the table.

@@ -55,8 +55,10 @@ impl<L: ExerciseLog> Replies<'_, L> {
         }
     }
 
-    /// The request that an entry takes up, if that is a copy of the order.
-    pub(crate) fn copy_taken(&self, entry: usize) -> Option<usize>
+    /// The request that an entry takes up, if that is a copy of the order. One that is known to be a
+    /// copy is not read again.
+    pub(crate) fn copy_taken(&self, entry: usize, known: Option<usize>) -> Option<usize>
+        requires { IfSome known (λ i. is_copy self.now.findings.now (order_of self.now.order.now) self.now.station i ≡ true) }
         ensures taken { is_some result ≡ takes_copy self.now.findings.now (order_of self.now.order.now) self.now.station entry }
         ensures copy { IfSome result (λ i. is_copy self.now.findings.now (order_of self.now.order.now) self.now.station i ≡ true) }
     {
@@ -65,9 +67,18 @@ impl<L: ExerciseLog> Replies<'_, L> {
             station: self.station,
             request: &self.order.request,
         };
-        match self.findings.pair(entry) {
-            Some(taken) if copies.passes(taken as usize) => Some(taken as usize),
-            _ => None,
+        let taken = match self.findings.pair(entry) {
+            Some(taken) => taken as usize,
+            None => return None,
+        };
+        match known {
+            Some(copy) if copy == taken => return Some(taken),
+            _ => {}
+        }
+        if copies.passes(taken) {
+            Some(taken)
+        } else {
+            None
         }
     }
 }
@@ -77,7 +88,7 @@ impl<L: ExerciseLog> Question for Replies<'_, L> {
 
     #[tactic(auto, unfolding(crate::specs::Reply::is_reply))]
     fn passes(&self, entry: usize) -> bool {
-        self.is_answer(entry) && self.copy_taken(entry).is_some()
+        self.is_answer(entry) && self.copy_taken(entry, None).is_some()
     }
 }
 

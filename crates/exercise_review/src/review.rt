@@ -1,15 +1,17 @@
 //! What is told of a whole recording.
 
-ghost use Rattle.std.specs.Prelude.{◌≡◌, length, Ok, Err, IfOk, IfErr};
+ghost use Rattle.std.specs.Prelude.{◌≡◌, length, IfOk};
 ghost use Rattle.exercise_model.specs.Account.{values_below};
-ghost use Rattle.exercise_review.specs.Review.{Lists, Reviews};
-ghost use Rattle.exercise_review.specs.Tally.{IsTold, fates_of, station_counts};
+ghost use Rattle.exercise_review.specs.Review.{Reviews};
+ghost use Rattle.exercise_review.specs.Span.{all_spans};
+ghost use Rattle.exercise_review.specs.Tally.{station_counts};
+ghost use Rattle.exercise_review.specs.Told.{orders_told};
 
 use crate::fault::ReviewFault;
-use crate::register::Register;
-use crate::span::{Span, spans_within};
-use crate::tally::{FateCounts, StationCounts, fates_of, stations_counted};
-use crate::told::{OrderAt, Told, told_within};
+use crate::reviewed::Reviewed;
+use crate::span::Span;
+use crate::tally::{FateCounts, StationCounts};
+use crate::told::OrderAt;
 use exercise_findings::Findings;
 use exercise_model::ExerciseLog;
 use std::alloc::{AllocError, Global};
@@ -36,49 +38,44 @@ pub struct Review {
     pub spans: Vec<Span>,
 }
 
-/// The orders at their parties and the stretches of all lives, where they do not take too many
-/// lines.
-fn lists<L: ExerciseLog>(
+/// What is counted of each station, by rising addresses.
+fn stations_in<L: ExerciseLog>(
     alloc: Global,
-    findings: &Register<'_, L>,
-) -> Result<(Told, Vec<Span>), ReviewFault>
-    ensures { Lists findings.now result }
+    reviewed: &Reviewed<'_, L>,
+) -> Result<Vec<StationCounts>, AllocError>
+    ensures { IfOk result (λ stations. stations.items ≡ values_below (station_counts reviewed.now) (length reviewed.now.setting.stations)) }
 {
-    let most = MOST_LINES - 1 - findings.log().station_count();
-    let told = told_within(alloc, findings, most)?;
-    let spans = spans_within(alloc, findings, most - told.orders.len())?;
-    Ok((told, spans))
+    let mut stations = Vec::new(alloc);
+    stations.extend_from_slice(reviewed.stations())?;
+    Ok(stations)
 }
 
-/// The same, of a recording of which this was found, which is given back: what a register keeps besides
-/// is needed no longer.
-fn listed<'a, L: ExerciseLog>(
+/// Each order at each of its parties, one after the other.
+fn told_in<L: ExerciseLog>(
     alloc: Global,
-    findings: Findings<'a, L>,
-) -> Result<(Told, Vec<Span>, Findings<'a, L>), ReviewFault>
-    ensures refused { IfErr result (λ fault. Lists findings.entry (Err fault)) }
-    ensures lists { IfOk result (λ listed. Lists findings.entry (Ok (listed.0, listed.1))) }
-    ensures findings { IfOk result (λ listed. listed.2 ≡ findings.entry) }
+    reviewed: &Reviewed<'_, L>,
+) -> Result<Vec<OrderAt>, AllocError>
+    ensures { IfOk result (λ told. told.items ≡ orders_told reviewed.now) }
 {
-    let register = Register::of(alloc, findings)?;
-    let (told, spans) = lists(alloc, &register)?;
-    Ok((told, spans, register.into_findings()))
+    let mut told = Vec::with_capacity(alloc, reviewed.told_count())?;
+    for place in 0..reviewed.told_count() {
+        told.push(reviewed.told(place))?;
+    }
+    Ok(told)
 }
 
-/// What is counted of each station, and how many orders at their parties have each fate.
-fn counted<L: ExerciseLog>(
+/// The stretches of all lives, one after the other.
+fn spans_in<L: ExerciseLog>(
     alloc: Global,
-    findings: &Findings<'_, L>,
-    told: &Told,
-) -> Result<(Vec<StationCounts>, FateCounts), AllocError>
-    requires { IsTold findings.now (length findings.now.entries) told.now }
-    ensures stations { IfOk result (λ counts. counts.0.items ≡ values_below (station_counts findings.now) (length findings.now.setting.stations)) }
-    ensures fates { IfOk result (λ counts. counts.1 ≡ fates_of told.now.orders.items) }
+    reviewed: &Reviewed<'_, L>,
+) -> Result<Vec<Span>, AllocError>
+    ensures { IfOk result (λ spans. spans.items ≡ all_spans reviewed.now) }
 {
-    let fates = fates_of(alloc, &told.orders)?;
-    let states = findings.states(alloc)?;
-    let stations = stations_counted(alloc, findings.log(), &states, told)?;
-    Ok((stations, fates))
+    let mut spans = Vec::with_capacity(alloc, reviewed.span_count())?;
+    for place in 0..reviewed.span_count() {
+        spans.push(reviewed.span(place))?;
+    }
+    Ok(spans)
 }
 
 /// What is told of a recording of which this was found. `OverLimit` says that it would take more
@@ -89,15 +86,13 @@ pub fn review_of<L: ExerciseLog>(
 ) -> Result<Review, ReviewFault>
     ensures { Reviews findings.entry result }
 {
-    let (told, spans, findings) = listed(alloc, findings)?;
-    let (stations, fates) = counted(alloc, &findings, &told)?;
-    let Told { makers, orders, .. } = told;
+    let reviewed = Reviewed::of(alloc, findings)?;
     Ok(Review {
-        orders: makers.len(),
-        others: findings.others(),
-        fates,
-        stations,
-        told: orders,
-        spans,
+        orders: reviewed.order_count(),
+        others: reviewed.others(),
+        fates: reviewed.fates(),
+        stations: stations_in(alloc, &reviewed)?,
+        told: told_in(alloc, &reviewed)?,
+        spans: spans_in(alloc, &reviewed)?,
     })
 }

@@ -2,16 +2,20 @@
 
 ghost use Rattle.std.specs.Prelude.{◌≡◌, ◌<◌, ◌≤◌, ◌+◌, ◌*◌, List, length, map, IfOk, slice_index_or, [], ℕ};
 ghost use Rattle.exercise_model.specs.Account.{values_below};
+ghost use Rattle.exercise_model.specs.Recording.{PlainRecording};
 ghost use Rattle.exercise_review.specs.Order.{OrderData};
-ghost use Rattle.exercise_review.specs.Tally.{fate_number, is_fate_at, passes_at, many, counts_by, fates_of, is_made_by, is_running, fate_place, fate_places, fate_numbers, makers_of, maker_places, ArePresent, IsTold, AreCounted, station_counts};
+ghost use Rattle.exercise_review.specs.Row.{AreRows};
+ghost use Rattle.exercise_review.specs.Tally.{fate_number, is_fate_at, passes_at, many, counts_by, fates_of, is_made_by, is_running, row_place, row_places, row_numbers, makers_of, maker_places, ArePresent, IsTold, AreCounted, station_counts};
 ghost use Rattle.exercise_review.specs.declared.fate.Fate.{Fate};
+ghost use Rattle.exercise_review.specs.declared.told.OrderAt.{OrderAt};
 
 use crate::counting::{Placing, counts_of};
 use crate::fate::Fate;
 use crate::parties::parts_of;
 use crate::party::{Outsider, Party};
 use crate::question::{Question, count_below};
-use crate::told::{OrderAt, Told};
+use crate::row::Row;
+use crate::told::Told;
 use dis_records::EntityState;
 use exercise_model::ExerciseLog;
 use std::alloc::{AllocError, Global};
@@ -73,16 +77,16 @@ impl Fate {
 /// Which fate each order at a party has.
 #[derive(Drop)]
 struct FateNumbers<'a> {
-    told: &'a [OrderAt],
+    rows: &'a [Row],
 }
 
 impl Placing for FateNumbers<'_> {
-    ghost places = { λ q. fate_numbers q.told.now };
+    ghost places = { λ q. row_numbers q.rows.now };
 
-    #[tactic(auto, unfolding(crate::specs::Tally::fate_numbers))]
+    #[tactic(auto, unfolding(crate::specs::Tally::row_numbers))]
     fn place(&self, number: usize) -> Option<usize> {
-        match self.told.get(number) {
-            Some(told) => Some(usize::from(told.outcome.fate.number())),
+        match self.rows.get(number) {
+            Some(row) => Some(usize::from(row.fate.number())),
             None => None,
         }
     }
@@ -90,20 +94,20 @@ impl Placing for FateNumbers<'_> {
 
 /// How many of these orders at their parties have each fate.
 #[tactic(auto, using(crate::proofs::Places::all_fates))]
-pub(crate) fn fates_of(alloc: Global, told: &[OrderAt]) -> Result<FateCounts, AllocError>
-    ensures { IfOk result (λ counts. counts ≡ fates_of told.now) }
+pub(crate) fn fates_of(alloc: Global, rows: &[Row]) -> Result<FateCounts, AllocError>
+    ensures { (r : PlainRecording) (told : List OrderAt) → AreRows r rows.now told → IfOk result (λ counts. counts ≡ fates_of told) }
 {
-    let counts = counts_of(alloc, &FateNumbers { told }, told.len(), FATES)?;
+    let counts = counts_of(alloc, &FateNumbers { rows }, rows.len(), FATES)?;
     Ok(fates_from(&counts, 0))
 }
 
 /// Where an order at a party is counted, if that is a recorded station: each has a place for each fate.
-fn fate_place(told: &OrderAt) -> Option<usize>
-    ensures { result ≡ fate_place told.now }
+fn row_place(row: &Row) -> Option<usize>
+    ensures { result ≡ row_place row.now }
 {
-    match told.outcome.party {
+    match row.party {
         Some(Party::Station(station)) => {
-            Some(usize::from(station) * FATES + usize::from(told.outcome.fate.number()))
+            Some(usize::from(station) * FATES + usize::from(row.fate.number()))
         }
         Some(Party::Outside(_)) | None => None,
     }
@@ -112,15 +116,15 @@ fn fate_place(told: &OrderAt) -> Option<usize>
 /// Where orders at their parties are counted.
 #[derive(Drop)]
 struct FatePlaces<'a> {
-    told: &'a [OrderAt],
+    rows: &'a [Row],
 }
 
 impl Placing for FatePlaces<'_> {
-    ghost places = { λ q. fate_places q.told.now };
+    ghost places = { λ q. row_places q.rows.now };
 
-    #[tactic(auto, unfolding(crate::specs::Tally::fate_places))]
+    #[tactic(auto, unfolding(crate::specs::Tally::row_places))]
     fn place(&self, number: usize) -> Option<usize> {
-        fate_place(self.told.get(number)?)
+        row_place(self.rows.get(number)?)
     }
 }
 
@@ -157,16 +161,12 @@ fn made_by_station(
 
 /// How many of these orders at their parties have each fate at each of so many stations.
 #[tactic(auto, using(crate::proofs::Places::fates_counted, crate::proofs::Places::place_within))]
-fn fates_by_station(
-    alloc: Global,
-    told: &[OrderAt],
-    stations: usize,
-) -> Result<Vec<usize>, AllocError>
+fn fates_by_station(alloc: Global, rows: &[Row], stations: usize) -> Result<Vec<usize>, AllocError>
     requires { stations ≤ 65536 }
-    ensures each { IfOk result (λ counts. (s : ℕ) → s < stations → (f : Fate) → slice_index_or counts.items (s * 9 + fate_number f) 0 ≡ many (is_fate_at s f) told.now) }
+    ensures each { (r : PlainRecording) (told : List OrderAt) → AreRows r rows.now told → IfOk result (λ counts. (s : ℕ) → s < stations → (f : Fate) → slice_index_or counts.items (s * 9 + fate_number f) 0 ≡ many (is_fate_at s f) told) }
     ensures count { IfOk result (λ counts. length counts.items ≡ stations * 9) }
 {
-    counts_of(alloc, &FatePlaces { told }, told.len(), stations * FATES)
+    counts_of(alloc, &FatePlaces { rows }, rows.len(), stations * FATES)
 }
 
 /// The counts of all fates, which stand one after the other from a place on.
@@ -232,7 +232,7 @@ fn counts_by_station<L: ExerciseLog>(
 {
     let stations = log.station_count();
     let made = made_by_station(alloc, &told.makers, stations)?;
-    let fates = fates_by_station(alloc, &told.orders, stations)?;
+    let fates = fates_by_station(alloc, &told.rows, stations)?;
     Ok(Counts { made, fates })
 }
 

@@ -1,25 +1,32 @@
 //! Entries by their keys: from the last under each key a way leads back to the first.
 
-ghost use Rattle.std.specs.Prelude.{◌≡◌, ◌<◌, ◌≤◌, ℕ, ◌+◌, true, false, nat_eq, None, Some, IfOk, OnOk, IfSome, length, slice_index_or, unwrap_or};
-ghost use Rattle.indexmap.specs.IndexMap.{get};
+ghost use Rattle.std.specs.Prelude.{◌≡◌, ◌<◌, ◌≤◌, ℕ, ◌+◌, true, Option, None, Some, IfOk, OnOk, IfSome, length, slice_get, slice_index_or, unwrap_or};
 ghost use Rattle.siman_pdus.specs.Answers.{same_id};
 ghost use Rattle.exercise_model.specs.Place.{first_below};
-ghost use Rattle.exercise_review.specs.Register.{holds, AreRegistered, AreEnds};
+ghost use Rattle.exercise_findings.specs.Number.{entry_of};
+ghost use Rattle.exercise_review.specs.Register.{Keys, no_entry, holds, key_told, IsKept, AreRegistered};
 ghost use Rattle.exercise_review.specs.Counted.{last_below};
 
-use crate::entry_number::{entry_number, entry_of};
+use crate::column::{number_at, put_number, replace};
+use crate::entry_number::{NO_ENTRY, entry_of};
 use crate::question::{Question, first_below};
-use indexmap::IndexMap;
+use indexmap::IndexSet;
 use std::alloc::{AllocError, Global};
 use std::hash::{BuildHasherDefault, DefaultHasher};
 
-/// The last entry under each key. Strangers choose what entries say, so the hasher is one for which
-/// nobody writes down keys that fall together.
-pub(crate) type LastEntries = IndexMap<u64, u32, BuildHasherDefault<DefaultHasher>>;
+/// The keys of entries, in the order in which they first came. Strangers choose what entries say, so the
+/// hasher is one for which nobody writes down keys that fall together.
+pub(crate) type Keys = IndexSet<u64, BuildHasherDefault<DefaultHasher>>;
 
-/// The last entry under each key, and for each entry the number of the one before it under its key.
+/// The keys of entries, the last entry under each, and for each entry where its key stands and which
+/// entry is the one before it under that.
 pub(crate) struct Ways {
-    pub last: LastEntries,
+    pub keys: Keys,
+    /// Of each key the number of the last entry under it.
+    pub last: Vec<u32>,
+    /// Of each entry the number of the place of its key.
+    pub places: Vec<u32>,
+    /// Of each entry the number of the one before it under its key.
     pub before: Vec<u32>,
 }
 
@@ -27,10 +34,20 @@ pub(crate) struct Ways {
 impl Drop for Ways {
     fn drop(self) {
         let Ways {
+            keys: _keys,
             last: _last,
+            places: _places,
             before: _before,
         } = self;
     }
+}
+
+/// How the key of an entry is told, if it has one: by the place at which it stands already, or as it is.
+#[derive(Clone, Copy)]
+pub(crate) enum Keyed {
+    Nothing,
+    At(u32),
+    Key(u64),
 }
 
 /// The keys of entries. What it means is one function; no call takes memory.
@@ -46,77 +63,171 @@ pub(crate) trait Keying {
 }
 
 /// No entries. It takes no memory.
-fn no_entries(alloc: Global) -> LastEntries
-    ensures { (key : ℕ) → get nat_eq result key ≡ None }
+pub(crate) fn no_ways(alloc: Global) -> Ways
+    ensures none { length result.keys.keys ≡ 0 }
+    ensures kept { (keys : ℕ → Option ℕ) → AreRegistered keys 0 result }
 {
-    LastEntries::with_hasher(alloc, BuildHasherDefault::default())
+    Ways {
+        keys: Keys::with_hasher(alloc, BuildHasherDefault::default()),
+        last: Vec::new(alloc),
+        places: Vec::new(alloc),
+        before: Vec::new(alloc),
+    }
 }
 
-/// Keeps the next entry, whose number is below the one that stands for none.
-fn note_entry<K: Keying>(
-    last: &mut LastEntries,
-    before: &mut Vec<u32>,
-    keying: &K,
-    entry: usize,
-) -> Result<(), AllocError>
-    requires few { entry < 4294967295 }
-    requires tied { AreRegistered (K.keys keying.now) entry last.old before.old.items }
-    ensures { OnOk result (AreRegistered (K.keys keying.now) (entry + 1) last.new before.new.items) }
+/// Where a key stands; from now on, if it did not before.
+fn place_of_key(ways: &mut Ways, key: u64) -> Result<usize, AllocError>
+    ensures at { IfOk result (λ place. slice_get ways.new.keys.keys place ≡ Some key) }
+    ensures few { OnOk result (length ways.new.keys.keys ≤ length ways.old.keys.keys + 1) }
+    ensures same { OnOk result (length ways.old.last.items ≡ length ways.old.keys.keys → length ways.new.last.items ≡ length ways.new.keys.keys) }
+    ensures kept { OnOk result ((keys : ℕ → Option ℕ) (n : ℕ) → AreRegistered keys n ways.old → AreRegistered keys n ways.new) }
 {
-    let earlier = match keying.key(entry) {
-        Some(key) => last.insert(key, entry as u32)?,
-        None => None,
-    };
-    before.push(entry_number(earlier))?;
-    Ok(())
+    let (place, is_new) = ways.keys.insert_full(key)?;
+    if is_new {
+        ways.last.push(NO_ENTRY)?;
+    }
+    Ok(place)
+}
+
+/// Keeps the next of so many entries, whose key stands at a place.
+fn note_at(ways: &mut Ways, count: usize, entry: usize, place: usize) -> Result<(), AllocError>
+    requires within { entry < count }
+    requires few { entry < 4294967295 }
+    requires place { place < length ways.old.last.items }
+    requires below { place < 4294967295 }
+    ensures { OnOk result (IsKept entry place ways.old ways.new) }
+{
+    let earlier = ways.last[place];
+    replace(&mut ways.last, place, entry as u32);
+    put_number(&mut ways.places, NO_ENTRY, count, entry, place as u32)?;
+    put_number(&mut ways.before, NO_ENTRY, count, entry, earlier)
+}
+
+/// Keeps the next of so many entries, whose number is below the one that stands for none.
+pub(crate) fn note_keyed(
+    ways: &mut Ways,
+    count: usize,
+    entry: usize,
+    keyed: Keyed,
+) -> Result<(), AllocError>
+    requires within { entry < count }
+    requires few { entry < 4294967295 }
+    requires keys { length ways.old.keys.keys ≤ entry }
+    requires same { length ways.old.last.items ≡ length ways.old.keys.keys }
+    ensures keys { OnOk result (length ways.new.keys.keys ≤ entry + 1) }
+    ensures same { OnOk result (length ways.new.last.items ≡ length ways.new.keys.keys) }
+    ensures kept { OnOk result ((keys : ℕ → Option ℕ) → key_told ways.old.keys keyed ≡ keys entry → AreRegistered keys entry ways.old → AreRegistered keys (entry + 1) ways.new) }
+{
+    match keyed {
+        Keyed::Nothing => Ok(()),
+        Keyed::At(place) if (place as usize) < ways.last.len() => {
+            note_at(ways, count, entry, place as usize)
+        }
+        Keyed::At(_) => Ok(()),
+        Keyed::Key(key) => {
+            let place = place_of_key(ways, key)?;
+            note_at(ways, count, entry, place)
+        }
+    }
+}
+
+/// How a key is told as it is, if there is one.
+pub(crate) fn keyed_by(key: Option<u64>) -> Keyed
+    ensures { (keys : Keys) → key_told keys result ≡ key }
+{
+    match key {
+        Some(key) => Keyed::Key(key),
+        None => Keyed::Nothing,
+    }
 }
 
 /// The entries below an end by their keys. What is kept takes memory.
 pub(crate) fn ways_of<K: Keying>(alloc: Global, keying: &K, end: usize) -> Result<Ways, AllocError>
     requires { end ≤ 4294967295 }
-    ensures { IfOk result (λ ways. AreRegistered (K.keys keying.now) end ways.last ways.before.items) }
+    ensures { IfOk result (AreRegistered (K.keys keying.now) end) }
 {
-    let mut last = no_entries(alloc);
-    let mut before = Vec::with_capacity(alloc, end)?;
+    let mut ways = no_ways(alloc);
     for entry in 0..end {
-        note_entry(&mut last, &mut before, keying, entry)?;
+        note_keyed(&mut ways, end, entry, keyed_by(keying.key(entry)))?;
     }
-    Ok(Ways { last, before })
+    Ok(ways)
 }
 
-/// Notes that something goes back to an entry, if it does: that is not the last under its key.
-fn note_earlier(ends: &mut Vec<bool>, earlier: Option<usize>)
-    ensures count { length ends.new.items ≡ length ends.old.items }
-    ensures each { (i : ℕ) → slice_index_or ends.new.items i false ≡ true → (slice_index_or ends.old.items i false ≡ true) × (earlier ≡ Some i → ⊥) }
+/// Where the key of an entry stands, if it has one.
+fn place_at(ways: &Ways, entry: usize) -> Option<usize>
+    ensures { result ≡ entry_of (slice_index_or ways.now.places.items entry no_entry) }
 {
-    let Some(earlier) = earlier else {
-        return;
+    entry_of(number_at(&ways.places, NO_ENTRY, entry))
+}
+
+/// The key at a place.
+pub(crate) fn key_in(ways: &Ways, place: usize) -> Option<u64>
+    ensures { result ≡ slice_get ways.now.keys.keys place }
+{
+    match ways.keys.get_index(place) {
+        Some(key) => Some(*key),
+        None => None,
+    }
+}
+
+/// The key of an entry.
+pub(crate) fn key_kept(ways: &Ways, entry: usize) -> Option<u64>
+    ensures { (keys : ℕ → Option ℕ) (n : ℕ) → AreRegistered keys n ways.now → entry < n → result ≡ keys entry }
+{
+    match place_at(ways, entry) {
+        Some(place) => key_in(ways, place),
+        None => None,
+    }
+}
+
+/// How the key of an entry is told, by the place at which it stands.
+pub(crate) fn keyed_as(ways: &Ways, entry: usize) -> Keyed
+    ensures { (keys : ℕ → Option ℕ) (n : ℕ) → AreRegistered keys n ways.now → entry < n → key_told ways.now.keys result ≡ keys entry }
+{
+    let number = number_at(&ways.places, NO_ENTRY, entry);
+    if number == NO_ENTRY {
+        Keyed::Nothing
+    } else {
+        Keyed::At(number)
+    }
+}
+
+/// The last entry under the key at a place.
+pub(crate) fn last_in(ways: &Ways, place: usize) -> Option<usize>
+    ensures { result ≡ entry_of (slice_index_or ways.now.last.items place no_entry) }
+{
+    entry_of(number_at(&ways.last, NO_ENTRY, place))
+}
+
+/// Where a key stands, which is looked for.
+pub(crate) fn place_sought(ways: &Ways, key: u64) -> Option<usize>
+    ensures at { IfSome result (λ place. slice_get ways.now.keys.keys place ≡ Some key) }
+    ensures none { result ≡ None → (keys : ℕ → Option ℕ) (n : ℕ) → AreRegistered keys n ways.now → last_below (holds keys key) n ≡ None }
+{
+    match ways.keys.get_index_of(&key) {
+        Some(place) => Some(place),
+        None => None,
+    }
+}
+
+/// Whether an entry is the last under its key.
+pub(crate) fn is_last(ways: &Ways, entry: usize) -> bool
+    ensures { (keys : ℕ → Option ℕ) (n k : ℕ) → AreRegistered keys n ways.now → entry < n → result ≡ true → holds keys k entry ≡ true → last_below (holds keys k) n ≡ Some entry }
+{
+    let Some(place) = place_at(ways, entry) else {
+        return false;
     };
-    if earlier < ends.len() {
-        ends[earlier] = false;
+    match last_in(ways, place) {
+        Some(last) => last == entry,
+        None => false,
     }
-}
-
-/// For each entry whether none goes back to it, where these are the ways back of all. What is kept
-/// takes memory.
-pub(crate) fn ends_of(alloc: Global, before: &[u32]) -> Result<Vec<bool>, AllocError>
-    ensures { IfOk result (λ ends. AreEnds before.now ends.items) }
-{
-    let mut ends = vec![in alloc; true; before.len()]?;
-    for entry in 0..before.len() {
-        note_earlier(&mut ends, entry_of(before[entry]));
-    }
-    Ok(ends)
 }
 
 /// The entry before one under their key.
-fn before<K: Keying>(ways: &Ways, keying: &K, end: usize, entry: usize) -> Option<usize>
-    requires within { entry < end }
-    requires tied { AreRegistered (K.keys keying.now) end ways.now.last ways.now.before.items }
-    ensures { (k : ℕ) → holds (K.keys keying.now) k entry ≡ true → result ≡ last_below (holds (K.keys keying.now) k) entry }
+pub(crate) fn entry_before(ways: &Ways, entry: usize) -> Option<usize>
+    ensures { (keys : ℕ → Option ℕ) (n k : ℕ) → AreRegistered keys n ways.now → entry < n → holds keys k entry ≡ true → result ≡ last_below (holds keys k) entry }
 {
-    let _keying = keying;
-    entry_of(ways.before[entry])
+    entry_of(number_at(&ways.before, NO_ENTRY, entry))
 }
 
 /// Whether an entry that passes is the first, where it has a key and all that pass have that: only
@@ -129,17 +240,18 @@ pub(crate) fn is_first_under<K: Keying, Q: Question>(
     entry: usize,
 ) -> bool
     requires within { entry < end }
-    requires tied { AreRegistered (K.keys keying.now) end ways.now.last ways.now.before.items }
+    requires tied { AreRegistered (K.keys keying.now) end ways.now }
     requires passes { Q.test question.now entry ≡ true }
     requires under { (i : ℕ) → Q.test question.now i ≡ true → holds (K.keys keying.now) (unwrap_or (K.keys keying.now entry) 0) i ≡ true }
     ensures { result ≡ same_id (first_below (Q.test question.now) end) (Some entry) }
 {
-    let mut next = before(ways, keying, end, entry);
+    let _keying = keying;
+    let mut next = entry_before(ways, entry);
     while let Some(at) = next {
         if question.passes(at) {
             return false;
         }
-        next = before(ways, keying, end, at);
+        next = entry_before(ways, at);
     }
     true
 }
@@ -154,7 +266,7 @@ pub(crate) fn is_first<K: Keying, Q: Question>(
     entry: usize,
 ) -> bool
     requires within { entry < end }
-    requires tied { AreRegistered (K.keys keying.now) end ways.now.last ways.now.before.items }
+    requires tied { AreRegistered (K.keys keying.now) end ways.now }
     requires under { Q.test question.now entry ≡ true → IfSome (K.keys keying.now entry) (λ k. (i : ℕ) → Q.test question.now i ≡ true → holds (K.keys keying.now) k i ≡ true) }
     ensures { result ≡ same_id (first_below (Q.test question.now) end) (Some entry) }
 {

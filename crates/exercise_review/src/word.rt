@@ -8,7 +8,7 @@ ghost use Rattle.exercise_review.specs.Gathered.{IsSpoken};
 ghost use Rattle.exercise_review.specs.Register.{IsUnder};
 ghost use Rattle.exercise_review.specs.Word.{response_word, status_word, word_of, settles, word_at, settles_at, is_settling, first_settling, telling, word_text};
 
-use crate::entries::meant_at;
+use crate::entries::{meant_at, meant_in};
 use crate::question::Question;
 use crate::register::Register;
 use crate::walk::{first_entry, last_entry};
@@ -120,16 +120,23 @@ pub(crate) fn settles(body: &BodyView<'_>) -> bool
     }
 }
 
-/// The word of what an entry sends or receives; `None` where that is no answer, and past the last
-/// entry.
+/// The word of what an entry of a log sends or receives.
 #[tactic(auto, unfolding(crate::specs::Word::word_at))]
-pub fn word_at<L: ExerciseLog>(findings: &Register<'_, L>, entry: usize) -> Option<Word>
-    ensures { result ≡ word_at findings.now entry }
+pub(crate) fn word_in<L: ExerciseLog>(log: &L, entry: usize) -> Option<Word>
+    ensures { result ≡ word_at (L.recording log.now) entry }
 {
-    match meant_at(findings, entry) {
+    match meant_in(log, entry) {
         Some(pdu) => Word::of(&pdu.body),
         None => None,
     }
+}
+
+/// The word of what an entry sends or receives; `None` where that is no answer, and past the last
+/// entry.
+pub fn word_at<L: ExerciseLog>(findings: &Register<'_, L>, entry: usize) -> Option<Word>
+    ensures { result ≡ word_at findings.now entry }
+{
+    word_in(findings.log(), entry)
 }
 
 /// The word of an entry, if there is one.

@@ -1,4 +1,4 @@
-use Rattle.std.proofs.Common.{◌<◌, ℕ, [], ◌∷◌, ◌++◌, length, refl, sym, ap, ◌∙◌, arith}
+use Rattle.std.proofs.Common.{◌<◌, ℕ, length, refl, sym, ap, ◌∙◌, arith}
 use Rattle.std.specs.Prelude.{slice_get}
 use Rattle.std.proofs.lemmas.Option.{slice_get_read}
 use Rattle.exercise_model.specs.Held.{shown}
@@ -21,4 +21,4 @@ returns g c =
     let here = slice_get_read all.items (length all.items) t old refl within c.index_mut.ensures.value in
     changes_more r c.args.entry t (shown c.entry.result) c.in-Some.change all.items old new
     (ap (λ (x : PlainRecording). slice_get x.entries c.args.entry) (sym c.log.ensures) ∙ c.entry.ensures.entry) (c.from-station.ensures ∙ c.station.ensures) (sym c.change.ensures ∙ c.in-Some.is) here within
-    (c.in_ok-push.ensures.items ∙ ap (λ m. old.items ++ m ∷ []) c.made_of-made.ensures) c.requires.before
+    c.in_ok-push.ensures.items c.requires.before

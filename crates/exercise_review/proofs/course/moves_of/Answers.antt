@@ -1,27 +1,38 @@
-use Rattle.std.proofs.Common.{◌-◌, ◌+◌, ◌≡◌, length, sym, subst, arith}
+use Rattle.std.proofs.Common.{◌-◌, ◌+◌, ◌≡◌, length, sym, ap, ◌∙◌, subst, arith}
+use Rattle.std.proofs.lemmas.List.{length-replicate}
 use Rattle.exercise_review.specs.Course.{moves_all, AreNextIn}
 use Rattle.exercise_review.proofs.Courses.{next_none, next_more}
 use Rattle.exercise_review.proofs.course.moves_of.Goals as goal
 
 pub loop-done-init : goal.loop-done-init
 loop-done-init c =
-    next_none (moves_all c.args.state) c.args.changes.now _ _ (omega arith) (c.in_ok-places.ensures.items_if_clones_equal (λ y same. same))
+    let start : c.last_move-count.result ≡ c.last_move-count.result - 0 = omega arith in
+    let items = c.in_ok-places.ensures.items_if_clones_equal (λ y same. same) in
+    record {
+      count = ap length items ∙ length-replicate _ _;
+      next = subst (λ a. AreNextIn (moves_all c.args.state) c.args.changes.now a c.in_ok-places.places.items) start
+          (next_none (moves_all c.args.state) c.args.changes.now c.last_move-count.result _ c.last_move-count.ensures.within c.last_move-count.ensures.none items);
+    }
 
 pub move_from-next-requires-clause-behind : goal.move_from-next-requires-clause-behind
 move_from-next-requires-clause-behind c =
-    let on : length c.args.changes.now - c.loop-done.done ≡ length c.args.changes.now - 1 - c.loop-done.done + 1 = omega (arith, c.loop-done-test.true) in
-    subst (AreNextIn (moves_all c.args.state) c.args.changes.now (length c.args.changes.now - 1 - c.loop-done.done + 1)) (sym c.deref.ensures.value)
-    (subst (λ a. AreNextIn (moves_all c.args.state) c.args.changes.now a c.loop-done.places.items) on c.loop-done.invariant)
+    let on : c.last_move-count.result - c.loop-done.done ≡ c.last_move-count.result - 1 - c.loop-done.done + 1 = omega (arith, c.loop-done-test.true) in
+    subst (AreNextIn (moves_all c.args.state) c.args.changes.now (c.last_move-count.result - 1 - c.loop-done.done + 1)) (sym c.deref.ensures.value)
+    (subst (λ a. AreNextIn (moves_all c.args.state) c.args.changes.now a c.loop-done.places.items) on c.loop-done.invariant.next)
 
 pub loop-done-preserved : goal.loop-done-preserved
 loop-done-preserved c =
     let ms = c.args.changes.now in
-    let here : length ms - 1 - c.loop-done.done ≡ length ms - (c.loop-done.done + 1) = omega (arith, c.loop-done-test.true) in
-    subst (λ a. AreNextIn (moves_all c.args.state) ms a c.put.new.places.items) here
-    (next_more (moves_all c.args.state) ms (length ms - c.loop-done.done) (length ms - 1 - c.loop-done.done) c.move_from-next.result c.loop-done.places.items
-    c.put.new.places.items (omega (arith, c.loop-done-test.true)) c.put.ensures.count c.put.ensures.each c.move_from-next.ensures c.loop-done.invariant)
+    let n = c.last_move-count.result in
+    let here : n - 1 - c.loop-done.done ≡ n - (c.loop-done.done + 1) = omega (arith, c.loop-done-test.true) in
+    record {
+      count = c.put.ensures.count ∙ c.loop-done.invariant.count;
+      next = subst (λ a. AreNextIn (moves_all c.args.state) ms a c.put.new.places.items) here
+          (next_more (moves_all c.args.state) ms (n - c.loop-done.done) (n - 1 - c.loop-done.done) c.move_from-next.result c.loop-done.places.items
+          c.put.new.places.items (omega (arith, c.loop-done-test.true)) (c.put.ensures.each (length ms)) c.move_from-next.ensures c.loop-done.invariant.next);
+    }
 
 pub returns : goal.returns
 returns c =
-    let end : length c.args.changes.now - c.loop-done.done ≡ 0 = omega (arith, c.loop-done-test.false) in
-    subst (λ a. AreNextIn (moves_all c.args.state) c.args.changes.now a c.loop-done.places.items) end c.loop-done.invariant
+    let end : c.last_move-count.result - c.loop-done.done ≡ 0 = omega (arith, c.loop-done-test.false) in
+    subst (λ a. AreNextIn (moves_all c.args.state) c.args.changes.now a c.loop-done.places.items) end c.loop-done.invariant.next

@@ -1,4 +1,4 @@
-use Rattle.std.proofs.Common.{◌≡◌, ◌-◌, length, drop, get_or, refl, sym, ap, ◌∙◌, arith}
+use Rattle.std.proofs.Common.{◌≡◌, ◌+◌, ◌-◌, length, drop, get_or, refl, sym, ap, ◌∙◌, arith}
 use Rattle.std.specs.Prelude.{nat_eq, if◌then◌else◌}
 use Rattle.std.proofs.lemmas.List.{get_or_default, length-replicate}
 use Rattle.dis_records.specs.declared.entity_state.EntityState.TheVariants.{Absent}
@@ -10,8 +10,8 @@ pub loop-done-init : goal.loop-done-init
 loop-done-init c =
     let items = c.in_ok-starts.ensures.items_if_clones_equal (λ y same. same) in
     record {
-      count = ap length items ∙ length-replicate 65536 Absent;
-      each = λ e. none_start c.args.opening.now _ e items;
+      count = ap length items ∙ length-replicate _ Absent ∙ ap (λ n. n + 1) c.from.ensures;
+      each = λ e. none_start c.args.opening.now _ _ e items;
     }
 
 pub loop-done-preserved : goal.loop-done-preserved
@@ -21,7 +21,7 @@ loop-done-preserved c =
     let x = get_or xs i (0, Absent) in
     let at : x ≡ get_or xs i x = get_or_default xs i (0, Absent) x (omega (arith, c.loop-done-test.true)) in
     record {
-      count = c.start.ensures.count;
+      count = c.start.ensures.count ∙ c.loop-done.invariant.count;
       each = λ e. c.start.ensures.each e ∙ ap (λ y. if nat_eq x.0 e then x.1 else y) (c.loop-done.invariant.each e)
           ∙ sym (listed-more xs i c.loop-done.done x e at c.loop-done-test.true refl);
     }

@@ -9,10 +9,12 @@ use Rattle.exercise_review.specs.Gathered.{first_news, last_news}
 use Rattle.exercise_review.specs.News.{earlier}
 use Rattle.exercise_review.specs.Order.{OrderData, order_of, sends_order}
 use Rattle.exercise_review.specs.Party.{is_copy, first_copy}
-use Rattle.exercise_review.specs.Register.{has_key, IsUnder}
+use Rattle.exercise_review.specs.Register.{key_at, has_key, IsUnder}
 use Rattle.exercise_review.specs.Reply.{is_reply, is_news, is_changing_reply, change_of_order}
 use Rattle.exercise_review.specs.Word.{is_settling, first_settling}
 use Rattle.exercise_review.proofs.Replied.{IsLeast, IsGreatest, IsFoundAt, hears, least_starts, greatest_starts, least_on, greatest_on, least_ends, greatest_ends, settled_news, all_news, spoken_there, first_is_news, last_is_news, no_reply_no_news}
+use Rattle.exercise_review.proofs.Registered.{held_key}
+use Rattle.exercise_review.proofs.Sourced.{answer_there}
 use Rattle.exercise_review.proofs.Under.{copy_has, reply_has, send_has}
 use Rattle.exercise_review.proofs.Walks.{past, IsCountOn, IsFirstOn, IsLatestOn, on_last, lower, count_starts, count_on, count_ends, first_starts, first_on, first_ends, latest_starts, latest_on, latest_ends}
 use Rattle.exercise_review.proofs.gathered.gathered_under.Goals as goal
@@ -53,8 +55,14 @@ loop-next-init g c =
       words = none.words r;
     }
 
-pub part_known-part-requires : goal.part_known-part-requires
-part_known-part-requires g c = c.loop-next.invariant.known
+pub part_known-part-requires-clause-keyed : goal.part_known-part-requires-clause-keyed
+part_known-part-requires-clause-keyed g c =
+    let r : PlainRecording = c.args.replies.now.findings.now in
+    let at = rw c.in-Some.is at c.loop-next.invariant.on in
+    ap is_some (held_key (key_at r) c.in-Some.entry c.args.key at.1)
+
+pub part_known-part-requires-clause-known : goal.part_known-part-requires-clause-known
+part_known-part-requires-clause-known g c = c.loop-next.invariant.known
 
 pub with_one-requires : goal.with_one-requires
 with_one-requires g c =
@@ -199,3 +207,8 @@ with_news-requires-clause-settled g c = c.loop-next.invariant.words.heard
 
 pub with_news-requires-clause-last : goal.with_news-requires-clause-last
 with_news-requires-clause-last g c = c.loop-next.invariant.words.heard_last
+
+pub with_news-requires-clause-sent : goal.with_news-requires-clause-sent
+with_news-requires-clause-sent g c =
+    answer_there c.args.replies.now.findings.now (order_of c.args.replies.now.order.now) c.args.replies.now.station c.in-Some.entry c.part_known-part.result.reply
+    c.part_known-part.ensures.reply c.part_known-part.ensures.bytes

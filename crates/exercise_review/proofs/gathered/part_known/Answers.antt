@@ -15,7 +15,7 @@ returns-in-Some-clause-send g c =
     let r : PlainRecording = c.args.replies.now.findings.now in
     let o : OrderData = order_of c.args.replies.now.order.now in
     let t : ℕ = c.args.replies.now.station in
-    let known = rw c.in-Some.is at c.requires in
+    let known = rw c.in-Some.is at c.requires.known in
     sym (copy_alone r o t c.args.entry (is_known r o t c.args.entry c.in-Some.copy known c.if-copy-entry.true)).0
 
 pub returns-in-Some-clause-reply : goal.returns-in-Some-clause-reply
@@ -23,7 +23,7 @@ returns-in-Some-clause-reply g c =
     let r : PlainRecording = c.args.replies.now.findings.now in
     let o : OrderData = order_of c.args.replies.now.order.now in
     let t : ℕ = c.args.replies.now.station in
-    let known = rw c.in-Some.is at c.requires in
+    let known = rw c.in-Some.is at c.requires.known in
     sym (copy_alone r o t c.args.entry (is_known r o t c.args.entry c.in-Some.copy known c.if-copy-entry.true)).1
 
 pub returns-in-Some-clause-settles : goal.returns-in-Some-clause-settles
@@ -31,6 +31,6 @@ returns-in-Some-clause-settles g c =
     let r : PlainRecording = c.args.replies.now.findings.now in
     let o : OrderData = order_of c.args.replies.now.order.now in
     let t : ℕ = c.args.replies.now.station in
-    let known = rw c.in-Some.is at c.requires in
+    let known = rw c.in-Some.is at c.requires.known in
     ap (λ b. b && settles_at r c.args.entry)
     (sym (copy_alone r o t c.args.entry (is_known r o t c.args.entry c.in-Some.copy known c.if-copy-entry.true)).1)

@@ -10,7 +10,7 @@ pub loop-number-init : goal.loop-number-init
 loop-number-init g c =
     let r : PlainRecording = c.args.findings.now in
     let o : OrderData = order_of c.args.order.now in
-    record { parties = c.new-parties.ensures.items ∙ sym (no_parties r o); within = omega arith }
+    record { parties = c.requires ∙ sym (no_parties r o); within = omega arith }
 
 pub loop-number-preserved : goal.loop-number-preserved
 loop-number-preserved g c =

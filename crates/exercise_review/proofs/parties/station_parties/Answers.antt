@@ -10,7 +10,7 @@ pub loop-station-init : goal.loop-station-init
 loop-station-init g c =
     let r : PlainRecording = c.args.findings.now in
     let among = c.addressed_among-from.ensures in
-    c.new-parties.ensures.items
+    c.requires.none
     ∙ none_before r among.limits (order_of c.args.order.now) c.requires.recorded c.addressed_among-from.result.0 c.addressed_among-from.result.1 (omega (arith, among.within.0, among.within.1)) among.all
 
 pub loop-station-preserved : goal.loop-station-preserved

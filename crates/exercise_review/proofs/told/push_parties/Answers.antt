@@ -1,12 +1,6 @@
-use Rattle.std.proofs.Common.{arith}
-use Rattle.std.proofs.lemmas.Grind.{common_steps}
+use Rattle.exercise_review.specs.Order.{order_of}
+use Rattle.exercise_review.proofs.Rows.{kept_is}
 use Rattle.exercise_review.proofs.told.push_parties.Goals as goal
 
-pub returns-in_err-push_told : goal.returns-in_err-push_told
-returns-in_err-push_told g c = grind (arith, common_steps)
-
-pub loop-party-preserved : goal.loop-party-preserved
-loop-party-preserved g c = grind (arith, common_steps)
-
-pub returns : goal.returns
-returns g c = grind (arith, common_steps)
+pub push_told-requires-clause-kept : goal.push_told-requires-clause-kept
+push_told-requires-clause-kept g c = kept_is c.args.findings.now (order_of c.args.order.now) c.outcome_at-outcome.result _ c.outcome_at-outcome.ensures

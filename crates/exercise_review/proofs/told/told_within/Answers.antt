@@ -1,6 +1,4 @@
-use Rattle.std.proofs.Common.{◌≡◌, ℕ, ◌<◌, length, ap, ◌∙◌, subst, arith}
-use Rattle.std.specs.Prelude.{slice_index_or}
-use Rattle.std.proofs.lemmas.List.{get_or-replicate, length-replicate}
+use Rattle.std.proofs.Common.{◌≡◌, ℕ, ◌<◌, Some, length, map, ap, ◌∙◌, subst, arith}
 use Rattle.exercise_model.specs.Recording.{PlainRecording}
 use Rattle.exercise_review.specs.Tally.{IsTold}
 use Rattle.exercise_review.proofs.Orders.{told_none, told_all, no_room}
@@ -9,13 +7,9 @@ use Rattle.exercise_review.proofs.told.told_within.Goals as goal
 pub loop-entry-init : goal.loop-entry-init
 loop-entry-init g c =
     let r : PlainRecording = c.args.findings.now in
-    let stations : ℕ = c.station_count.result in
-    let items = c.in_ok-vec.ensures.items_if_clones_equal (λ y same. same) in
-    let count = c.station_count.ensures.count ∙ ap (λ (x : PlainRecording). length x.setting.stations) c.log.ensures in
     record {
-      told = told_none r (record { records = c.in_ok-vec.field-0; makers = c.new.result; orders = c.new-2.result })
-          (ap length items ∙ length-replicate stations 0 ∙ count)
-          (λ s l. ap (λ xs. slice_index_or xs s 0) items ∙ get_or-replicate stations s 0 0 (omega (arith, l, count))) c.new.ensures.items c.new-2.ensures.items;
+      told = told_none r (record { records = c.in_ok-records_of.field-0; makers = c.new.result; rows = c.new-2.result })
+          c.in_ok-records_of.ensures c.new.ensures.items c.new-2.ensures.items;
       room = omega (arith, ap length c.new-2.ensures.items);
     }
 
@@ -24,8 +18,8 @@ returns-in_err-push_entry g c =
     let r : PlainRecording = c.args.findings.now in
     let k : ℕ = c.loop-entry.entry in
     let below : k < length r.entries = omega (arith, c.loop-entry-test.true, c.loop-entry.auto.entry-end, c.entry_count-entry-end.ensures) in
-    no_room r c.loop-entry.told.orders.items c.push_entry.new.told.orders.items k c.args.most c.in_err-push_entry.field-0.0
-    c.from_residual-in_err-push_entry.result c.from_residual-in_err-push_entry.ensures.1 below c.loop-entry.invariant.told.orders c.in_err-push_entry.ensures.added
+    no_room r c.loop-entry.told.rows.items c.push_entry.new.told.rows.items k c.args.most c.in_err-push_entry.field-0.0
+    c.from_residual-in_err-push_entry.result c.from_residual-in_err-push_entry.ensures.1 below c.loop-entry.invariant.told.rows c.in_err-push_entry.ensures.added
 
 pub returns : goal.returns
 returns g c =
@@ -33,4 +27,4 @@ returns g c =
     let end : c.loop-entry.entry ≡ length r.entries =
     omega (arith, c.loop-entry-test.false, c.loop-entry.auto.entry-end, c.entry_count-entry-end.ensures) in
     let told = subst (λ n. IsTold r n c.loop-entry.told) end c.loop-entry.invariant.told in
-    (told, told.orders ∙ told_all r, c.loop-entry.invariant.room)
+    (told, told.rows ∙ ap (map Some) (told_all r), c.loop-entry.invariant.room)

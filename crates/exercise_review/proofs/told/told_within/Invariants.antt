@@ -6,5 +6,5 @@ use Rattle.exercise_review.proofs.told.told_within.Given as goal
 abbrev pub invariant-loop-entry : goal.invariant-loop-entry
 invariant-loop-entry g l = record {
   told : IsTold l.findings l.entry l.told;
-  room : length l.told.orders.items ≤ l.most;
+  room : length l.told.rows.items ≤ l.most;
 }

@@ -9,10 +9,10 @@ pub loop-next-init : goal.loop-next-init
 loop-next-init g c =
     let h = holds (g.K.Keying.keys c.args.keying.now) (unwrap_or (g.K.Keying.keys c.args.keying.now c.args.entry) 0) in
     let f = g.Q.Question.test c.args.question.now in
-    let behind = c.before-next.ensures _ (c.requires.under c.args.entry c.requires.passes) in
+    let behind = c.entry_before-next.ensures (g.K.Keying.keys c.args.keying.now) c.args.end _ c.requires.tied c.requires.within (c.requires.under c.args.entry c.requires.passes) in
     record {
-      on = on_last h c.args.entry c.args.entry c.before-next.result behind (omega arith);
-      back = back_starts f h c.args.entry c.before-next.result c.requires.under behind;
+      on = on_last h c.args.entry c.args.entry c.entry_before-next.result behind (omega arith);
+      back = back_starts f h c.args.entry c.entry_before-next.result c.requires.under behind;
     }
 
 pub returns-then-passes : goal.returns-then-passes
@@ -24,7 +24,7 @@ pub loop-next-smaller : goal.loop-next-smaller
 loop-next-smaller g c =
     let h = holds (g.K.Keying.keys c.args.keying.now) (unwrap_or (g.K.Keying.keys c.args.keying.now c.args.entry) 0) in
     let at = rw c.in-Some.is at c.loop-next.invariant.on in
-    let less = lower h c.in-Some.at c.before-next-in-Some.result (c.before-next-in-Some.ensures _ at.1) in
+    let less = lower h c.in-Some.at c.entry_before-next-in-Some.result (c.entry_before-next-in-Some.ensures (g.K.Keying.keys c.args.keying.now) c.args.end _ c.requires.tied (omega (arith, at.0, c.requires.within)) at.1) in
     omega (arith, less, ap past c.in-Some.is)
 
 pub loop-next-preserved : goal.loop-next-preserved
@@ -33,8 +33,8 @@ loop-next-preserved g c =
     let f = g.Q.Question.test c.args.question.now in
     let at = rw c.in-Some.is at c.loop-next.invariant.on in
     record {
-      on = on_last h c.args.entry c.in-Some.at c.before-next-in-Some.result (c.before-next-in-Some.ensures _ at.1) (omega (arith, at.0));
-      back = back_fails f h c.args.entry c.in-Some.at c.before-next-in-Some.result c.requires.under (c.before-next-in-Some.ensures _ at.1)
+      on = on_last h c.args.entry c.in-Some.at c.entry_before-next-in-Some.result (c.entry_before-next-in-Some.ensures (g.K.Keying.keys c.args.keying.now) c.args.end _ c.requires.tied (omega (arith, at.0, c.requires.within)) at.1) (omega (arith, at.0));
+      back = back_fails f h c.args.entry c.in-Some.at c.entry_before-next-in-Some.result c.requires.under (c.entry_before-next-in-Some.ensures (g.K.Keying.keys c.args.keying.now) c.args.end _ c.requires.tied (omega (arith, at.0, c.requires.within)) at.1)
           (sym c.passes.ensures ∙ c.if-passes.false) (rw c.in-Some.is at c.loop-next.invariant.back);
     }
 

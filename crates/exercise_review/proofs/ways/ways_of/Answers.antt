@@ -1,9 +1,14 @@
-use Rattle.std.proofs.Common.{sym, subst}
-use Rattle.exercise_review.specs.Register.{AreRegistered}
-use Rattle.exercise_review.proofs.Registered.{registered_none}
+use Rattle.std.proofs.Common.{◌∙◌, arith}
 use Rattle.exercise_review.proofs.ways.ways_of.Goals as goal
 
 pub loop-entry-init : goal.loop-entry-init
-loop-entry-init g c =
-    subst (AreRegistered (g.K.Keying.keys c.args.keying.now) 0 c.no_entries-last.result) (sym c.in_ok-before.ensures.items)
-    (registered_none (g.K.Keying.keys c.args.keying.now) c.no_entries-last.result c.no_entries-last.ensures)
+loop-entry-init g c = record {
+  few = omega (arith, c.no_ways-ways.ensures.none);
+  kept = c.no_ways-ways.ensures.kept (g.K.Keying.keys c.args.keying.now);
+}
+
+pub loop-entry-preserved : goal.loop-entry-preserved
+loop-entry-preserved g c = record {
+  few = c.in_ok-note_keyed.ensures.keys;
+  kept = c.in_ok-note_keyed.ensures.kept (g.K.Keying.keys c.args.keying.now) (c.keyed_by.ensures c.loop-entry.ways.keys ∙ c.key.ensures) c.loop-entry.invariant.kept;
+}

@@ -1,0 +1,23 @@
+use Rattle.std.proofs.Common.{◌≡◌, ◌<◌, length, ap, ◌∙◌, subst, arith}
+use Rattle.std.specs.Prelude.{is_some}
+use Rattle.exercise_model.specs.Recording.{PlainRecording}
+use Rattle.exercise_review.specs.Heard.{AreHeard}
+use Rattle.exercise_review.specs.Register.{key_at}
+use Rattle.exercise_review.proofs.Receiving.{heard_none}
+use Rattle.exercise_review.proofs.hearing.heard_in.Goals as goal
+
+pub loop-entry-init : goal.loop-entry-init
+loop-entry-init g c = heard_none (g.L.ExerciseLog.recording c.args.log.now) c.no_receipts-heard.result c.no_receipts-heard.ensures
+
+pub note_receipt-requires-clause-key : goal.note_receipt-requires-clause-key
+note_receipt-requires-clause-key g c =
+    let r : PlainRecording = g.L.ExerciseLog.recording c.args.log.now in
+    let within : c.loop-entry.entry < length r.entries = omega (arith, c.loop-entry-test.true, c.entry_count-entry-end.ensures.count) in
+    c.is_some-has_key.ensures ∙ ap is_some (c.key_kept.ensures (key_at r) (length r.entries) c.requires within)
+
+pub returns : goal.returns
+returns g c =
+    let r : PlainRecording = g.L.ExerciseLog.recording c.args.log.now in
+    let end : c.loop-entry.entry ≡ length r.entries =
+    omega (arith, c.loop-entry-test.false, c.loop-entry.auto.entry-end, c.entry_count-entry-end.ensures.count) in
+    subst (λ n. AreHeard r n c.loop-entry.heard) end c.loop-entry.invariant

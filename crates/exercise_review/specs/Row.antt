@@ -1,0 +1,95 @@
+-- What is kept of an order at a party, in few bytes: the rest is read from the log (profile).
+use Rattle.std.specs.Prelude.{◌≡◌, ◌==◌, ℕ, ◌+◌, ◌<◌, ◌≤◌, List, ◌++◌, length, map, Option, Some, None, IfSome, option_map, option_and_then, unwrap_or, Result, Ok, Err, if◌then◌else◌}
+use Rattle.std.specs.Option.{option_or}
+use Rattle.exercise_model.specs.Recording.{PlainRecording}
+use Rattle.exercise_findings.specs.Number.{entry_of}
+use Rattle.exercise_review.specs.declared.fault.ReviewFault.{ReviewFault}
+use Rattle.exercise_review.specs.declared.fault.ReviewFault.TheVariants.{OverLimit, Memory}
+use Rattle.exercise_review.specs.declared.outcome.Outcome.{Outcome}
+use Rattle.exercise_review.specs.declared.party.Party.{Party}
+use Rattle.exercise_review.specs.declared.party.Party.TheVariants as parties
+use Rattle.exercise_review.specs.declared.row.Row.{Row}
+use Rattle.exercise_review.specs.declared.told.OrderAt.{OrderAt}
+use Rattle.exercise_review.specs.declared.word.Word.{Word}
+use Rattle.exercise_review.specs.declared.word.Word.TheVariants as words
+use Rattle.exercise_review.specs.Order.{OrderData, order_at}
+use Rattle.exercise_review.specs.Outcome.{took, sends_told}
+use Rattle.exercise_review.specs.Told.{order_told}
+use Rattle.exercise_review.specs.Word.{word_at}
+
+-- how often an order was sent, if its maker is recorded
+abbrev pub sends_kept : (maker : Option ℕ) → ℕ → Option ℕ
+sends_kept maker count = option_map (λ s. count) maker
+
+-- how often a recorded station received an order; of others it is not known
+abbrev pub receipts_kept : Option Party → ℕ → Option ℕ
+receipts_kept None count = None
+receipts_kept (Some (parties.Station s)) count = Some count
+receipts_kept (Some (parties.Outside a)) count = None
+
+-- the word that is kept by a number, if that stands for one
+abbrev pub word_numbered : ℕ → Option Word
+word_numbered n =
+    if n == 1 then Some words.Other
+    else (if n == 2 then Some words.Able
+    else (if n == 3 then Some words.Unable
+    else (if n == 4 then Some words.Pending
+    else (if n == 5 then Some words.Executing
+    else (if n == 6 then Some words.PartiallyComplete
+    else (if n == 7 then Some words.Complete
+    else (if n == 8 then Some words.Rejected
+    else (if n == 9 then Some words.Data
+    else None))))))))
+
+-- the word of a number or, where that stands for none, of an entry
+abbrev pub word_kept : PlainRecording → ℕ → Option ℕ → Option Word
+word_kept r n entry = option_or (word_numbered n) (option_and_then (word_at r) entry)
+
+-- the words of the entries that are kept, and how long it took to the news
+abbrev pub outcome_kept : PlainRecording → OrderData → Row → Outcome
+outcome_kept r o x = record {
+  party = x.party;
+  sends = sends_kept o.maker x.sends;
+  receipts = receipts_kept x.party x.receipts;
+  got = entry_of x.got;
+  said = word_kept r x.said (entry_of x.answer);
+  answer = entry_of x.answer;
+  heard = word_kept r x.heard (entry_of x.news);
+  news = entry_of x.news;
+  took = took r o (entry_of x.news);
+  change = entry_of x.change;
+  fate = x.fate;
+}
+
+-- WHAT A ROW TELLS: the order that stands at its head, at its party
+unfoldable pub row_told : PlainRecording → Row → Option OrderAt
+row_told r x = option_map (λ o. order_told r o (outcome_kept r o x)) (order_at r x.head)
+
+-- ROWS TELL these orders at their parties
+abbrev pub AreRows : PlainRecording → List Row → List OrderAt → Type 0
+AreRows r rows told = map (row_told r) rows ≡ map Some told
+
+-- WHERE THERE IS ROOM FOR SO MANY, what came is told behind what was there; OverLimit says that these are more; of want of memory nothing is said
+abbrev pub AddsRows : PlainRecording → (most : ℕ) → (old : List Row) → (added : List OrderAt) → Result (Unit {0}) ReviewFault → (new : List Row) → Type 0
+AddsRows r most old added (Ok x) new = (map (row_told r) new ≡ map (row_told r) old ++ map Some added) × (length new ≤ most)
+AddsRows r most old added (Err OverLimit) new = most < length old + length added
+AddsRows r most old added (Err Memory) new = Unit {0}
+
+-- ---- what can be kept so
+
+-- an entry of the recording, if there is one
+abbrev pub IsAmong : PlainRecording → Option ℕ → Type 0
+IsAmong r entry = IfSome entry (λ i. i < length r.entries)
+
+-- WHAT IS TOLD OF AN ORDER AT A PARTY can be read again: its entries are there, and the rest follows from them
+pub record IsKept (r : PlainRecording) (o : OrderData) (x : Outcome) : Type 0 where
+  pub sends : x.sends ≡ sends_told r o
+  pub receipts : x.receipts ≡ receipts_kept x.party (unwrap_or x.receipts 0)
+  pub count : IfSome x.receipts (λ n. n ≤ length r.entries)
+  pub said : x.said ≡ option_and_then (word_at r) x.answer
+  pub heard : x.heard ≡ option_and_then (word_at r) x.news
+  pub took : x.took ≡ took r o x.news
+  pub got : IsAmong r x.got
+  pub answer : IsAmong r x.answer
+  pub news : IsAmong r x.news
+  pub change : IsAmong r x.change

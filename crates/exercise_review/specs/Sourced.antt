@@ -1,0 +1,46 @@
+-- Where what an entry sends was received first and last, kept in columns by the number of that entry (profile).
+use Rattle.std.specs.Prelude.{◌≡◌, ℕ, List, ◌<◌, length, Bool, true, false, ◌&&◌, Option, Some, is_some, is_none, slice_index_or}
+use Rattle.siman_pdus.specs.Answers.{same_id}
+use Rattle.exercise_model.specs.Account.{pair_of}
+use Rattle.exercise_model.specs.Place.{first_below}
+use Rattle.exercise_model.specs.Recording.{PlainRecording}
+use Rattle.exercise_model.specs.Setting.{is_open}
+use Rattle.exercise_findings.specs.Number.{entry_of}
+use Rattle.exercise_findings.specs.Source.{source_of}
+use Rattle.exercise_review.specs.declared.sources.SourceColumns.{SourceColumns}
+use Rattle.exercise_review.specs.Counted.{last_below}
+use Rattle.exercise_review.specs.Entries.{bytes_sent}
+use Rattle.exercise_review.specs.Records.{entry_places}
+use Rattle.exercise_review.specs.Register.{key_at, no_entry}
+
+-- entry i comes from entry j, and has no key: so it brings no request
+unfoldable pub comes_from : PlainRecording → (j i : ℕ) → Bool
+comes_from r j i = is_none (key_at r i) && same_id (source_of r i) (Some j)
+
+-- the entry for which a number stands in a column in the place of entry j
+abbrev pub entry_in : List ℕ → ℕ → Option ℕ
+entry_in column j = entry_of (slice_index_or column j no_entry)
+
+-- THE TIE: of the entries below n that come from the same entry, the first and the last; they are all of one station
+pub record TellsSources (r : PlainRecording) (n : ℕ) (x : SourceColumns) : Type 0 where
+  pub closed : is_open r.setting.form ≡ false
+  pub first : (j : ℕ) → entry_in x.first.items j ≡ first_below (comes_from r j) n
+  pub last : (j : ℕ) → entry_in x.last.items j ≡ last_below (comes_from r j) n
+  pub place : (j f i : ℕ) → first_below (comes_from r j) n ≡ Some f → i < n → comes_from r j i ≡ true → entry_places r i ≡ entry_places r f
+
+-- where columns do not tell all, nothing is said of them
+abbrev pub AreSources : PlainRecording → ℕ → SourceColumns → Type 0
+AreSources r n x = x.whole ≡ true → TellsSources r n x
+
+-- entry i takes up a request, and nothing comes from it
+unfoldable pub is_unheard : PlainRecording → SourceColumns → ℕ → Bool
+is_unheard r x i = is_some (pair_of r i) && is_none (entry_in x.first.items i)
+
+-- columns tell all: of each entry that takes up a request where it was received first and last
+pub record AreWhole (r : PlainRecording) (x : SourceColumns) : Type 0 where
+  pub tells : TellsSources r (length r.entries) x
+  pub each : (i : ℕ) → is_some (pair_of r i) ≡ true → is_some (entry_in x.first.items i) ≡ true
+
+-- AN ANSWER IN THESE BYTES: entry i sends them, at whatever station, and takes up a request
+abbrev pub IsAnswerIn : PlainRecording → ℕ → List ℕ → Type 0
+IsAnswerIn r i b = ((t : ℕ) × (bytes_sent r t i ≡ Some b)) × (is_some (pair_of r i) ≡ true)

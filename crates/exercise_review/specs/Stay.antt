@@ -1,0 +1,70 @@
+-- The stretches of the lives of a recording's entities, as they are kept: their entries are numbers of 32 bits (profile).
+use Rattle.std.specs.Prelude.{◌≡◌, ℕ, ◌+◌, ◌<◌, ◌≤◌, List, [], ◌∷◌, length, map, None, Result, Ok, Err, Vec, if◌then◌else◌}
+use Rattle.std.specs.declared.alloc.Global.{Global}
+use Rattle.dis_records.specs.declared.entity_state.EntityState.{EntityState}
+use Rattle.exercise_model.specs.declared.station.TheConstants.{LARGEST_ENTITY}
+use Rattle.exercise_model.specs.Station.{is_absent}
+use Rattle.exercise_model.specs.Recording.{PlainRecording}
+use Rattle.exercise_model.specs.History.{station_at}
+use Rattle.exercise_model.specs.Cause.{same_state}
+use Rattle.exercise_findings.specs.Number.{entry_number, entry_of}
+use Rattle.exercise_review.specs.declared.fault.ReviewFault.{ReviewFault}
+use Rattle.exercise_review.specs.declared.fault.ReviewFault.TheVariants.{OverLimit, Memory}
+use Rattle.exercise_review.specs.declared.life.Stretch.{Stretch}
+use Rattle.exercise_review.specs.declared.span.Span.{Span}
+use Rattle.exercise_review.specs.declared.stay.Stay.{Stay}
+use Rattle.exercise_review.specs.Life.{LifeSoFar, lives_of}
+use Rattle.exercise_review.specs.Room.{lists_below}
+use Rattle.exercise_review.specs.Span.{span_of, entity_at}
+
+-- the stretch of the life of its entity that a stay stands for
+abbrev pub stretch_in : Stay → Stretch
+stretch_in y = record { state = y.state; from = entry_of y.from; until = entry_of y.until }
+
+-- A STAY AS IT IS TOLD
+abbrev pub span_at : PlainRecording → Stay → Span
+span_at r y = span_of r (entity_at (station_at r y.station).address y.entity) (stretch_in y)
+
+-- WHERE THERE IS ROOM FOR SO MANY, these are told of the stays; OverLimit says that these are more; of want of memory nothing is said
+abbrev pub StaysWithin : PlainRecording → (most : ℕ) → List Span → Result (Vec Stay Global) ReviewFault → Type 0
+StaysWithin r most spans (Ok stays) = (map (span_at r) stays.items ≡ spans) × (length stays.items ≤ most)
+StaysWithin r most spans (Err OverLimit) = most < length spans
+StaysWithin r most spans (Err Memory) = Unit {0}
+
+-- ---- how they are found
+
+-- a stretch of the life of entity e of station s, as it is kept
+abbrev pub stay_of : ℕ → ℕ → Stretch → Stay
+stay_of s e x = record { station = s; entity = e; state = x.state; from = entry_number x.from; until = entry_number x.until }
+
+-- those of entity e of station s
+abbrev pub entity_stays : PlainRecording → ℕ → ℕ → List Stay
+entity_stays r s e = map (stay_of s e) (lives_of r s e)
+
+-- those of the entity behind the first n numbers, which begin with 1
+abbrev pub stays_behind : PlainRecording → ℕ → ℕ → List Stay
+stays_behind r s n = entity_stays r s (n + 1)
+
+-- those of station s, of its entities 1 to 0xFFFD one after the other
+unfoldable pub stays_of : PlainRecording → ℕ → List Stay
+stays_of r s = lists_below (stays_behind r s) LARGEST_ENTITY
+
+-- and those of all stations
+unfoldable pub all_stays : PlainRecording → List Stay
+all_stays r = lists_below (stays_of r) (length r.setting.stations)
+
+-- the stretch that a life is in, as far as it goes
+abbrev pub stretch_so_far : LifeSoFar → Stretch
+stretch_so_far l = record { state = l.state; from = l.since; until = None }
+
+-- a stay that an entity is in, up to the entry of a number: none where it is Absent
+abbrev pub ended_at : Stay → ℕ → List Stay
+ended_at y n = if is_absent y.state then [] else record y { until = n } ∷ []
+
+-- what ends at an entry that leaves the entity in state z
+abbrev pub ended_by : Stay → ℕ → EntityState → List Stay
+ended_by y n z = if same_state z y.state then [] else ended_at y n
+
+-- the stay that it is in from there on
+abbrev pub stays_on : Stay → ℕ → EntityState → Stay
+stays_on y n z = if same_state z y.state then y else record y { state = z; from = n }

@@ -1,0 +1,93 @@
+//! Where the answers of a recording were received: by the entries that they come from where those
+//! tell all, else by their bytes.
+
+ghost use Rattle.std.specs.Prelude.{◌≡◌, length, false, option_map, IfOk};
+ghost use Rattle.exercise_model.specs.Place.{first_below};
+ghost use Rattle.exercise_review.specs.declared.receipt.Receipts.{Receipts};
+ghost use Rattle.exercise_review.specs.Counted.{last_below};
+ghost use Rattle.exercise_review.specs.Heard.{gets_in, asks_in, AreHeard};
+ghost use Rattle.exercise_review.specs.Noted.{IsHearing};
+ghost use Rattle.exercise_review.specs.Register.{key_at, AreRegistered};
+ghost use Rattle.exercise_review.specs.Sourced.{AreSources, IsAnswerIn};
+
+use crate::receipt::{Heard, Receipt, Receipts, no_receipts, note_receipt, receipts_near};
+use crate::sources::{SourceColumns, are_whole, receipts_from};
+use crate::ways::{Ways, key_kept};
+use exercise_findings::{Findings, Hint};
+use exercise_model::ExerciseLog;
+use std::alloc::{AllocError, Global};
+
+/// Where the answers of a recording were received.
+pub(crate) enum Hearing<'a> {
+    /// By the entries that they come from: each that takes up a request is there.
+    BySource(SourceColumns),
+    /// By the stations that received them, and their bytes.
+    ByBytes(Heard<'a>),
+}
+
+// Not derived: who drops it makes one call, and does not take its tables apart by himself.
+impl<'a> Drop for Hearing<'a> {
+    fn drop(self) {
+        match self {
+            Hearing::BySource(_sources) => {}
+            Hearing::ByBytes(_heard) => {}
+        }
+    }
+}
+
+/// Where each station received each datagram, in a recording whose entries have these ways.
+fn heard_in<'a, L: ExerciseLog>(
+    alloc: Global,
+    log: &'a L,
+    orders: &Ways,
+) -> Result<Heard<'a>, AllocError>
+    requires { AreRegistered (key_at (L.recording log.now)) (length (L.recording log.now).entries) orders.now }
+    ensures { IfOk result (AreHeard (L.recording log.now) (length (L.recording log.now).entries)) }
+{
+    let mut heard = no_receipts(alloc);
+    for entry in 0..log.entry_count() {
+        let has_key = key_kept(orders, entry).is_some();
+        note_receipt(&mut heard, log, log.entry(entry), has_key, entry)?;
+    }
+    Ok(heard)
+}
+
+/// Where the answers of a recording were received, of which this was found and whose entries have
+/// these ways: by what was kept of their sources, if that tells all.
+pub(crate) fn hearing_of<'a, L: ExerciseLog>(
+    alloc: Global,
+    findings: &Findings<'a, L>,
+    orders: &Ways,
+    sources: SourceColumns,
+) -> Result<Hearing<'a>, AllocError>
+    requires orders { AreRegistered (key_at findings.now) (length findings.now.entries) orders.now }
+    requires sources { AreSources findings.now (length findings.now.entries) sources }
+    ensures { IfOk result (IsHearing findings.now) }
+{
+    if are_whole(findings, &sources) {
+        return Ok(Hearing::BySource(sources));
+    }
+    let heard = heard_in(alloc, findings.log(), orders)?;
+    Ok(Hearing::ByBytes(heard))
+}
+
+/// The first and the last entry at which a station received these bytes, if it did, where they mean no
+/// request: an entry sends them that takes up one.
+pub(crate) fn receipts_in<L: ExerciseLog>(
+    hearing: &Hearing<'_>,
+    log: &L,
+    entry: usize,
+    receipt: Receipt<'_>,
+    hint: &mut Hint,
+) -> Option<Receipts>
+    requires kept { IsHearing (L.recording log.now) hearing.now }
+    requires asks { asks_in (L.recording log.now) receipt.bytes.now ≡ false }
+    requires answer { IsAnswerIn (L.recording log.now) entry receipt.bytes.now }
+    ensures first { let r = L.recording log.now in option_map (λ (x : Receipts). x.first) result ≡ first_below (gets_in r receipt.entry.station receipt.entry.bytes.now) (length r.entries) }
+    ensures last { let r = L.recording log.now in option_map (λ (x : Receipts). x.last) result ≡ last_below (gets_in r receipt.entry.station receipt.entry.bytes.now) (length r.entries) }
+{
+    match hearing {
+        Hearing::BySource(sources) => receipts_from(sources, log, entry, receipt.station),
+        Hearing::ByBytes(heard) => receipts_near(heard, receipt, hint),
+    }
+}

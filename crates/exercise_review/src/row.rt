@@ -1,0 +1,254 @@
+//! The orders of a recording at their parties, as they are kept.
+
+ghost use Rattle.std.specs.Prelude.{◌≡◌, ◌<◌, true, is_some, Some, length, option_map, option_and_then, unwrap_or, IfSome};
+ghost use Rattle.std.specs.Option.{option_or};
+ghost use Rattle.exercise_findings.specs.Number.{entry_of};
+ghost use Rattle.exercise_review.specs.Order.{order_of, order_at};
+ghost use Rattle.exercise_review.specs.Outcome.{took};
+ghost use Rattle.exercise_review.specs.Parties.{outsider_at, party_address};
+ghost use Rattle.exercise_review.specs.Row.{sends_kept, receipts_kept, word_numbered, word_kept, outcome_kept, row_told, IsKept};
+ghost use Rattle.exercise_review.specs.Told.{order_told};
+ghost use Rattle.exercise_review.specs.Word.{word_at};
+
+use crate::entry_number::{NO_ENTRY, entry_of};
+use crate::fate::Fate;
+use crate::order::Order;
+use crate::outcome::{Outcome, stamp_in};
+use crate::parties::{address_in, maker_in};
+use crate::party::{Outsider, Party};
+use crate::register::Register;
+use crate::told::OrderAt;
+use crate::word::{Word, word_in};
+use exercise_findings::Findings;
+use exercise_model::{EntryView, ExerciseLog, meaning_again};
+use siman_pdus::{Message, request_id};
+
+/// An order at one of its parties, in as little room as it takes: what can be read from the log again
+/// is not kept. Its entries are numbers from 0, of which 0xFFFFFFFF stands for none.
+#[derive(Clone, Copy)]
+pub(crate) struct Row {
+    /// The entry at which the order first stands.
+    pub head: u32,
+    /// The party; `None` where the order has none.
+    pub party: Option<Party>,
+    /// How often the maker sent the order; any number where it came from outside.
+    pub sends: u32,
+    /// How often the party received it; any number where that stands in no log.
+    pub receipts: u32,
+    /// The entry at which the party first received it.
+    pub got: u32,
+    /// The entry of the party's reply.
+    pub answer: u32,
+    /// The entry at which the maker heard from the party.
+    pub news: u32,
+    /// The entry of the first reply that changed something at the party.
+    pub change: u32,
+    /// The number of the word of the party's reply, if it has a name; else 0, and the word is read again.
+    pub said: u8,
+    /// The same of the word that the maker heard.
+    pub heard: u8,
+    /// What became of the order there.
+    pub fate: Fate,
+}
+
+/// The number by which an entry is kept, if there is one.
+fn entry_kept(entry: Option<usize>) -> u32
+    requires { IfSome entry (λ i. i < 0xFFFFFFFF) }
+    ensures { entry_of result ≡ entry }
+{
+    match entry {
+        Some(entry) => entry as u32,
+        None => NO_ENTRY,
+    }
+}
+
+/// The number by which it is kept how often something was done, if that is known.
+fn count_kept(count: Option<usize>) -> u32
+    requires { IfSome count (λ n. n < 0x100000000) }
+    ensures { result ≡ unwrap_or count 0 }
+{
+    match count {
+        Some(count) => count as u32,
+        None => 0,
+    }
+}
+
+/// The number by which a word that has a name is kept; 0 of others, and of none.
+fn word_number(word: Option<Word>) -> u8
+    ensures { option_or (word_numbered result) word ≡ word }
+{
+    match word {
+        Some(Word::Other) => 1,
+        Some(Word::Able) => 2,
+        Some(Word::Unable) => 3,
+        Some(Word::Pending) => 4,
+        Some(Word::Executing) => 5,
+        Some(Word::PartiallyComplete) => 6,
+        Some(Word::Complete) => 7,
+        Some(Word::Rejected) => 8,
+        Some(Word::Data) => 9,
+        Some(Word::Number(_)) | None => 0,
+    }
+}
+
+/// The word that is kept by a number, if that stands for one.
+fn word_numbered(number: u8) -> Option<Word>
+    ensures { result ≡ word_numbered number }
+{
+    match number {
+        1 => Some(Word::Other),
+        2 => Some(Word::Able),
+        3 => Some(Word::Unable),
+        4 => Some(Word::Pending),
+        5 => Some(Word::Executing),
+        6 => Some(Word::PartiallyComplete),
+        7 => Some(Word::Complete),
+        8 => Some(Word::Rejected),
+        9 => Some(Word::Data),
+        _ => None,
+    }
+}
+
+/// What is kept of an order at one of its parties.
+#[tactic(auto, unfolding(crate::specs::Row::row_told))]
+pub(crate) fn row_of<L: ExerciseLog>(
+    findings: &Register<'_, L>,
+    order: &Order<'_>,
+    outcome: Outcome,
+) -> Row
+    requires head { order_at findings.now order.now.head ≡ Some (order_of order.now) }
+    requires kept { IsKept findings.now (order_of order.now) outcome }
+    ensures { row_told findings.now result ≡ Some (order_told findings.now (order_of order.now) outcome) }
+{
+    let _end = findings.log().entry_count();
+    Row {
+        head: order.head as u32,
+        party: outcome.party,
+        sends: count_kept(outcome.sends),
+        receipts: count_kept(outcome.receipts),
+        got: entry_kept(outcome.got),
+        answer: entry_kept(outcome.answer),
+        news: entry_kept(outcome.news),
+        change: entry_kept(outcome.change),
+        said: word_number(outcome.said),
+        heard: word_number(outcome.heard),
+        fate: outcome.fate,
+    }
+}
+
+/// An order, read again at its head.
+fn order_again<L: ExerciseLog>(log: &L, head: usize) -> Order<'_>
+    requires { is_some (order_at (L.recording log.now) head) ≡ true }
+    ensures { Some (order_of result) ≡ order_at (L.recording log.now) head }
+{
+    match log.entry(head) {
+        EntryView::Sent { station, bytes, .. } => Order {
+            head,
+            maker: Some(station),
+            request: meaning_again(log.exercise(), bytes),
+        },
+        EntryView::Received { bytes, .. } => Order {
+            head,
+            maker: None,
+            request: meaning_again(log.exercise(), bytes),
+        },
+        EntryView::Told { .. } => unreachable!(),
+    }
+}
+
+/// How often an order was sent, by the number that is kept, where its maker is recorded.
+fn sends_kept(maker: Option<u16>, sends: u32) -> Option<usize>
+    ensures { result ≡ sends_kept maker sends }
+{
+    match maker {
+        Some(_) => Some(sends as usize),
+        None => None,
+    }
+}
+
+/// How often a party received an order, by the number that is kept, where the party is recorded.
+fn receipts_kept(party: Option<Party>, receipts: u32) -> Option<usize>
+    ensures { result ≡ receipts_kept party receipts }
+{
+    match party {
+        Some(Party::Station(_)) => Some(receipts as usize),
+        Some(Party::Outside(_)) | None => None,
+    }
+}
+
+/// The word of this number, or that of an entry, if there is one, where the number stands for none.
+fn word_kept<L: ExerciseLog>(log: &L, number: u8, entry: Option<usize>) -> Option<Word>
+    ensures { result ≡ word_kept (L.recording log.now) number entry }
+{
+    match (word_numbered(number), entry) {
+        (Some(word), _) => Some(word),
+        (None, Some(entry)) => word_in(log, entry),
+        (None, None) => None,
+    }
+}
+
+/// How long an order took, from its head to the entry of its news.
+fn took_again<L: ExerciseLog>(log: &L, order: &Order<'_>, news: Option<usize>) -> Option<u64>
+    ensures { result ≡ took (L.recording log.now) (order_of order.now) news }
+{
+    match (stamp_in(log, order.head), stamp_in(log, news?)) {
+        (Some(from), Some(until)) if from <= until => Some(until - from),
+        _ => None,
+    }
+}
+
+/// What is told of an order at one of its parties, by what is kept of it.
+fn outcome_kept<L: ExerciseLog>(log: &L, order: &Order<'_>, row: Row) -> Outcome
+    ensures { result ≡ outcome_kept (L.recording log.now) (order_of order.now) row }
+{
+    let (answer, news) = (entry_of(row.answer), entry_of(row.news));
+    Outcome {
+        party: row.party,
+        sends: sends_kept(order.maker, row.sends),
+        receipts: receipts_kept(row.party, row.receipts),
+        got: entry_of(row.got),
+        said: word_kept(log, row.said, answer),
+        answer,
+        heard: word_kept(log, row.heard, news),
+        news,
+        took: took_again(log, order, news),
+        change: entry_of(row.change),
+        fate: row.fate,
+    }
+}
+
+/// The address of a party, if there is one.
+fn party_address<L: ExerciseLog>(log: &L, party: Option<Party>) -> Option<Outsider>
+    ensures { result ≡ option_map (λ p. outsider_at (party_address (L.recording log.now) p)) party }
+{
+    match party {
+        Some(party) => Some(address_in(log, party)),
+        None => None,
+    }
+}
+
+/// An order at a party, as it is told.
+fn order_told<L: ExerciseLog>(log: &L, order: &Order<'_>, outcome: Outcome) -> OrderAt
+    ensures { result ≡ order_told (L.recording log.now) (order_of order.now) outcome }
+{
+    OrderAt {
+        head: order.head,
+        from: maker_in(log, order),
+        request: request_id(&order.request),
+        kind: order.request.kind(),
+        to: order.request.target,
+        at: party_address(log, outcome.party),
+        outcome,
+    }
+}
+
+/// An order at one of its parties, as it is told, by what is kept of it. It takes no memory.
+#[tactic(auto, unfolding(crate::specs::Row::row_told))]
+pub(crate) fn told_by<L: ExerciseLog>(findings: &Findings<'_, L>, row: Row) -> OrderAt
+    requires { is_some (row_told findings.now row) ≡ true }
+    ensures { Some result ≡ row_told findings.now row }
+{
+    let log = findings.log();
+    let order = order_again(log, row.head as usize);
+    order_told(log, &order, outcome_kept(log, &order, row))
+}

@@ -1,0 +1,183 @@
+//! Where what an entry sends was received first and last, where that is no request: columns by the
+//! number of that entry, which mostly is at hand for what was received.
+
+ghost use Rattle.std.specs.Prelude.{◌≡◌, ◌<◌, ◌+◌, ℕ, List, None, Some, true, length, slice_get, is_some, is_none, option_map, OnOk};
+ghost use Rattle.exercise_model.specs.Account.{pair_of};
+ghost use Rattle.exercise_model.specs.Held.{shown};
+ghost use Rattle.exercise_model.specs.Place.{first_below};
+ghost use Rattle.exercise_findings.specs.Source.{source_of};
+ghost use Rattle.exercise_review.specs.declared.receipt.Receipts.{Receipts};
+ghost use Rattle.exercise_review.specs.Counted.{last_below};
+ghost use Rattle.exercise_review.specs.Entries.{bytes_got};
+ghost use Rattle.exercise_review.specs.Heard.{gets_in};
+ghost use Rattle.exercise_review.specs.Records.{entry_places};
+ghost use Rattle.exercise_review.specs.Register.{key_at};
+ghost use Rattle.exercise_review.specs.Sourced.{TellsSources, AreSources, AreWhole, IsAnswerIn, is_unheard};
+
+use crate::column::{number_at, put_number};
+use crate::entry_number::{NO_ENTRY, entry_of};
+use crate::receipt::Receipts;
+use exercise_findings::Findings;
+use exercise_model::{EntryView, ExerciseLog, Form, meaning_view};
+use std::alloc::{AllocError, Global};
+
+/// For each entry the first and the last at which what it sends was received, where that brings no
+/// request. A column takes no room before something is kept in it.
+pub(crate) struct SourceColumns {
+    first: Vec<u32>,
+    last: Vec<u32>,
+    whole: bool,
+}
+
+// Not derived: who drops it makes one call, and does not take its columns apart by himself.
+impl Drop for SourceColumns {
+    fn drop(self) {
+        let SourceColumns {
+            first: _first,
+            last: _last,
+            whole: _whole,
+        } = self;
+    }
+}
+
+/// Nothing is kept so far. In an open recording the columns never tell all. It takes no memory.
+pub(crate) fn no_sources<L: ExerciseLog>(alloc: Global, log: &L) -> SourceColumns
+    ensures { AreSources (L.recording log.now) 0 result }
+{
+    SourceColumns {
+        first: Vec::new(alloc),
+        last: Vec::new(alloc),
+        whole: log.form() != Form::Open,
+    }
+}
+
+/// Keeps that what a station receives at the next entry comes from another. The columns do not tell
+/// all where what one entry sends comes to two stations.
+fn note_from<L: ExerciseLog>(
+    sources: &mut SourceColumns,
+    log: &L,
+    station: u16,
+    source: usize,
+    entry: usize,
+) -> Result<(), AllocError>
+    requires within { entry < length (L.recording log.now).entries }
+    requires source { source < length (L.recording log.now).entries }
+    requires key { key_at (L.recording log.now) entry ≡ None }
+    requires from { source_of (L.recording log.now) entry ≡ Some source }
+    requires place { entry_places (L.recording log.now) entry ≡ Some station }
+    requires tied { TellsSources (L.recording log.now) entry sources.old }
+    ensures { OnOk result (AreSources (L.recording log.now) (entry + 1) sources.new) }
+{
+    let count = log.entry_count();
+    match entry_of(number_at(&sources.first, NO_ENTRY, source)) {
+        None => {
+            put_number(&mut sources.first, NO_ENTRY, count, source, entry as u32)?;
+            put_number(&mut sources.last, NO_ENTRY, count, source, entry as u32)
+        }
+        Some(first) if log.entry(first).station() == station => {
+            put_number(&mut sources.last, NO_ENTRY, count, source, entry as u32)
+        }
+        Some(_) => {
+            sources.whole = false;
+            Ok(())
+        }
+    }
+}
+
+/// Keeps what a station receives at the next entry, where that brings no request. The columns do not
+/// tell all where its source is not at hand, if it means something.
+fn note_received<L: ExerciseLog>(
+    sources: &mut SourceColumns,
+    findings: &Findings<'_, L>,
+    station: u16,
+    bytes: &[u8],
+    entry: usize,
+) -> Result<(), AllocError>
+    requires within { entry < length findings.now.entries }
+    requires key { key_at findings.now entry ≡ None }
+    requires got { bytes_got findings.now station entry ≡ Some bytes.now }
+    requires tied { TellsSources findings.now entry sources.old }
+    ensures { OnOk result (AreSources findings.now (entry + 1) sources.new) }
+{
+    let log = findings.log();
+    if let Some(source) = findings.source_at_hand(entry) {
+        return note_from(sources, log, station, source as usize, entry);
+    }
+    if meaning_view(log.exercise(), bytes).is_some() {
+        sources.whole = false;
+    }
+    Ok(())
+}
+
+/// Keeps the next entry, at which this stands, where it receives something that brings no request.
+pub(crate) fn note_source<L: ExerciseLog>(
+    sources: &mut SourceColumns,
+    findings: &Findings<'_, L>,
+    view: EntryView<'_>,
+    has_key: bool,
+    entry: usize,
+) -> Result<(), AllocError>
+    requires within { entry < length findings.now.entries }
+    requires key { has_key ≡ is_some (key_at findings.now entry) }
+    requires at { slice_get findings.now.entries entry ≡ Some (shown view) }
+    requires tied { AreSources findings.now entry sources.old }
+    ensures { OnOk result (AreSources findings.now (entry + 1) sources.new) }
+{
+    if !sources.whole {
+        return Ok(());
+    }
+    if has_key {
+        return Ok(());
+    }
+    match view {
+        EntryView::Received { station, bytes, .. } => {
+            note_received(sources, findings, station, bytes, entry)
+        }
+        EntryView::Sent { .. } => Ok(()),
+        EntryView::Told { .. } => Ok(()),
+    }
+}
+
+/// Whether each entry that takes up a request was received.
+fn all_heard<L: ExerciseLog>(findings: &Findings<'_, L>, sources: &SourceColumns) -> bool
+    ensures { result ≡ is_none (first_below (is_unheard findings.now sources.now) (length findings.now.entries)) }
+{
+    for entry in 0..findings.log().entry_count() {
+        let first = entry_of(number_at(&sources.first, NO_ENTRY, entry));
+        if findings.pair(entry).is_some() && first.is_none() {
+            return false;
+        }
+    }
+    true
+}
+
+/// Whether the columns of all entries tell of each that takes up a request where it was received.
+pub(crate) fn are_whole<L: ExerciseLog>(findings: &Findings<'_, L>, sources: &SourceColumns) -> bool
+    requires { AreSources findings.now (length findings.now.entries) sources.now }
+    ensures { result ≡ true → AreWhole findings.now sources.now }
+{
+    sources.whole && all_heard(findings, sources)
+}
+
+/// The first and the last entry at which a station received what an entry sends that takes up a
+/// request, if it did.
+pub(crate) fn receipts_from<L: ExerciseLog>(
+    sources: &SourceColumns,
+    log: &L,
+    entry: usize,
+    station: u16,
+) -> Option<Receipts>
+    requires { AreWhole (L.recording log.now) sources.now }
+    ensures first { let r = L.recording log.now in (b : List ℕ) → IsAnswerIn r entry b → option_map (λ (x : Receipts). x.first) result ≡ first_below (gets_in r station b) (length r.entries) }
+    ensures last { let r = L.recording log.now in (b : List ℕ) → IsAnswerIn r entry b → option_map (λ (x : Receipts). x.last) result ≡ last_below (gets_in r station b) (length r.entries) }
+{
+    let first = number_at(&sources.first, NO_ENTRY, entry);
+    let last = number_at(&sources.last, NO_ENTRY, entry);
+    let Some(at) = entry_of(first) else {
+        return None;
+    };
+    if log.entry(at).station() != station {
+        return None;
+    }
+    Some(Receipts { first, last })
+}

@@ -1,0 +1,68 @@
+//! The stretches of the lives of a recording's entities, as they are kept.
+
+ghost use Rattle.std.specs.Prelude.{◌≡◌, ◌≤◌, length, OnOk};
+ghost use Rattle.exercise_review.specs.Room.{AddsWithin};
+ghost use Rattle.exercise_review.specs.Stay.{ended_at, ended_by, stays_on};
+
+use crate::fault::ReviewFault;
+use dis_records::EntityState;
+
+/// A stretch of an entity's life, in which it had one state other than Absent, in as little room as it
+/// takes. Its entries are numbers from 0, of which 0xFFFFFFFF stands for none.
+#[derive(Clone, Copy)]
+pub(crate) struct Stay {
+    /// The station, a number from 0.
+    pub station: u16,
+    /// The entity of that station.
+    pub entity: u16,
+    /// Its state.
+    pub state: EntityState,
+    /// The entry of the change that began it; none where it goes on from the start.
+    pub from: u32,
+    /// The entry of the change that ended it; none where it goes on to the end.
+    pub until: u32,
+}
+
+/// Adds the stay that an entity is in, which ends at an entry or with the log, where there is room for
+/// it; there is none where the entity is Absent.
+pub(crate) fn end_stay(
+    stays: &mut Vec<Stay>,
+    most: usize,
+    stay: Stay,
+    until: u32,
+) -> Result<(), ReviewFault>
+    requires { length stays.old.items ≤ most }
+    ensures { AddsWithin most stays.old.items (ended_at stay until) result stays.new.items }
+{
+    if stay.state == EntityState::Absent {
+        return Ok(());
+    }
+    if stays.len() >= most {
+        return Err(ReviewFault::OverLimit);
+    }
+    let ended = Stay { until, ..stay };
+    stays.push(ended)?;
+    Ok(())
+}
+
+/// Goes on past an entry, which leaves the entity in a state: the stay that it is in ends there, where
+/// that is another.
+pub(crate) fn stay_on(
+    stays: &mut Vec<Stay>,
+    most: usize,
+    stay: &mut Stay,
+    entry: u32,
+    state: EntityState,
+) -> Result<(), ReviewFault>
+    requires { length stays.old.items ≤ most }
+    ensures added { AddsWithin most stays.old.items (ended_by stay.old entry state) result stays.new.items }
+    ensures stay { OnOk result (stay.new ≡ stays_on stay.old entry state) }
+{
+    if state == stay.state {
+        return Ok(());
+    }
+    end_stay(stays, most, *stay, entry)?;
+    stay.state = state;
+    stay.from = entry;
+    Ok(())
+}

@@ -1,0 +1,116 @@
+//! The stretches of the lives of a recording's entities, one after the other, as they are kept: by
+//! station, by entity and in their order.
+
+ghost use Rattle.std.specs.Prelude.{◌≡◌, ◌<◌, ◌≤◌, length, map};
+ghost use Rattle.exercise_review.specs.Room.{AddsWithin};
+ghost use Rattle.exercise_review.specs.Span.{spans_of, all_spans, changes_made};
+ghost use Rattle.exercise_review.specs.Course.{AreInOrder, lives_in};
+ghost use Rattle.exercise_review.specs.Stay.{StaysWithin, stay_of, stays_of, all_stays};
+
+use crate::changes::{Made, changes_by_station, changes_made};
+use crate::course::Course;
+use crate::fault::ReviewFault;
+use crate::living::{last_living, may_live, push_life};
+use crate::stay::Stay;
+use exercise_findings::Findings;
+use exercise_model::ExerciseLog;
+use std::alloc::Global;
+
+/// Adds the stays of an entity, by the course of its station, if there may be any.
+fn push_entity(
+    stays: &mut Vec<Stay>,
+    most: usize,
+    course: &Course<'_>,
+    station: u16,
+    entity: u16,
+) -> Result<(), ReviewFault>
+    requires order { AreInOrder course.now }
+    requires room { length stays.old.items ≤ most }
+    ensures { AddsWithin most stays.old.items (map (stay_of station entity) (lives_in course.now entity)) result stays.new.items }
+{
+    if may_live(course, entity) {
+        push_life(stays, most, course, station, entity)
+    } else {
+        Ok(())
+    }
+}
+
+/// Adds the stays of a station's entities, by the changes of that station, where there is room for so
+/// many.
+fn push_station<L: ExerciseLog>(
+    alloc: Global,
+    stays: &mut Vec<Stay>,
+    most: usize,
+    findings: &Findings<'_, L>,
+    station: u16,
+    changes: &[Made],
+) -> Result<(), ReviewFault>
+    requires at { station < length findings.now.setting.stations }
+    requires changes { changes.now ≡ changes_made findings.now station }
+    requires room { length stays.old.items ≤ most }
+    ensures { AddsWithin most stays.old.items (stays_of findings.now station) result stays.new.items }
+{
+    let course = Course::of(alloc, findings, station, changes)?;
+    for below in 0..last_living(&course) {
+        push_entity(stays, most, &course, station, below + 1)?;
+    }
+    Ok(())
+}
+
+/// Adds the stays of all stations' entities, where there is room for so many.
+#[tactic(auto, unfolding(crate::specs::Stay::all_stays))]
+fn push_stays<L: ExerciseLog>(
+    alloc: Global,
+    stays: &mut Vec<Stay>,
+    most: usize,
+    findings: &Findings<'_, L>,
+) -> Result<(), ReviewFault>
+    requires { length stays.old.items ≤ most }
+    ensures { AddsWithin most stays.old.items (all_stays findings.now) result stays.new.items }
+{
+    let changes = changes_by_station(alloc, findings)?;
+    for station in 0..findings.log().station_count() {
+        push_station(
+            alloc,
+            stays,
+            most,
+            findings,
+            station as u16,
+            &changes[station],
+        )?;
+    }
+    Ok(())
+}
+
+/// The stretches of the lives of a station's entities, by entity and in their order; `OverLimit`
+/// where there are more than so many.
+pub(crate) fn stays_of<L: ExerciseLog>(
+    alloc: Global,
+    findings: &Findings<'_, L>,
+    station: u16,
+    most: usize,
+) -> Result<Vec<Stay>, ReviewFault>
+    requires { station < length findings.now.setting.stations }
+    ensures { StaysWithin findings.now most (spans_of findings.now station) result }
+{
+    let _entries = findings.log().entry_count();
+    let changes = changes_made(alloc, findings, station)?;
+    let mut stays = Vec::new(alloc);
+    push_station(alloc, &mut stays, most, findings, station, &changes)?;
+    Ok(stays)
+}
+
+/// The stretches of the lives of all stations' entities, by station, by entity and in their order;
+/// `OverLimit` where there are more than so many.
+pub(crate) fn stays_within<L: ExerciseLog>(
+    alloc: Global,
+    findings: &Findings<'_, L>,
+    most: usize,
+) -> Result<Vec<Stay>, ReviewFault>
+    ensures { StaysWithin findings.now most (all_spans findings.now) result }
+{
+    let _entries = findings.log().entry_count();
+    let mut stays = Vec::new(alloc);
+    push_stays(alloc, &mut stays, most, findings)?;
+    Ok(stays)
+}

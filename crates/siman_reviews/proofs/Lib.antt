@@ -2,3 +2,4 @@ mod Kept
 mod LineParts
 mod Keyed
 mod CarriedLines
+mod HeldLines

@@ -1,8 +1,8 @@
 -- Words that ask for filters, recordings that could not be reviewed, and what holds of each fate.
-use Rattle.std.proofs.Common.{◌≡◌, ℕ, zero, suc, ◌<◌, List, [], ◌∷◌, ◌++◌, length, take, drop, get_or, map, None, Result, Ok, Err, arith, sym, ap, ◌∙◌, inl}
-use Rattle.std.specs.Prelude.{String}
-use Rattle.std.specs.declared.alloc.Global.{Global}
+use Rattle.std.proofs.Common.{◌≡◌, ℕ, zero, suc, ◌<◌, List, [], ◌∷◌, ◌++◌, length, take, drop, get_or, map, None, Ok, Err, arith, refl, sym, ap, ◌∙◌, inl}
+use Rattle.std.specs.Prelude.{Option}
 use Rattle.std.specs.Result.{IsErrAnd}
+use Rattle.std.proofs.KnownBytes.{Keeps-refl}
 use Rattle.std.proofs.lemmas.List.{map-append}
 use Rattle.byte_files.specs.Fields.{Fails}
 use Rattle.exercise_recording.specs.declared.format_fault.RecordingFault.{RecordingFault}
@@ -16,7 +16,8 @@ use Rattle.siman_answers.specs.declared.fault.Fault.{Fault}
 use Rattle.siman_answers.specs.Ending.{of_recording}
 use Rattle.siman_views.specs.FilterWords.{filter_of}
 use Rattle.siman_answers.specs.Recorded.{Recorded}
-use Rattle.siman_views.specs.Review.{AskFor, IsFirstBad, Reviews}
+use Rattle.siman_answers.specs.Making.{Answered as Answer}
+use Rattle.siman_views.specs.Review.{AskFor, IsFirstBad, IsUnsaid, TellsReview}
 use Rattle.siman_answers.proofs.Offered.{unsearched}
 
 -- a list, taken apart at one of its items
@@ -37,11 +38,17 @@ first_bad view text ws i w filters within is ask bad = record {
   bad = bad;
 }
 
+-- nothing was said, and nothing is out
+pub untold : (spelling : Spelling) (filters : List Filter) (recorded : Recorded) (fault : Fault) (result : Answer) (known : Option (List ℕ))
+    → IsErrAnd result (λ e. e ≡ fault) → IsUnsaid recorded fault → TellsReview spelling filters recorded result (record { old = known; new = known })
+untold spelling filters recorded fault (Ok status) known passed why = absurd passed
+untold spelling filters recorded fault (Err e) known passed why = rw passed (inl (fault, why, refl, Keeps-refl known))
+
 -- a recording that could not be read
-pub unreviewed : (spelling : Spelling) (filters : List Filter) (recorded : Recorded) (fault : RecordingFault) (result : Result (String Global) Fault)
-    → IsErrAnd result (λ e. e ≡ of_recording fault) → Fails (format_of fault) recorded → Reviews spelling filters recorded result
-unreviewed spelling filters recorded fault (Ok text) passed why = absurd passed
-unreviewed spelling filters recorded fault (Err e) passed why = rw passed (inl (unsearched recorded fault why))
+pub unreviewed : (spelling : Spelling) (filters : List Filter) (recorded : Recorded) (fault : RecordingFault) (result : Answer) (known : Option (List ℕ))
+    → IsErrAnd result (λ e. e ≡ of_recording fault) → Fails (format_of fault) recorded → TellsReview spelling filters recorded result (record { old = known; new = known })
+unreviewed spelling filters recorded fault result known passed why =
+    untold spelling filters recorded (of_recording fault) result known passed (inl (unsearched recorded fault why))
 
 -- what holds of each fate holds of one
 pub each_fate : (P : Fate → Type 0) → P Done → P Answered → P Refused → P Pending → P Unheard → P Unanswered → P Lost → P Unknown → P Nobody → (fate : Fate) → P fate

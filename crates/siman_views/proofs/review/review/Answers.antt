@@ -2,8 +2,9 @@
 use Rattle.std.proofs.Common.{ℕ, List, subst}
 use Rattle.exercise_recording.specs.Reading.{recording_at}
 use Rattle.siman_answers.specs.declared.limits.TheConstants.{LARGEST_RECORDING}
+use Rattle.siman_answers.specs.Outside.{Stream}
 use Rattle.siman_answers.specs.Recorded.{Recorded}
-use Rattle.siman_views.specs.Review.{Reviews}
+use Rattle.siman_views.specs.Review.{TellsReview}
 use Rattle.siman_answers.proofs.Offered.{of_recording, of_any, unfetched_recording}
 use Rattle.siman_views.proofs.Reviewed.{unreviewed}
 use Rattle.siman_views.proofs.review.review.Goals as goal
@@ -11,11 +12,14 @@ use Rattle.siman_views.proofs.review.review.Goals as goal
 pub returns-in_err-bytes : goal.returns-in_err-bytes
 returns-in_err-bytes g c =
     let fault = c.in_err-bytes.field-0.0 in
-    of_any (λ bytes. Reviews c.args.spelling c.args.filters.now (recording_at LARGEST_RECORDING bytes) c.from_residual.result) (g.R.Read.remaining c.args.recording)
-    (λ bytes. unreviewed _ _ _ fault _ c.from_residual.ensures.1 (unfetched_recording fault _ c.in_err-bytes.ensures.failed))
+    let known = g.W.Write.contents c.args.out.now in
+    of_any (λ bytes. TellsReview c.args.spelling c.args.filters.now (recording_at LARGEST_RECORDING bytes) c.from_residual.result (record { old = known; new = known }))
+    (g.R.Read.remaining c.args.recording)
+    (λ bytes. unreviewed _ _ _ fault _ _ c.from_residual.ensures.1 (unfetched_recording fault _ c.in_err-bytes.ensures.failed))
 
 pub returns : goal.returns
 returns g c =
-    let Reviewed : Recorded → Type 0 = λ recorded. Reviews c.args.spelling c.args.filters.now recorded c.review_bytes.result in
-    let of_text = subst (λ (text : List ℕ). Reviewed (recording_at LARGEST_RECORDING text)) c.deref.ensures.value c.review_bytes.ensures in
-    of_recording LARGEST_RECORDING Reviewed (g.R.Read.remaining c.args.recording) c.in_ok-bytes.bytes.items c.in_ok-bytes.ensures.same of_text
+    let out : Stream = record { old = g.W.Write.contents c.args.out.now; new = g.W.Write.contents c.review_bytes.new.out } in
+    let Told : Recorded → Type 0 = λ recorded. TellsReview c.args.spelling c.args.filters.now recorded c.review_bytes.result out in
+    let of_text = subst (λ (text : List ℕ). Told (recording_at LARGEST_RECORDING text)) c.deref.ensures.value c.review_bytes.ensures in
+    of_recording LARGEST_RECORDING Told (g.R.Read.remaining c.args.recording) c.in_ok-bytes.bytes.items c.in_ok-bytes.ensures.same of_text

@@ -20,10 +20,10 @@ use crate::machines::{Beginning, CREATION, FIXED, Ordering, Taking, VARIABLE, ma
 use crate::pictures::Drawing;
 use crate::pieces::{Adding, Bringing, Ending, to_add};
 use crate::recordings::{
-    APART, Carrying, Checking, FetchingSteps, Pushing, Reading, ReadingSteps, Searching, Seeing,
-    recording_of, to_check,
+    APART, Carrying, Checking, Explaining, FetchingSteps, Pushing, Reading, ReadingSteps,
+    Searching, Seeing, recording_of, to_check,
 };
-use crate::reviews::Reviewing;
+use crate::reviews::{Putting, Reviewing, Telling};
 use crate::stations::{Issuing, Nudging, Serving, to_issue, to_nudge, to_serve};
 pub use call::{Call, Said, refused, told_of, usual};
 pub use load::{put_halves, put_station};
@@ -33,7 +33,7 @@ use std::io;
 use std::io::Write;
 
 /// The calls, in their order.
-static CALLS: [&str; 28] = [
+static CALLS: [&str; 31] = [
     "decode",
     "encode",
     "to_pdu",
@@ -43,7 +43,10 @@ static CALLS: [&str; 28] = [
     "push",
     "check",
     "audit",
+    "explanation_of",
     "review_of",
+    "Reviewed::of",
+    "put_number",
     "draw",
     "lacks_of",
     "conflict_found",
@@ -65,7 +68,7 @@ static CALLS: [&str; 28] = [
 ];
 
 /// What is told of each of these calls.
-fn calls_told(alloc: Global) -> [&'static str; 28] {
+fn calls_told(alloc: Global) -> [&'static str; 31] {
     [
         told_of::<Decoding, _>(alloc, Ok(())),
         told_of::<Encoding, _>(alloc, to_encode(alloc)),
@@ -76,7 +79,10 @@ fn calls_told(alloc: Global) -> [&'static str; 28] {
         told_of::<Pushing, _>(alloc, recording_of(alloc, &RECORDING)),
         told_of::<Checking, _>(alloc, to_check(alloc)),
         told_of::<Searching, _>(alloc, recording_of(alloc, &APART)),
+        told_of::<Explaining, _>(alloc, recording_of(alloc, &APART)),
         told_of::<Reviewing, _>(alloc, recording_of(alloc, &APART)),
+        told_of::<Telling, _>(alloc, recording_of(alloc, &APART)),
+        told_of::<Putting, _>(alloc, Ok(())),
         told_of::<Drawing, _>(alloc, recording_of(alloc, &APART)),
         told_of::<Contradicting, _>(alloc, recording_of(alloc, &RING)),
         told_of::<FindingConflict, _>(alloc, recording_of(alloc, &RING)),
@@ -101,7 +107,7 @@ fn calls_told(alloc: Global) -> [&'static str; 28] {
 /// Makes each of these calls, and prints what is told of it.
 pub fn put_library_calls<W: Write>(alloc: Global, out: &mut W) -> io::Result<()> {
     let told = calls_told(alloc);
-    for place in 0..28 {
+    for place in 0..31 {
         writeln!(out, "{}: {}", CALLS[place], told[place])?;
     }
     Ok(())

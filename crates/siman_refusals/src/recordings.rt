@@ -2,14 +2,15 @@
 
 use crate::call::{Call, Said, refused, usual};
 use dis_records::{Address, EntityState};
-use exercise_audit::{Audit, audit};
+use exercise_audit::{Audit, Explanation, audit, explanation_of};
 use exercise_check::{
     Certificate, CertificateFault, CheckFault, Checked, NO_LINK, Step, check, fetch_certificate,
     read_certificate,
 };
+use exercise_findings::Findings;
 use exercise_model::{EntryView, ExerciseLog, LogEntry, LogFault, Recording, Station};
 use exercise_recording::{ConvertFault, RecordingFault, RecordingView, convert, read_recording};
-use std::alloc::Global;
+use std::alloc::{AllocError, Global};
 use std::io;
 use std::io::ErrorKind;
 
@@ -189,6 +190,24 @@ impl Call<Recording> for Searching {
             Ok(Audit::Explained(found)) => usual(found.steps.as_slice() == FOUND.as_slice()),
             Ok(Audit::Blocked(_)) => Said::Otherwise,
             Err(_) => Said::Memory,
+        }
+    }
+}
+
+/// It is asked whether some order explains a recording.
+pub(crate) struct Explaining;
+
+/// Whether some order explains a log.
+fn is_explained(alloc: Global, log: &Recording) -> Result<bool, AllocError> {
+    let Explanation { is_explained, .. } = explanation_of(alloc, Findings::of(alloc, log)?)?;
+    Ok(is_explained)
+}
+
+impl Call<Recording> for Explaining {
+    fn make(alloc: Global, log: &mut Recording) -> Said {
+        match is_explained(alloc, log) {
+            Ok(explained) => usual(explained),
+            Err(_) => refused(log.entry_count() == 4),
         }
     }
 }

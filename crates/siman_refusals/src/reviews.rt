@@ -4,8 +4,8 @@ use crate::call::{Call, Said, refused, usual};
 use dis_records::EntityState;
 use exercise_findings::Findings;
 use exercise_model::{ExerciseLog, Recording};
-use exercise_review::{Fate, Review, ReviewFault, review_of};
-use std::alloc::Global;
+use exercise_review::{Fate, Review, ReviewFault, Reviewed, number_at, put_number, review_of};
+use std::alloc::{AllocError, Global};
 
 /// A creation is reviewed, the log of whose application stands first.
 pub(crate) struct Reviewing;
@@ -30,6 +30,57 @@ impl Call<Recording> for Reviewing {
         match reviewed(alloc, log) {
             Ok(review) => usual(is_of_creation(&review)),
             Err(fault) => refused(fault == ReviewFault::Memory && log.entry_count() == 4),
+        }
+    }
+}
+
+/// The same creation is reviewed, and told one line after the other.
+pub(crate) struct Telling;
+
+/// Whether what is told is the creation: the one order, done at 2:3, and the stretch of its entity.
+fn tells_creation(reviewed: &Reviewed<'_, Recording>) -> bool {
+    if reviewed.told_count() != 1 || reviewed.span_count() != 1 || reviewed.order_count() != 1 {
+        return false;
+    }
+    let (told, span) = (reviewed.told(0), reviewed.span(0));
+    let done = told.head == 2 && told.outcome.fate == Fate::Done && reviewed.fates().done == 1;
+    let stopped = span.state == EntityState::Stopped && span.from == Some(1) && span.to.is_none();
+    reviewed.others() == 0 && reviewed.stations().len() == 2 && done && stopped
+}
+
+/// The review of a log, told so.
+fn told(alloc: Global, log: &Recording) -> Result<Reviewed<'_, Recording>, ReviewFault> {
+    Reviewed::of(alloc, Findings::of(alloc, log)?)
+}
+
+impl Call<Recording> for Telling {
+    fn make(alloc: Global, log: &mut Recording) -> Said {
+        match told(alloc, log) {
+            Ok(reviewed) => usual(tells_creation(&reviewed)),
+            Err(fault) => refused(fault == ReviewFault::Memory),
+        }
+    }
+}
+
+/// A number is put into a column that has none.
+pub(crate) struct Putting;
+
+/// A column of three numbers, of which the second is 7 and the others are 9.
+fn column(alloc: Global) -> Result<Vec<u32>, AllocError> {
+    let mut column = Vec::new(alloc);
+    put_number(&mut column, 9, 3, 1, 7)?;
+    Ok(column)
+}
+
+impl Call<()> for Putting {
+    fn make(alloc: Global, _lent: &mut ()) -> Said {
+        match column(alloc) {
+            Ok(column) => usual(
+                number_at(&column, 9, 0) == 9
+                    && number_at(&column, 9, 1) == 7
+                    && number_at(&column, 9, 2) == 9,
+            ),
+            Err(_) => Said::Memory,
         }
     }
 }

@@ -17,6 +17,7 @@ use exercise_model::{EntryView, ExerciseLog, key_of, meaning_again};
 use siman_pdus::{ABLE, PduView};
 use std::alloc::AllocError;
 use std::hash::{DefaultHasher, Hasher};
+use std::marker::Model;
 
 /// The first entry under each key.
 pub(crate) type Firsts = Kept;
@@ -32,6 +33,55 @@ pub(crate) fn key_base(key: &Key) -> u32
     (hasher.finish() % 0x1_0000_0000) as u32
 }
 
+/// A key with its base. What is sent again and again has the same key, whose base is then made once.
+#[derive(Drop)]
+pub(crate) struct LastBase {
+    key: Key,
+    base: u32,
+}
+
+// Contracts need not see it: whatever was last, the base of a key is the same.
+impl Model for LastBase {
+    ghost use Rattle.std.specs.Prelude.{◌≡◌};
+    ghost use Rattle.exercise_findings.specs.Hashed.{key_base};
+
+    ghost Value = { Unit {0} };
+
+    ghost view = { λ last. tt };
+
+    ghost invariant = { λ last. last.base ≡ key_base last.key };
+}
+
+/// A key that nobody has, with its base.
+pub(crate) fn no_base() -> LastBase
+    ensures { result ≡ tt }
+{
+    let key = Key {
+        role: 0,
+        response: 0,
+        station: 0,
+        flag: 0,
+        request: 0,
+        site: 0,
+        application: 0,
+        entity: 0,
+    };
+    let base = key_base(&key);
+    LastBase { key, base }
+}
+
+/// The base of a key, which is made where the key is another than the last.
+pub(crate) fn base_near(last: &mut LastBase, key: &Key) -> u32
+    ensures { result ≡ key_base key.now }
+{
+    if last.key == *key {
+        return last.base;
+    }
+    let base = key_base(key);
+    *last = LastBase { key: *key, base };
+    base
+}
+
 /// The hash of a key of this base. Where it is looked for first is as for the others of that base, so they
 /// stand together; the response tells them apart.
 fn key_hash(key: &Key, base: u32) -> u32
@@ -42,11 +92,11 @@ fn key_hash(key: &Key, base: u32) -> u32
 }
 
 /// What the keys of an answer of a station have in common, by their hashes; 0 where it has none.
-pub(crate) fn answer_base(station: u16, pdu: &PduView<'_>) -> u32
+pub(crate) fn answer_base(last: &mut LastBase, station: u16, pdu: &PduView<'_>) -> u32
     ensures { result ≡ answer_base station (pdu_of pdu.now) }
 {
     match key_of(pdu) {
-        Some(key) => key_base(&acknowledged_key(station, ABLE, &key)),
+        Some(key) => base_near(last, &acknowledged_key(station, ABLE, &key)),
         None => 0,
     }
 }

@@ -24,7 +24,7 @@ use crate::behind::key_behind;
 use crate::cause::{judge_sent, judge_unsent};
 use crate::change::is_change;
 use crate::exchange::taken_up;
-use crate::firsts::{answer_base, key_base};
+use crate::firsts::{LastBase, answer_base, base_near};
 use crate::hint::Hint;
 use crate::key::{Key, received_key, sent_key};
 use crate::requests::{Requests, note_request};
@@ -106,6 +106,7 @@ fn found_sent<L: ExerciseLog>(
     log: &L,
     tables: &Tables,
     hint: &mut Hint,
+    last: &mut LastBase,
     station: u16,
     entry: usize,
     pdu: &PduView<'_>,
@@ -130,7 +131,7 @@ fn found_sent<L: ExerciseLog>(
     let address = log.station(usize::from(station)).address();
     let from = is_from(address, pdu);
     let taken = taken_up(log, &tables.firsts, hint, station, entry, pdu);
-    let base = answer_base(station, pdu);
+    let base = answer_base(last, station, pdu);
     let first = is_change(log, &tables.firsts, station, entry, pdu, base);
     Found {
         cause: judge_sent(
@@ -149,11 +150,11 @@ fn found_sent<L: ExerciseLog>(
 }
 
 /// The base of a key, if there is one; else 0.
-fn base_of(key: Option<Key>) -> u32
+fn base_of(last: &mut LastBase, key: Option<Key>) -> u32
     ensures { (k : Key) → Some k ≡ key → result ≡ key_base k }
 {
     match key {
-        Some(key) => key_base(&key),
+        Some(key) => base_near(last, &key),
         None => 0,
     }
 }
@@ -162,6 +163,7 @@ fn base_of(key: Option<Key>) -> u32
 fn found_received<L: ExerciseLog>(
     log: &L,
     places: &Places,
+    last: &mut LastBase,
     station: u16,
     pdu: &PduView<'_>,
 ) -> Found
@@ -182,7 +184,7 @@ fn found_received<L: ExerciseLog>(
     let key = received_key(station, address, pdu);
     Found {
         key,
-        base: base_of(key),
+        base: base_of(last, key),
         behind: key_behind(sender, pdu),
         ..judged(judge_unsent(log.form(), sender.is_some()))
     }
@@ -195,6 +197,7 @@ pub(crate) fn find_sent<L: ExerciseLog>(
     requests: &mut Requests,
     rising: &mut Rising,
     hint: &mut Hint,
+    last: &mut LastBase,
     entry: usize,
     station: u16,
     bytes: &[u8],
@@ -220,6 +223,7 @@ pub(crate) fn find_sent<L: ExerciseLog>(
                 log,
                 tables,
                 hint,
+                last,
                 station,
                 entry,
                 &pdu,
@@ -235,6 +239,7 @@ pub(crate) fn find_sent<L: ExerciseLog>(
 pub(crate) fn find_received<L: ExerciseLog>(
     log: &L,
     places: &Places,
+    last: &mut LastBase,
     entry: usize,
     station: u16,
     bytes: &[u8],
@@ -244,7 +249,7 @@ pub(crate) fn find_received<L: ExerciseLog>(
     ensures { IsFound (L.recording log.now) entry result }
 {
     match meaning_view(log.exercise(), bytes) {
-        Some(pdu) => found_received(log, places, station, &pdu),
+        Some(pdu) => found_received(log, places, last, station, &pdu),
         None => found_other(),
     }
 }

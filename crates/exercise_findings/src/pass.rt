@@ -15,6 +15,7 @@ use crate::cause::judge_told;
 use crate::change_number::{NO_CHANGE, change_number};
 use crate::earlier::{Looks, all_earlier, earlier_so_far, settle_source};
 use crate::first_sends::{FirstSends, hash_all, no_sends, note_send};
+use crate::firsts::{LastBase, no_base};
 use crate::found::{find_received, find_sent};
 use crate::hint::Hint;
 use crate::number::{NO_ENTRY, entry_number};
@@ -39,6 +40,9 @@ pub(crate) struct Pass {
     pub tables: Tables,
     /// Where the request that the next answer takes up is looked for first.
     pub answers: Hint,
+    /// The bases of the keys that were sent and received last.
+    pub sent: LastBase,
+    pub received: LastBase,
     /// The first cause that its station's log has against each entry.
     pub causes: Vec<Option<Cause>>,
     /// The number of what each entry changes at its station.
@@ -137,6 +141,8 @@ fn nothing_found<L: ExerciseLog>(alloc: Global, log: &L) -> Result<Pass, AllocEr
         places,
         tables,
         answers,
+        sent: no_base(),
+        received: no_base(),
         causes,
         changes,
         earlier,
@@ -192,10 +198,11 @@ fn keep_sent<L: ExerciseLog>(
     let Pass {
         tables,
         answers,
+        sent,
         ..
     } = found;
     let here = find_sent(
-        log, tables, requests, rising, answers, entry, station, bytes,
+        log, tables, requests, rising, answers, sent, entry, station, bytes,
     )?;
     found.causes.push(here.cause)?;
     found.changes.push(change_number(here.change))?;
@@ -237,7 +244,12 @@ fn keep_received<L: ExerciseLog>(
     requires found { IsPass (L.recording log.now) entry found.old }
     ensures { OnOk result (IsPass (L.recording log.now) (entry + 1) found.new) }
 {
-    let here = find_received(log, &found.places, entry, station, bytes);
+    let Pass {
+        places,
+        received,
+        ..
+    } = found;
+    let here = find_received(log, places, received, entry, station, bytes);
     found.causes.push(here.cause)?;
     found.changes.push(change_number(here.change))?;
     let earlier = earlier_so_far(&mut found.sends, &mut found.looks, log, entry, bytes)?;

@@ -3,9 +3,10 @@ use Rattle.std.proofs.Common.{◌≡◌, ℕ, ◌≤◌, List, length, true, fal
 use Rattle.std.specs.Prelude.{slice_get, option_and_then, if◌then◌else◌}
 use Rattle.std.proofs.lemmas.Bool.{eq-eqb}
 use Rattle.std.proofs.lemmas.Option.{slice_get_past}
+use Rattle.dis_records.specs.declared.entity_state.EntityState.{EntityState}
 use Rattle.siman_pdus.specs.declared.pdu.Pdu.{Pdu}
 use Rattle.siman_pdus.specs.Role.{is_request_body}
-use Rattle.exercise_model.specs.Entry.{Received}
+use Rattle.exercise_model.specs.Entry.{Received, Told}
 use Rattle.exercise_model.specs.Recording.{PlainRecording}
 use Rattle.exercise_model.specs.Meaning.{meaning}
 use Rattle.exercise_model.specs.Setting.{is_open}
@@ -17,6 +18,11 @@ use Rattle.exercise_review.specs.Register.{order_key, id_key, got_key, entry_key
 pub key_beyond : (r : PlainRecording) (i : ℕ) → length r.entries ≤ i → None ≡ key_at r i
 unfolding key_at
 key_beyond r i beyond = sym (ap (option_and_then (entry_key r i)) (slice_get_past r.entries i beyond))
+
+-- a state that is told has none
+pub told_unkeyed : (r : PlainRecording) (i s e : ℕ) (y : EntityState) → slice_get r.entries i ≡ Some (Told s e y) → key_at r i ≡ None
+unfolding key_at
+told_unkeyed r i s e y at = ap (option_and_then (entry_key r i)) at
 
 -- what a station receives in a recording that is not open has the key of the request that it brings, and none of an answer
 pub known_key : (r : PlainRecording) (s i stamp : ℕ) (b : List ℕ) → slice_get r.entries i ≡ Some (Received s stamp b) → is_open r.setting.form ≡ false

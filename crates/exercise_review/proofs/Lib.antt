@@ -41,5 +41,6 @@ mod TakenBy
 mod Telling
 mod Came
 mod Conversions
+mod Stamped
 mod Unfiltered
 pub mod Offered

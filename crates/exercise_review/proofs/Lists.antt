@@ -1,9 +1,10 @@
 -- Lists one after the other, one list more at a time, and room for them.
-use Rattle.std.proofs.Common.{◌≡◌, ℕ, zero, suc, ◌+◌, ◌-◌, ◌<◌, ◌≤◌, List, [], ◌++◌, length, refl, sym, ap, ◌∙◌, append_assoc, append-nil, subst, arith}
+use Rattle.std.proofs.Common.{◌≡◌, ⊎_elim, ℕ, zero, suc, ◌+◌, ◌-◌, ◌<◌, ◌≤◌, List, [], ◌++◌, length, refl, sym, ap, ◌∙◌, append_assoc, append-nil, subst, arith}
 use Rattle.std.specs.Prelude.{Result, Ok, Err, Vec}
 use Rattle.std.specs.declared.alloc.Global.{Global}
 use Rattle.std.specs.Result.{IsErrAnd}
 use Rattle.std.proofs.Math.Numerals.{add-one}
+use Rattle.std.proofs.lemmas.Bool.{cases_lt}
 use Rattle.std.proofs.lemmas.List.{length-append}
 use Rattle.exercise_review.specs.declared.fault.ReviewFault.{ReviewFault}
 use Rattle.exercise_review.specs.declared.fault.ReviewFault.TheVariants.{OverLimit, Memory}
@@ -24,6 +25,17 @@ longer f k zero = let same : 0 + k ≡ k = omega arith in omega (arith, ap (λ n
 longer f k (suc d) =
     let next : suc d + k ≡ suc (d + k) = omega arith in
     omega (arith, longer f k d, ap (λ n. length (lists_below f n)) next, length-append (lists_below f (d + k)) (f (d + k)))
+
+-- the lists of all below n are those of all below an end where the rest are empty
+pub lists_end : {X : Type 0} (f : ℕ → List X) (end n : ℕ) → end ≤ n → ((i : ℕ) → end ≤ i → i < n → f i ≡ []) → lists_below f end ≡ lists_below f n
+unfolding lists_below
+lists_end f end zero within none = let same : end ≡ 0 = omega (arith, within) in ap (lists_below f) same
+lists_end f end (suc n) within none = ⊎_elim
+    (λ (past : n < end). let same : end ≡ suc n = omega (arith, past, within) in ap (lists_below f) same)
+    (λ (from : end ≤ n).
+    lists_end f end n from (λ i l below. none i l (omega (arith, below)))
+    ∙ sym (append-nil (lists_below f n)) ∙ ap (λ xs. lists_below f n ++ xs) (sym (none n from (omega arith))))
+    (cases_lt n end)
 
 pub ruleset list_steps = (lists_none, lists_more)
 

@@ -1,8 +1,9 @@
 -- Numbers that pass, one number more at a time.
-use Rattle.std.proofs.Common.{◌≡◌, ℕ, zero, suc, ◌+◌, ◌-◌, ◌<◌, Bool, Some, None, true, false, refl, ap, ◌∙◌, arith}
+use Rattle.std.proofs.Common.{◌≡◌, ⊎_elim, ℕ, zero, suc, ◌+◌, ◌-◌, ◌<◌, ◌≤◌, Bool, Some, None, true, false, refl, ap, ◌∙◌, arith}
 use Rattle.std.specs.Prelude.{if◌then◌else◌}
 use Rattle.std.specs.Option.{option_or}
 use Rattle.std.proofs.Math.Numerals.{add-one}
+use Rattle.std.proofs.lemmas.Bool.{cases_lt}
 use Rattle.exercise_model.specs.Place.{first_below}
 use Rattle.exercise_review.specs.Counted.{last_below, count_below}
 
@@ -14,6 +15,17 @@ pub first_still : (f : ℕ → Bool) (n : ℕ) → first_below f n ≡ None → 
 unfolding first_below
 first_still f n none here =
     ap (first_below f) (add-one n) ∙ ap (λ o. option_or o (if f n then Some n else None)) none ∙ ap (λ b. if b then Some n else None) here
+
+-- nothing passes below n where nothing does below an end, nor from there on
+pub first_end : (f : ℕ → Bool) (end n : ℕ) → end ≤ n → first_below f end ≡ None → ((i : ℕ) → end ≤ i → i < n → f i ≡ false) → first_below f n ≡ None
+unfolding first_below
+first_end f end zero within none rest = refl
+first_end f end (suc n) within none rest = ⊎_elim
+    (λ (past : n < end). let same : suc n ≡ end = omega (arith, past, within) in ap (first_below f) same ∙ none)
+    (λ (from : end ≤ n).
+    ap (λ o. option_or o (if f n then Some n else None)) (first_end f end n from none (λ i l below. rest i l (omega (arith, below))))
+    ∙ ap (λ b. if b then Some n else None) (rest n from (omega arith)))
+    (cases_lt n end)
 
 first_stays : (f : ℕ → Bool) (k n j : ℕ) → first_below f n ≡ Some j → first_below f (k + n) ≡ Some j
 unfolding first_below

@@ -28,7 +28,7 @@ pub same_back : (p q : Pdu) → is_same_order p q ≡ true → is_same_order q p
 same_back p q same =
     (order_decides q p).1 (sym (ap (λ (x : Pdu). record x { stamp = q.stamp; status = q.status }) ((order_decides p q).0 same)))
 
-same_itself : (p : Pdu) → is_same_order p p ≡ true
+pub same_itself : (p : Pdu) → is_same_order p p ≡ true
 same_itself p = (order_decides p p).1 refl
 
 pub ids_same : (a b c : Option ℕ) → same_id a b ≡ true → same_id a c ≡ true → same_id b c ≡ true

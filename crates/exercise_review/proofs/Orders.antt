@@ -1,5 +1,5 @@
 -- Orders one after the other, and what is told of them, as loops make it.
-use Rattle.std.proofs.Common.{◌≡◌, ℕ, zero, suc, ◌+◌, ◌<◌, List, [], ◌∷◌, ◌++◌, length, map, Bool, true, false, Option, Some, None, refl, sym, ap, ◌∙◌, append-nil, subst, arith}
+use Rattle.std.proofs.Common.{◌≡◌, ℕ, zero, suc, ◌+◌, ◌<◌, ◌≤◌, List, [], ◌∷◌, ◌++◌, length, map, Bool, true, false, Option, Some, None, refl, sym, ap, ◌∙◌, append-nil, subst, arith}
 use Rattle.std.specs.declared.alloc.Global.{Global}
 use Rattle.std.specs.Prelude.{Vec, Result, Ok, Err, OnOk, slice_get, option_map, option_and_then, if◌then◌else◌}
 use Rattle.std.specs.List.{flat_map}
@@ -18,6 +18,7 @@ use Rattle.exercise_review.specs.declared.fault.ReviewFault.TheVariants.{OverLim
 use Rattle.exercise_review.specs.declared.row.Row.{Row}
 use Rattle.exercise_review.specs.declared.told.Told as lists
 use Rattle.exercise_review.specs.Order.{OrderData, made_by, order_of_entry, head_of, order_at}
+use Rattle.exercise_review.specs.Register.{key_at}
 use Rattle.exercise_review.specs.Room.{lists_below}
 use Rattle.exercise_review.specs.Row.{row_told, AreRows, AddsRows}
 use Rattle.exercise_review.specs.Tally.{makers_of, IsTold, TellsWithin}
@@ -26,7 +27,8 @@ use Rattle.exercise_review.specs.declared.party.Party.{Party}
 use Rattle.exercise_review.specs.Parties.{parties_of}
 use Rattle.exercise_review.specs.Outcome.{outcome_at, outcomes_at, outcomes_of}
 use Rattle.exercise_review.specs.Told.{order_told, order_at_parties, orders_at, told_at, orders_of, orders_told}
-use Rattle.exercise_review.proofs.Lists.{lists_none, lists_more, part_below}
+use Rattle.exercise_review.proofs.Keyed.{no_order}
+use Rattle.exercise_review.proofs.Lists.{lists_none, lists_more, lists_end, part_below}
 use Rattle.exercise_review.proofs.Rows.{rows_count}
 
 -- ---- an order at its parties
@@ -126,6 +128,14 @@ told_all r = below (length r.entries)
     below : (n : ℕ) → lists_below (told_at r) n ≡ flat_map (order_at_parties r) (lists_below (orders_at r) n)
     below zero = refl
     below (suc n) = ap (λ xs. xs ++ told_at r n) (below n) ∙ sym (flat_map-append (order_at_parties r) (lists_below (orders_at r) n) (orders_at r n))
+
+-- WHERE NO ENTRY FROM AN END ON HAS A KEY, what is told of those before it is what is told of all
+pub told_end : (r : PlainRecording) (end n : ℕ) (t : lists.Told) → end ≤ n → ((i : ℕ) → end ≤ i → i < n → key_at r i ≡ None) → IsTold r end t → IsTold r n t
+told_end r end n t within rest told = record {
+  records = told.records;
+  makers = told.makers ∙ ap makers_of (lists_end (orders_at r) end n within (λ i l below. ap option_to_list (sym (no_order r i (rest i l below)))));
+  rows = told.rows ∙ ap (map Some) (lists_end (told_at r) end n within (λ i l below. nothing_there r i (sym (no_order r i (rest i l below)))));
+}
 
 refused : (r : PlainRecording) (part new : List Row) (k most : ℕ) (e : ReviewFault) → k < length r.entries → AreRows r part (lists_below (told_at r) k)
     → AddsRows r most part (told_at r k) (Err e) new → TellsWithin r most (Err e)

@@ -2,7 +2,7 @@
 use Rattle.std.proofs.Common.{◌≡◌, ⊎_elim, ℕ, ◌+◌, ◌<◌, ◌≤◌, [], ◌∷◌, ◌++◌, length, true, false, Option, Some, None, refl, sym, ap, ◌∙◌, subst, arith}
 use Rattle.std.specs.declared.alloc.Global.{Global}
 use Rattle.std.specs.declared.alloc.AllocError.{AllocError}
-use Rattle.std.specs.Prelude.{Vec, Result, Ok, Err, OnOk, slice_get, slice_index_or, nat_eq, option_and_then, if◌then◌else◌}
+use Rattle.std.specs.Prelude.{Vec, Result, Ok, Err, OnOk, is_some, slice_get, slice_index_or, nat_eq, option_and_then, if◌then◌else◌}
 use Rattle.std.specs.List.{list_any, IsDistinct}
 use Rattle.std.specs.Option.{option_map_or}
 use Rattle.std.proofs.Math.Numerals.{add-one}
@@ -82,6 +82,11 @@ registered_still keys n w none so_far = record {
       absurd (let no : false ≡ true = sym (holds_none keys n k none) ∙ ap (holds keys k) same ∙ has in cc))
       (cases_lt i n);
 }
+
+-- none has one from where the column of places ends
+pub unplaced : (keys : ℕ → Option ℕ) (n i : ℕ) (w : Ways) → AreRegistered keys n w → length w.places.items ≤ i → i < n → keys i ≡ None
+unplaced keys n i w so_far past below =
+    sym (so_far.places i below).is ∙ ap (key_numbered w.keys) (get_or-eq_default w.places.items no_entry {n = i} past)
 
 -- ---- an entry with one
 
@@ -206,3 +211,17 @@ pub kept_more : (n p k : ℕ) (old mid new : Ways) (told : Option ℕ) (result :
 kept_more n p k old mid new told (Err e) few small is at same kept = tt
 kept_more n p k old mid new told (Ok x) few small is at same kept =
     λ keys key so_far. registered_more keys n p k mid new few small (sym key ∙ is) at kept (same keys so_far)
+
+-- ---- where a key stands
+
+-- a number stands for a place where there is a key
+is_placed : (keys : Keys) (key : Option ℕ) (number : ℕ) → IsPlaced keys key number → is_some (entry_of number) ≡ is_some key
+is_placed keys None number placed = ap (λ n. is_some (entry_of n)) (placed.none refl)
+is_placed keys (Some k) number placed = has (entry_of number) placed.is
+  where
+    has : (o : Option ℕ) → option_and_then (slice_get keys.keys) o ≡ Some k → is_some o ≡ true
+    has None h = absurd (cc)
+    has (Some x) h = refl
+
+pub is_keyed : (keys : ℕ → Option ℕ) (n i : ℕ) (w : Ways) → AreRegistered keys n w → i < n → is_some (entry_of (slice_index_or w.places.items i no_entry)) ≡ is_some (keys i)
+is_keyed keys n i w tied within = is_placed w.keys (keys i) (slice_index_or w.places.items i no_entry) (tied.places i within)

@@ -6,9 +6,11 @@ use Rattle.exercise_review.specs.Gathered.{IsOwn}
 use Rattle.exercise_review.specs.Order.{OrderData}
 use Rattle.exercise_review.specs.Outcome.{sends_told}
 use Rattle.exercise_review.specs.Register.{request_digest}
+use Rattle.exercise_review.specs.Stamped.{IsSaid}
 
--- the digest of its request, how often it was sent, and what was gathered of it at its maker, if that was done
+-- bytes that say it, if they are at hand, the digest of its request, how often it was sent, and what was gathered of it at its maker, if that was done
 pub record IsAsked (r : PlainRecording) (o : OrderData) (x : Asked) : Type 0 where
+  pub said : IsSaid r o.request x.said
   pub digest : x.digest ≡ request_digest o.request
   pub sends : x.sends ≡ sends_told r o
   pub own : IsOwn r o x.own

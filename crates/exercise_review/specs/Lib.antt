@@ -32,3 +32,5 @@ pub mod Tally
 pub mod Review
 pub mod Alike
 pub mod Filter
+pub mod Stamped
+pub mod Recent

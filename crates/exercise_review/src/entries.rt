@@ -64,16 +64,12 @@ pub(crate) fn meant_again<'b, L: ExerciseLog>(
     meaning_again(findings.log().exercise(), bytes)
 }
 
-/// The bytes that a station sends at an entry.
+/// The bytes that a station sends at an entry of a log.
 #[tactic(auto, unfolding(crate::specs::Entries::bytes_sent))]
-pub(crate) fn bytes_sent<'a, L: ExerciseLog>(
-    findings: &Register<'a, L>,
-    station: u16,
-    entry: usize,
-) -> Option<&'a [u8]>
-    ensures { option_map (λ bytes. bytes.now) result ≡ bytes_sent findings.now station entry }
+pub(crate) fn bytes_sent_in<L: ExerciseLog>(log: &L, station: u16, entry: usize) -> Option<&[u8]>
+    ensures { option_map (λ bytes. bytes.now) result ≡ bytes_sent (L.recording log.now) station entry }
 {
-    match entry_at(findings, entry) {
+    match entry_in(log, entry) {
         Some(
             EntryView::Sent {
                 station: at,
@@ -85,16 +81,23 @@ pub(crate) fn bytes_sent<'a, L: ExerciseLog>(
     }
 }
 
-/// The bytes that a station receives at an entry.
-#[tactic(auto, unfolding(crate::specs::Entries::bytes_got))]
-pub(crate) fn bytes_got<'a, L: ExerciseLog>(
+/// The same of an entry of a recording.
+pub(crate) fn bytes_sent<'a, L: ExerciseLog>(
     findings: &Register<'a, L>,
     station: u16,
     entry: usize,
 ) -> Option<&'a [u8]>
-    ensures { option_map (λ bytes. bytes.now) result ≡ bytes_got findings.now station entry }
+    ensures { option_map (λ bytes. bytes.now) result ≡ bytes_sent findings.now station entry }
 {
-    match entry_at(findings, entry) {
+    bytes_sent_in(findings.log(), station, entry)
+}
+
+/// The bytes that a station receives at an entry of a log.
+#[tactic(auto, unfolding(crate::specs::Entries::bytes_got))]
+pub(crate) fn bytes_got_in<L: ExerciseLog>(log: &L, station: u16, entry: usize) -> Option<&[u8]>
+    ensures { option_map (λ bytes. bytes.now) result ≡ bytes_got (L.recording log.now) station entry }
+{
+    match entry_in(log, entry) {
         Some(
             EntryView::Received {
                 station: at,
@@ -104,6 +107,17 @@ pub(crate) fn bytes_got<'a, L: ExerciseLog>(
         ) if at == station => Some(bytes),
         _ => None,
     }
+}
+
+/// The same of an entry of a recording.
+pub(crate) fn bytes_got<'a, L: ExerciseLog>(
+    findings: &Register<'a, L>,
+    station: u16,
+    entry: usize,
+) -> Option<&'a [u8]>
+    ensures { option_map (λ bytes. bytes.now) result ≡ bytes_got findings.now station entry }
+{
+    bytes_got_in(findings.log(), station, entry)
 }
 
 /// The PDU that a station sends at an entry, if it sends something that is not "other".

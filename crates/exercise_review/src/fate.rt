@@ -145,7 +145,7 @@ pub fn traces_of<L: ExerciseLog>(
         order,
         station,
     };
-    let gathered = gathered_of(&replies, replies.key(), &mut Hints::new());
+    let gathered = gathered_of(&replies, replies.key(), None, &mut Hints::new());
     traces_by(&replies, gathered)
 }
 

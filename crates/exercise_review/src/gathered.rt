@@ -15,6 +15,7 @@ ghost use Rattle.exercise_review.specs.Outcome.{receipts_of};
 ghost use Rattle.exercise_review.specs.Party.{is_copy, first_copy};
 ghost use Rattle.exercise_review.specs.Register.{order_key, key_at};
 ghost use Rattle.exercise_review.specs.Reply.{is_reply, is_news};
+ghost use Rattle.exercise_review.specs.Stamped.{IsSaid};
 ghost use Rattle.exercise_review.specs.Word.{is_settling, first_settling};
 
 use crate::answered::{Replied, with_reply};
@@ -23,6 +24,7 @@ use crate::hints::Hints;
 use crate::news::{HeardNews, with_news};
 use crate::order::{Gets, Sends};
 use crate::reply::{News, Replies, Reply, change_of_order};
+use crate::resent::says_again;
 use crate::walk::{Counted, counted_entries, last_entry};
 use crate::word::{Spoken, Word, first_settling, settles};
 use exercise_model::{EntryView, ExerciseLog};
@@ -50,14 +52,23 @@ pub(crate) struct Gathered {
     pub news: HeardNews,
 }
 
-/// Whether what a station receives at an entry is a copy.
+/// Whether what a station receives at an entry is a copy. Bytes that say the order are not read.
 #[tactic(auto, unfolding(crate::specs::Order::gets_order, crate::specs::Entries::got_by))]
-fn brings_copy<L: ExerciseLog>(replies: &Replies<'_, L>, entry: usize, bytes: &[u8]) -> bool
+fn brings_copy<L: ExerciseLog>(
+    replies: &Replies<'_, L>,
+    entry: usize,
+    bytes: &[u8],
+    said: Option<&[u8]>,
+) -> bool
+    requires said { IsSaid replies.now.findings.now (order_of replies.now.order.now).request said }
     requires got { bytes_got replies.now.findings.now replies.now.station entry ≡ Some bytes.now }
     requires keyed { is_some (key_at replies.now.findings.now entry) ≡ true }
     ensures { let q = replies.now in result ≡ is_copy q.findings.now (order_of q.order.now) q.station entry }
 {
     let _entry = entry;
+    if says_again(said, bytes) {
+        return true;
+    }
     let pdu = meant_again(replies.findings, bytes);
     same_order(&replies.order.request, &pdu)
 }
@@ -70,8 +81,10 @@ fn reply_in<'b, L: ExerciseLog>(
     entry: usize,
     bytes: &'b [u8],
     pdu: &PduView<'_>,
+    said: Option<&[u8]>,
     known: Option<usize>,
 ) -> Option<Reply<'b>>
+    requires said { IsSaid replies.now.findings.now (order_of replies.now.order.now).request said }
     requires known { let q = replies.now in IfSome known (λ i. is_copy q.findings.now (order_of q.order.now) q.station i ≡ true) }
     requires bytes { bytes_sent replies.now.findings.now replies.now.station entry ≡ Some bytes.now }
     requires meant { meaning replies.now.findings.now.setting.exercise bytes.now ≡ Some (pdu_of pdu.now) }
@@ -85,7 +98,7 @@ fn reply_in<'b, L: ExerciseLog>(
     if !answers(pdu, &replies.order.request) {
         return None;
     }
-    let copy = replies.copy_taken(entry, known)?;
+    let copy = replies.copy_taken(entry, said, known)?;
     Some(Reply {
         settles: settles(&pdu.body),
         word: Word::of(&pdu.body),
@@ -105,14 +118,38 @@ const fn no_part<'a>() -> Part<'a>
     }
 }
 
-/// What an entry at which a station sends this has to do with an order there.
+/// Whether what a station sends at an entry is the order. Bytes that say it are not read.
+#[tactic(auto, unfolding(crate::specs::Order::sends_order, crate::specs::Entries::sent_by), using(crate::proofs::Keyed::sent_meant))]
+fn is_sent<L: ExerciseLog>(
+    replies: &Replies<'_, L>,
+    entry: usize,
+    bytes: &[u8],
+    said: Option<&[u8]>,
+) -> bool
+    requires said { IsSaid replies.now.findings.now (order_of replies.now.order.now).request said }
+    requires sent { bytes_sent replies.now.findings.now replies.now.station entry ≡ Some bytes.now }
+    requires keyed { is_some (key_at replies.now.findings.now entry) ≡ true }
+    ensures { let q = replies.now in result ≡ sends_order q.findings.now q.station (order_of q.order.now).request entry }
+{
+    let _entry = entry;
+    if says_again(said, bytes) {
+        return true;
+    }
+    let pdu = meant_again(replies.findings, bytes);
+    same_order(&replies.order.request, &pdu)
+}
+
+/// What an entry at which a station sends this has to do with an order there. What takes up no request
+/// is no reply.
 #[tactic(auto, unfolding(crate::specs::Order::sends_order, crate::specs::Reply::is_reply, crate::specs::Entries::sent_by))]
 fn part_sent<'a, L: ExerciseLog>(
     replies: &Replies<'_, L>,
     entry: usize,
     bytes: &'a [u8],
+    said: Option<&[u8]>,
     known: Option<usize>,
 ) -> Part<'a>
+    requires said { IsSaid replies.now.findings.now (order_of replies.now.order.now).request said }
     requires known { let q = replies.now in IfSome known (λ i. is_copy q.findings.now (order_of q.order.now) q.station i ≡ true) }
     requires sent { bytes_sent replies.now.findings.now replies.now.station entry ≡ Some bytes.now }
     requires keyed { is_some (key_at replies.now.findings.now entry) ≡ true }
@@ -125,11 +162,18 @@ fn part_sent<'a, L: ExerciseLog>(
     ensures answers { IfSome result.reply (λ reply. asks_in replies.now.findings.now bytes.now ≡ false) }
     ensures taken { let q = replies.now in IfSome result.reply (λ reply. is_copy q.findings.now (order_of q.order.now) q.station reply.copy ≡ true) }
 {
+    if replies.findings.pair(entry).is_none() {
+        return Part {
+            is_send: is_sent(replies, entry, bytes, said),
+            is_copy: false,
+            reply: None,
+        };
+    }
     let pdu = meant_again(replies.findings, bytes);
     Part {
         is_send: same_order(&replies.order.request, &pdu),
         is_copy: false,
-        reply: reply_in(replies, entry, bytes, &pdu, known),
+        reply: reply_in(replies, entry, bytes, &pdu, said, known),
     }
 }
 
@@ -138,8 +182,10 @@ fn part_sent<'a, L: ExerciseLog>(
 fn part_at<'a, L: ExerciseLog>(
     replies: &Replies<'a, L>,
     entry: usize,
+    said: Option<&[u8]>,
     known: Option<usize>,
 ) -> Part<'a>
+    requires said { IsSaid replies.now.findings.now (order_of replies.now.order.now).request said }
     requires keyed { is_some (key_at replies.now.findings.now entry) ≡ true }
     requires known { let q = replies.now in IfSome known (λ i. is_copy q.findings.now (order_of q.order.now) q.station i ≡ true) }
     ensures send { let q = replies.now in result.is_send ≡ sends_order q.findings.now q.station (order_of q.order.now).request entry }
@@ -154,11 +200,11 @@ fn part_at<'a, L: ExerciseLog>(
     match entry_at(replies.findings, entry) {
         Some(EntryView::Received { station, bytes, .. }) if station == replies.station => Part {
             is_send: false,
-            is_copy: brings_copy(replies, entry, bytes),
+            is_copy: brings_copy(replies, entry, bytes, said),
             reply: None,
         },
         Some(EntryView::Sent { station, bytes, .. }) if station == replies.station => {
-            part_sent(replies, entry, bytes, known)
+            part_sent(replies, entry, bytes, said, known)
         }
         _ => no_part(),
     }
@@ -169,8 +215,10 @@ fn part_at<'a, L: ExerciseLog>(
 fn part_known<'a, L: ExerciseLog>(
     replies: &Replies<'a, L>,
     entry: usize,
+    said: Option<&[u8]>,
     known: Option<usize>,
 ) -> Part<'a>
+    requires said { IsSaid replies.now.findings.now (order_of replies.now.order.now).request said }
     requires keyed { is_some (key_at replies.now.findings.now entry) ≡ true }
     requires known { let q = replies.now in IfSome known (λ i. is_copy q.findings.now (order_of q.order.now) q.station i ≡ true) }
     ensures send { let q = replies.now in result.is_send ≡ sends_order q.findings.now q.station (order_of q.order.now).request entry }
@@ -188,7 +236,7 @@ fn part_known<'a, L: ExerciseLog>(
             is_copy: true,
             reply: None,
         },
-        _ => part_at(replies, entry, known),
+        _ => part_at(replies, entry, said, known),
     }
 }
 
@@ -253,8 +301,14 @@ fn nothing_gathered() -> Gathered
 }
 
 /// What the logs say of an order at a station, by the entries under its key there.
-fn gathered_under<L: ExerciseLog>(replies: &Replies<'_, L>, key: u64, hints: &mut Hints) -> Gathered
-    requires { order_key replies.now.station (order_of replies.now.order.now).request ≡ Some key }
+fn gathered_under<L: ExerciseLog>(
+    replies: &Replies<'_, L>,
+    key: u64,
+    said: Option<&[u8]>,
+    hints: &mut Hints,
+) -> Gathered
+    requires said { IsSaid replies.now.findings.now (order_of replies.now.order.now).request said }
+    requires key { order_key replies.now.station (order_of replies.now.order.now).request ≡ Some key }
     ensures { let q = replies.now in IsGathered q.findings.now (order_of q.order.now) q.station result }
 {
     let findings = replies.findings;
@@ -264,7 +318,7 @@ fn gathered_under<L: ExerciseLog>(replies: &Replies<'_, L>, key: u64, hints: &mu
     let mut known = None;
     let mut next = findings.last_near(key, &mut hints.keys);
     while let Some(entry) = next {
-        let part = part_known(replies, entry, known);
+        let part = part_known(replies, entry, said, known);
         known = known_by(known, part.reply);
         gathered = Gathered {
             sends: with_one(gathered.sends, part.is_send),
@@ -343,17 +397,20 @@ fn gathered_anywhere<L: ExerciseLog>(replies: &Replies<'_, L>) -> Gathered
     }
 }
 
-/// What the logs say of an order at a station, where this is its key there.
+/// What the logs say of an order at a station, where this is its key there. Bytes that say it may be at
+/// hand.
 pub(crate) fn gathered_of<L: ExerciseLog>(
     replies: &Replies<'_, L>,
     key: Option<u64>,
+    said: Option<&[u8]>,
     hints: &mut Hints,
 ) -> Gathered
-    requires { key ≡ order_key replies.now.station (order_of replies.now.order.now).request }
+    requires said { IsSaid replies.now.findings.now (order_of replies.now.order.now).request said }
+    requires key { key ≡ order_key replies.now.station (order_of replies.now.order.now).request }
     ensures { let q = replies.now in IsGathered q.findings.now (order_of q.order.now) q.station result }
 {
     match key {
-        Some(key) => gathered_under(replies, key, hints),
+        Some(key) => gathered_under(replies, key, said, hints),
         None => gathered_anywhere(replies),
     }
 }

@@ -12,7 +12,7 @@ ghost use Rattle.exercise_review.specs.Sourced.{AreSources, IsAnswerIn};
 
 use crate::receipt::{Heard, Receipt, Receipts, no_receipts, note_receipt, receipts_near};
 use crate::sources::{SourceColumns, are_whole, receipts_from};
-use crate::ways::{Ways, key_kept};
+use crate::ways::{Ways, is_keyed};
 use exercise_findings::{Findings, Hint};
 use exercise_model::ExerciseLog;
 use std::alloc::{AllocError, Global};
@@ -46,7 +46,7 @@ fn heard_in<'a, L: ExerciseLog>(
 {
     let mut heard = no_receipts(alloc);
     for entry in 0..log.entry_count() {
-        let has_key = key_kept(orders, entry).is_some();
+        let has_key = is_keyed(orders, entry);
         note_receipt(&mut heard, log, log.entry(entry), has_key, entry)?;
     }
     Ok(heard)
@@ -64,7 +64,7 @@ pub(crate) fn hearing_of<'a, L: ExerciseLog>(
     requires sources { AreSources findings.now (length findings.now.entries) sources }
     ensures { IfOk result (IsHearing findings.now) }
 {
-    if are_whole(findings, &sources) {
+    if are_whole(findings, orders, &sources) {
         return Ok(Hearing::BySource(sources));
     }
     let heard = heard_in(alloc, findings.log(), orders)?;

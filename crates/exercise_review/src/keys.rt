@@ -1,15 +1,19 @@
 //! The keys by which entries are looked up.
 
-ghost use Rattle.std.specs.Prelude.{◌≡◌, ◌<◌, ℕ, Option, true, Some, is_some, length, slice_get, option_map, option_and_then, IfSome};
+ghost use Rattle.std.specs.Prelude.{◌≡◌, ◌<◌, ℕ, Option, true, Some, None, is_some, length, slice_get, option_map, option_and_then, IfSome};
 ghost use Rattle.siman_pdus.specs.Reading.{pdu_of};
 ghost use Rattle.exercise_model.specs.Held.{shown};
+ghost use Rattle.exercise_model.specs.Account.{pair_of};
 ghost use Rattle.exercise_model.specs.Meaning.{meaning};
 ghost use Rattle.exercise_review.specs.Entries.{bytes_sent, bytes_got, got_by};
 ghost use Rattle.siman_pdus.specs.declared.pdu.Pdu.{Pdu};
 ghost use Rattle.exercise_review.specs.Register.{request_digest, order_key, id_key, got_key, key_at, second_at, key_told, AreRegistered};
 
 use crate::digest::{at_station, digest, moved};
-use crate::ways::{Keyed, Keying, Ways, key_kept, keyed_as, keyed_by};
+use crate::entries::{bytes_got_in, bytes_sent_in};
+use crate::recent::Recent;
+use crate::resent::is_resent;
+use crate::ways::{Keyed, Keying, Ways, entry_before, key_kept, keyed_as, keyed_by};
 use exercise_findings::Findings;
 use exercise_model::{EntryView, ExerciseLog, Form, meaning_view};
 use siman_pdus::{PduView, is_request, request_id};
@@ -112,6 +116,57 @@ fn keyed_taken<L: ExerciseLog>(
     keyed_as(ways, taken)
 }
 
+/// How the key is told of a request that a station sends at an entry, where it is one that it sent
+/// recently, but for the timestamp. It is not read.
+fn keyed_sent_again<L: ExerciseLog>(
+    findings: &Findings<'_, L>,
+    ways: &Ways,
+    station: u16,
+    entry: usize,
+    bytes: &[u8],
+    recent: Option<usize>,
+) -> Option<Keyed>
+    requires tied { AreRegistered (key_at findings.now) entry ways.now }
+    requires within { entry < length findings.now.entries }
+    requires sent { bytes_sent findings.now station entry ≡ Some bytes.now }
+    requires pair { pair_of findings.now entry ≡ None }
+    ensures { IfSome result (λ keyed. key_told ways.now.keys keyed ≡ key_at findings.now entry) }
+{
+    let earlier = recent?;
+    if earlier >= entry || findings.pair(earlier).is_some() {
+        return None;
+    }
+    match bytes_sent_in(findings.log(), station, earlier) {
+        Some(other) if is_resent(bytes, other) => Some(keyed_as(ways, earlier)),
+        _ => None,
+    }
+}
+
+/// How the key is told of what a station receives at an entry, where it is what it received recently,
+/// but for the timestamp. It is not read.
+fn keyed_got_again<L: ExerciseLog>(
+    findings: &Findings<'_, L>,
+    ways: &Ways,
+    station: u16,
+    entry: usize,
+    bytes: &[u8],
+    recent: Option<usize>,
+) -> Option<Keyed>
+    requires tied { AreRegistered (key_at findings.now) entry ways.now }
+    requires within { entry < length findings.now.entries }
+    requires received { bytes_got findings.now station entry ≡ Some bytes.now }
+    ensures { IfSome result (λ keyed. key_told ways.now.keys keyed ≡ key_at findings.now entry) }
+{
+    let earlier = recent?;
+    if earlier >= entry {
+        return None;
+    }
+    match bytes_got_in(findings.log(), station, earlier) {
+        Some(other) if is_resent(bytes, other) => Some(keyed_as(ways, earlier)),
+        _ => None,
+    }
+}
+
 /// How the key is told of what a station sends at an entry: of the order that it makes or, for an answer,
 /// of the one that it takes up. What takes up a request is not read.
 fn keyed_sent<L: ExerciseLog>(
@@ -120,6 +175,7 @@ fn keyed_sent<L: ExerciseLog>(
     station: u16,
     entry: usize,
     bytes: &[u8],
+    recent: Recent,
 ) -> Keyed
     requires tied { AreRegistered (key_at findings.now) entry ways.now }
     requires within { entry < length findings.now.entries }
@@ -128,6 +184,9 @@ fn keyed_sent<L: ExerciseLog>(
 {
     if let Some(taken) = findings.pair(entry) {
         return keyed_taken(findings, ways, station, entry, taken as usize);
+    }
+    if let Some(keyed) = keyed_sent_again(findings, ways, station, entry, bytes, recent.sent) {
+        return keyed;
     }
     match meaning_view(findings.log().exercise(), bytes) {
         Some(pdu) => keyed_by(order_key(station, &pdu)),
@@ -179,10 +238,12 @@ fn keyed_brought<L: ExerciseLog>(
     ways: &Ways,
     station: u16,
     entry: usize,
+    bytes: &[u8],
+    recent: Recent,
 ) -> Option<Keyed>
     requires tied { AreRegistered (key_at findings.now) entry ways.now }
     requires within { entry < length findings.now.entries }
-    requires received { is_some (bytes_got findings.now station entry) ≡ true }
+    requires received { bytes_got findings.now station entry ≡ Some bytes.now }
     ensures { IfSome result (λ keyed. key_told ways.now.keys keyed ≡ key_at findings.now entry) }
 {
     let log = findings.log();
@@ -196,6 +257,12 @@ fn keyed_brought<L: ExerciseLog>(
     if findings.pair(source).is_some() {
         return Some(Keyed::Nothing);
     }
+    if entry_before(ways, source).is_some() {
+        let again = keyed_got_again(findings, ways, station, entry, bytes, recent.got);
+        if again.is_some() {
+            return again;
+        }
+    }
     Some(keyed_moved(ways, log.entry(source).station(), station, source))
 }
 
@@ -207,13 +274,14 @@ fn keyed_received<L: ExerciseLog>(
     station: u16,
     entry: usize,
     bytes: &[u8],
+    recent: Recent,
 ) -> Keyed
     requires tied { AreRegistered (key_at findings.now) entry ways.now }
     requires within { entry < length findings.now.entries }
     requires received { bytes_got findings.now station entry ≡ Some bytes.now }
     ensures { key_told ways.now.keys result ≡ key_at findings.now entry }
 {
-    if let Some(keyed) = keyed_brought(findings, ways, station, entry) {
+    if let Some(keyed) = keyed_brought(findings, ways, station, entry, bytes, recent) {
         return keyed;
     }
     let log = findings.log();
@@ -231,6 +299,7 @@ pub(crate) fn keyed_at<L: ExerciseLog>(
     ways: &Ways,
     view: EntryView<'_>,
     entry: usize,
+    recent: Recent,
 ) -> Keyed
     requires tied { AreRegistered (key_at findings.now) entry ways.now }
     requires within { entry < length findings.now.entries }
@@ -238,9 +307,11 @@ pub(crate) fn keyed_at<L: ExerciseLog>(
     ensures { key_told ways.now.keys result ≡ key_at findings.now entry }
 {
     match view {
-        EntryView::Sent { station, bytes, .. } => keyed_sent(findings, ways, station, entry, bytes),
+        EntryView::Sent { station, bytes, .. } => {
+            keyed_sent(findings, ways, station, entry, bytes, recent)
+        }
         EntryView::Received { station, bytes, .. } => {
-            keyed_received(findings, ways, station, entry, bytes)
+            keyed_received(findings, ways, station, entry, bytes, recent)
         }
         EntryView::Told { .. } => Keyed::Nothing,
     }

@@ -1,6 +1,6 @@
 //! Orders, each told by the entry at which it first stands.
 
-ghost use Rattle.std.specs.Prelude.{◌≡◌, ◌<◌, ◌&&◌, true, is_some, option_map, option_and_then, slice_get, Some, None, length, if◌then◌else◌};
+ghost use Rattle.std.specs.Prelude.{◌≡◌, ◌<◌, ◌&&◌, true, false, is_some, option_map, option_and_then, slice_get, Some, None, length, if◌then◌else◌};
 ghost use Rattle.siman_pdus.specs.Answers.{same_id};
 ghost use Rattle.siman_pdus.specs.Reading.{pdu_of};
 ghost use Rattle.siman_pdus.specs.Role.{is_request_body};
@@ -10,10 +10,13 @@ ghost use Rattle.exercise_review.specs.Entries.{bytes_sent, sent_by};
 ghost use Rattle.exercise_review.specs.Register.{key_at, told_key};
 ghost use Rattle.exercise_review.specs.Order.{order_of, sends_order, gets_order, gets_anywhere, is_outside, is_for_station, head_sent, head_got, head_of, made_by, order_at, sends_of, sends_under_id, is_first_under_id};
 
-use crate::entries::{entry_at, entry_count, got_by, meant, meant_again, sent_by};
+use crate::entries::{
+    bytes_sent as sent_bytes, entry_at, entry_count, got_by, meant, meant_again, sent_by,
+};
 use crate::keys::{id_key, order_key};
 use crate::question::{Question, first_below};
 use crate::register::Register;
+use crate::resent::is_resent;
 use crate::stations::{is_for_station, is_outside};
 use crate::walk::{counted_entries, first_entry};
 use exercise_model::{EntryView, ExerciseLog, Form};
@@ -214,9 +217,31 @@ fn is_head_got<L: ExerciseLog>(findings: &Register<'_, L>, pdu: &PduView<'_>, en
     findings.is_first_by_second(&gets, entry)
 }
 
+/// Whether a station is known to have sent before what it sends at an entry, but for the timestamp: so
+/// it sent it right before under the same key.
+#[tactic(auto, using(crate::proofs::Stamped::sent_before))]
+fn is_sent_again<L: ExerciseLog>(
+    findings: &Register<'_, L>,
+    station: u16,
+    bytes: &[u8],
+    entry: usize,
+) -> bool
+    requires within { entry < length findings.now.entries }
+    requires sent { bytes_sent findings.now station entry ≡ Some bytes.now }
+    ensures { result ≡ true → same_id (option_and_then (head_sent findings.now station) (meaning findings.now.setting.exercise bytes.now)) (Some entry) ≡ false }
+{
+    match findings.before_under(entry) {
+        Some(before) if before < entry => match sent_bytes(findings, station, before) {
+            Some(other) => is_resent(bytes, other),
+            None => false,
+        },
+        _ => false,
+    }
+}
+
 /// The order that a station makes by what it sends at an entry that has a key, if that is the head of
-/// it. What takes up a request makes none.
-#[tactic(auto, unfolding(crate::specs::Entries::sent_by), using(crate::proofs::Paired::no_head, crate::proofs::Keyed::sent_meant))]
+/// it. What was sent before is not read.
+#[tactic(auto, unfolding(crate::specs::Entries::sent_by), using(crate::proofs::Keyed::sent_meant))]
 fn order_sent<'a, L: ExerciseLog>(
     findings: &Register<'a, L>,
     station: u16,
@@ -229,7 +254,7 @@ fn order_sent<'a, L: ExerciseLog>(
     ensures { let p = meaning findings.now.setting.exercise bytes.now in
         option_map order_of result ≡ (if same_id (option_and_then (head_sent findings.now station) p) (Some entry) then option_map (made_by entry (Some station)) p else None) }
 {
-    if findings.pair(entry).is_some() {
+    if is_sent_again(findings, station, bytes, entry) {
         return None;
     }
     let request = meant_again(findings, bytes);
@@ -299,8 +324,9 @@ fn order_in<'a, L: ExerciseLog>(
     }
 }
 
-/// The same as [`order_at`], of an entry that is there: one without a key is not read.
-#[tactic(auto, using(crate::proofs::Keyed::no_order))]
+/// The same as [`order_at`], of an entry that is there: one without a key is not read, nor one that
+/// takes up a request.
+#[tactic(auto, using(crate::proofs::Keyed::no_order, crate::proofs::Paired::paired_no_order))]
 pub(crate) fn order_keyed<'a, L: ExerciseLog>(
     findings: &Register<'a, L>,
     entry: usize,
@@ -308,7 +334,7 @@ pub(crate) fn order_keyed<'a, L: ExerciseLog>(
     requires { entry < length findings.now.entries }
     ensures { option_map order_of result ≡ order_at findings.now entry }
 {
-    if findings.key(entry).is_none() {
+    if !findings.is_keyed(entry) || findings.pair(entry).is_some() {
         return None;
     }
     order_in(findings, findings.log().entry(entry), entry)

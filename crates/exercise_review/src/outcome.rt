@@ -6,10 +6,11 @@ ghost use Rattle.exercise_review.specs.Order.{order_of, order_at};
 ghost use Rattle.exercise_review.specs.Asked.{IsAsked};
 ghost use Rattle.exercise_review.specs.Gathered.{IsGathered};
 ghost use Rattle.exercise_review.specs.Register.{request_digest};
+ghost use Rattle.exercise_review.specs.Stamped.{IsSaid};
 ghost use Rattle.exercise_review.specs.Outcome.{stamp_at, took_between, took, sends_told, outcome_here, outcome_outside, outcome_nowhere, outcome_at, outcomes_of};
 
 use crate::digest::digest_under;
-use crate::entries::entry_in;
+use crate::entries::{bytes_sent, entry_in};
 use crate::fate::{Fate, fate_of, traces_by};
 use crate::gathered::{Gathered, gathered_of};
 use crate::hints::Hints;
@@ -100,7 +101,9 @@ fn took<L: ExerciseLog>(
 
 /// What is asked of an order at each of its parties alike.
 #[derive(Clone, Copy)]
-pub(crate) struct Asked {
+pub(crate) struct Asked<'a> {
+    /// Bytes that say it, if they are at hand.
+    pub said: Option<&'a [u8]>,
     /// The digest of its request.
     pub digest: Option<u64>,
     /// How often it was sent, if its maker is recorded.
@@ -111,17 +114,20 @@ pub(crate) struct Asked {
 
 /// What is asked of an order whose request has this digest at each of its parties alike.
 #[tactic(auto, unfolding(crate::specs::Order::sends_of))]
-fn asked_by<L: ExerciseLog>(
+fn asked_by<'b, L: ExerciseLog>(
     findings: &Register<'_, L>,
     order: &Order<'_>,
+    said: Option<&'b [u8]>,
     digest: Option<u64>,
     hints: &mut Hints,
-) -> Asked
-    requires { digest ≡ request_digest (pdu_of order.now.request) }
+) -> Asked<'b>
+    requires said { IsSaid findings.now (order_of order.now).request said }
+    requires digest { digest ≡ request_digest (pdu_of order.now.request) }
     ensures { IsAsked findings.now (order_of order.now) result }
 {
     let Some(station) = order.maker else {
         return Asked {
+            said,
             digest,
             sends: None,
             own: None,
@@ -132,8 +138,9 @@ fn asked_by<L: ExerciseLog>(
         order,
         station,
     };
-    let gathered = gathered_of(&replies, key_under(station, digest), hints);
+    let gathered = gathered_of(&replies, key_under(station, digest), said, hints);
     Asked {
+        said,
         digest,
         sends: Some(gathered.sends),
         own: Some(gathered),
@@ -141,14 +148,14 @@ fn asked_by<L: ExerciseLog>(
 }
 
 /// What is asked of an order at each of its parties alike.
-pub(crate) fn asked_of<L: ExerciseLog>(
+pub(crate) fn asked_of<'b, L: ExerciseLog>(
     findings: &Register<'_, L>,
     order: &Order<'_>,
     hints: &mut Hints,
-) -> Asked
+) -> Asked<'b>
     ensures { IsAsked findings.now (order_of order.now) result }
 {
-    asked_by(findings, order, request_digest(&order.request), hints)
+    asked_by(findings, order, None, request_digest(&order.request), hints)
 }
 
 /// The digest of the request of an order that a station made, told from the key of its head.
@@ -167,13 +174,26 @@ fn digest_at_head<L: ExerciseLog>(
     }
 }
 
+/// The bytes by which a station made an order: they say it.
+fn said_at_head<'a, L: ExerciseLog>(
+    findings: &Register<'a, L>,
+    order: &Order<'_>,
+    maker: u16,
+) -> Option<&'a [u8]>
+    requires maker { order.now.maker ≡ Some maker }
+    requires head { order_at findings.now order.now.head ≡ Some (order_of order.now) }
+    ensures { IsSaid findings.now (order_of order.now).request result }
+{
+    bytes_sent(findings, maker, order.head)
+}
+
 /// The same as [`asked_of`], of an order that stands at its head: where nothing stands under its key
 /// behind that, it was sent once.
-pub(crate) fn asked_at_head<L: ExerciseLog>(
-    findings: &Register<'_, L>,
+pub(crate) fn asked_at_head<'a, L: ExerciseLog>(
+    findings: &Register<'a, L>,
     order: &Order<'_>,
     hints: &mut Hints,
-) -> Asked
+) -> Asked<'a>
     requires { order_at findings.now order.now.head ≡ Some (order_of order.now) }
     ensures { IsAsked findings.now (order_of order.now) result }
 {
@@ -181,10 +201,12 @@ pub(crate) fn asked_at_head<L: ExerciseLog>(
         return asked_of(findings, order, hints);
     };
     let digest = digest_at_head(findings, order, maker);
+    let said = said_at_head(findings, order, maker);
     if !findings.is_last(order.head) {
-        return asked_by(findings, order, digest, hints);
+        return asked_by(findings, order, said, digest, hints);
     }
     Asked {
+        said,
         digest,
         sends: Some(1),
         own: None,
@@ -196,7 +218,7 @@ pub(crate) fn asked_at_head<L: ExerciseLog>(
 fn gathered_at<L: ExerciseLog>(
     findings: &Register<'_, L>,
     order: &Order<'_>,
-    asked: Asked,
+    asked: Asked<'_>,
     station: u16,
     hints: &mut Hints,
 ) -> Gathered
@@ -211,7 +233,12 @@ fn gathered_at<L: ExerciseLog>(
                 order,
                 station,
             };
-            gathered_of(&replies, key_under(station, asked.digest), hints)
+            gathered_of(
+                &replies,
+                key_under(station, asked.digest),
+                asked.said,
+                hints,
+            )
         }
     }
 }
@@ -221,7 +248,7 @@ fn gathered_at<L: ExerciseLog>(
 fn outcome_here<L: ExerciseLog>(
     findings: &Register<'_, L>,
     order: &Order<'_>,
-    asked: Asked,
+    asked: Asked<'_>,
     station: u16,
     hints: &mut Hints,
 ) -> Outcome
@@ -313,7 +340,7 @@ pub(crate) fn outcome_nowhere<L: ExerciseLog>(
 pub(crate) fn outcome_at<L: ExerciseLog>(
     findings: &Register<'_, L>,
     order: &Order<'_>,
-    asked: Asked,
+    asked: Asked<'_>,
     party: Party,
     hints: &mut Hints,
 ) -> Outcome
@@ -331,7 +358,7 @@ fn outcomes_at<L: ExerciseLog>(
     alloc: Global,
     findings: &Register<'_, L>,
     order: &Order<'_>,
-    asked: Asked,
+    asked: Asked<'_>,
     parties: &[Party],
 ) -> Result<Vec<Outcome>, AllocError>
     requires { IsAsked findings.now (order_of order.now) asked }

@@ -5,16 +5,18 @@ ghost use Rattle.exercise_review.specs.Order.{order_of};
 ghost use Rattle.exercise_review.specs.Party.{is_copy};
 ghost use Rattle.exercise_review.specs.Register.{order_key};
 ghost use Rattle.exercise_review.specs.Reply.{answers_order, takes_copy, is_reply, is_changing_reply, change_of_order, replies_in, has_reply_in, is_news};
+ghost use Rattle.exercise_review.specs.Stamped.{IsSaid};
 
-use crate::entries::{bytes_got, bytes_sent, sent_by};
+use crate::entries::{bytes_got, bytes_sent, meant, sent_by};
 use crate::keys::order_key;
-use crate::order::{Gets, Order};
+use crate::order::Order;
 use crate::question::Question;
 use crate::register::Register;
+use crate::resent::says_again;
 use crate::walk::first_entry;
 use crate::word::Word;
 use exercise_model::ExerciseLog;
-use siman_pdus::answers;
+use siman_pdus::{answers, same_order};
 
 /// A reply of a station to an order.
 #[derive(Clone, Copy)]
@@ -55,18 +57,35 @@ impl<L: ExerciseLog> Replies<'_, L> {
         }
     }
 
+    /// Whether an entry is a copy of the order. Where it brings bytes that say it, it is not read.
+    #[tactic(auto, unfolding(crate::specs::Order::gets_order, crate::specs::Entries::got_by))]
+    fn is_copy(&self, entry: usize, said: Option<&[u8]>) -> bool
+        requires { IsSaid self.now.findings.now (order_of self.now.order.now).request said }
+        ensures { result ≡ is_copy self.now.findings.now (order_of self.now.order.now) self.now.station entry }
+    {
+        match bytes_got(self.findings, self.station, entry) {
+            Some(bytes) if says_again(said, bytes) => true,
+            Some(bytes) => match meant(self.findings, bytes) {
+                Some(pdu) => same_order(&self.order.request, &pdu),
+                None => false,
+            },
+            None => false,
+        }
+    }
+
     /// The request that an entry takes up, if that is a copy of the order. One that is known to be a
     /// copy is not read again.
-    pub(crate) fn copy_taken(&self, entry: usize, known: Option<usize>) -> Option<usize>
-        requires { IfSome known (λ i. is_copy self.now.findings.now (order_of self.now.order.now) self.now.station i ≡ true) }
+    pub(crate) fn copy_taken(
+        &self,
+        entry: usize,
+        said: Option<&[u8]>,
+        known: Option<usize>,
+    ) -> Option<usize>
+        requires said { IsSaid self.now.findings.now (order_of self.now.order.now).request said }
+        requires known { IfSome known (λ i. is_copy self.now.findings.now (order_of self.now.order.now) self.now.station i ≡ true) }
         ensures taken { is_some result ≡ takes_copy self.now.findings.now (order_of self.now.order.now) self.now.station entry }
         ensures copy { IfSome result (λ i. is_copy self.now.findings.now (order_of self.now.order.now) self.now.station i ≡ true) }
     {
-        let copies = Gets {
-            findings: self.findings,
-            station: self.station,
-            request: &self.order.request,
-        };
         let taken = match self.findings.pair(entry) {
             Some(taken) => taken as usize,
             None => return None,
@@ -75,7 +94,7 @@ impl<L: ExerciseLog> Replies<'_, L> {
             Some(copy) if copy == taken => return Some(taken),
             _ => {}
         }
-        if copies.passes(taken) {
+        if self.is_copy(taken, said) {
             Some(taken)
         } else {
             None
@@ -88,7 +107,7 @@ impl<L: ExerciseLog> Question for Replies<'_, L> {
 
     #[tactic(auto, unfolding(crate::specs::Reply::is_reply))]
     fn passes(&self, entry: usize) -> bool {
-        self.is_answer(entry) && self.copy_taken(entry, None).is_some()
+        self.is_answer(entry) && self.copy_taken(entry, None, None).is_some()
     }
 }
 

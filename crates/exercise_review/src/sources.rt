@@ -11,12 +11,13 @@ ghost use Rattle.exercise_review.specs.Counted.{last_below};
 ghost use Rattle.exercise_review.specs.Entries.{bytes_got};
 ghost use Rattle.exercise_review.specs.Heard.{gets_in};
 ghost use Rattle.exercise_review.specs.Records.{entry_places};
-ghost use Rattle.exercise_review.specs.Register.{key_at};
+ghost use Rattle.exercise_review.specs.Register.{key_at, AreRegistered};
 ghost use Rattle.exercise_review.specs.Sourced.{TellsSources, AreSources, AreWhole, IsAnswerIn, is_unheard};
 
 use crate::column::{number_at, put_number};
 use crate::entry_number::{NO_ENTRY, entry_of};
 use crate::receipt::Receipts;
+use crate::ways::{Ways, keyed_end};
 use exercise_findings::Findings;
 use exercise_model::{EntryView, ExerciseLog, Form, meaning_view};
 use std::alloc::{AllocError, Global};
@@ -138,11 +139,17 @@ pub(crate) fn note_source<L: ExerciseLog>(
     }
 }
 
-/// Whether each entry that takes up a request was received.
-fn all_heard<L: ExerciseLog>(findings: &Findings<'_, L>, sources: &SourceColumns) -> bool
+/// Whether each entry that takes up a request was received, in a recording whose entries have these
+/// ways. What takes up a request has a key.
+fn all_heard<L: ExerciseLog>(
+    findings: &Findings<'_, L>,
+    orders: &Ways,
+    sources: &SourceColumns,
+) -> bool
+    requires { AreRegistered (key_at findings.now) (length findings.now.entries) orders.now }
     ensures { result ≡ is_none (first_below (is_unheard findings.now sources.now) (length findings.now.entries)) }
 {
-    for entry in 0..findings.log().entry_count() {
+    for entry in 0..keyed_end(orders, findings.log().entry_count()) {
         let first = entry_of(number_at(&sources.first, NO_ENTRY, entry));
         if findings.pair(entry).is_some() && first.is_none() {
             return false;
@@ -151,12 +158,18 @@ fn all_heard<L: ExerciseLog>(findings: &Findings<'_, L>, sources: &SourceColumns
     true
 }
 
-/// Whether the columns of all entries tell of each that takes up a request where it was received.
-pub(crate) fn are_whole<L: ExerciseLog>(findings: &Findings<'_, L>, sources: &SourceColumns) -> bool
-    requires { AreSources findings.now (length findings.now.entries) sources.now }
+/// Whether the columns of all entries, which have these ways, tell of each that takes up a request
+/// where it was received.
+pub(crate) fn are_whole<L: ExerciseLog>(
+    findings: &Findings<'_, L>,
+    orders: &Ways,
+    sources: &SourceColumns,
+) -> bool
+    requires orders { AreRegistered (key_at findings.now) (length findings.now.entries) orders.now }
+    requires sources { AreSources findings.now (length findings.now.entries) sources.now }
     ensures { result ≡ true → AreWhole findings.now sources.now }
 {
-    sources.whole && all_heard(findings, sources)
+    sources.whole && all_heard(findings, orders, sources)
 }
 
 /// The first and the last entry at which a station received what an entry sends that takes up a

@@ -9,7 +9,6 @@ ghost use Rattle.exercise_review.specs.Told.{order_told, order_at_parties, told_
 ghost use Rattle.exercise_review.specs.Records.{AreRecords};
 ghost use Rattle.exercise_review.specs.Tally.{IsTold, TellsWithin};
 
-use crate::entries::entry_count;
 use crate::fault::ReviewFault;
 use crate::hints::Hints;
 use crate::order::{Order, order_keyed};
@@ -67,7 +66,7 @@ fn push_parties<L: ExerciseLog>(
     most: usize,
     findings: &Register<'_, L>,
     order: &Order<'_>,
-    asked: Asked,
+    asked: Asked<'_>,
     parties: &[Party],
     hints: &mut Hints,
 ) -> Result<(), ReviewFault>
@@ -154,6 +153,7 @@ fn records_of<L: ExerciseLog>(
 }
 
 /// What is kept of the orders of a recording at all of their parties; `OverLimit` where there are more than so many.
+/// No order stands where no entry can have a key.
 pub(crate) fn told_within<L: ExerciseLog>(
     alloc: Global,
     findings: &Register<'_, L>,
@@ -168,7 +168,7 @@ pub(crate) fn told_within<L: ExerciseLog>(
     };
     let mut parties = Vec::new(alloc);
     let mut hints = Hints::new();
-    for entry in 0..entry_count(findings) {
+    for entry in 0..findings.keyed_end() {
         push_entry(&mut parties, &mut told, most, findings, entry, &mut hints)?;
     }
     Ok(told)

@@ -1,6 +1,6 @@
 //! Entries by their keys: from the last under each key a way leads back to the first.
 
-ghost use Rattle.std.specs.Prelude.{◌≡◌, ◌<◌, ◌≤◌, ℕ, ◌+◌, true, Option, None, Some, IfOk, OnOk, IfSome, length, slice_get, slice_index_or, unwrap_or};
+ghost use Rattle.std.specs.Prelude.{◌≡◌, ◌<◌, ◌≤◌, ℕ, ◌+◌, true, Option, None, Some, is_some, IfOk, OnOk, IfSome, length, slice_get, slice_index_or, unwrap_or};
 ghost use Rattle.siman_pdus.specs.Answers.{same_id};
 ghost use Rattle.exercise_model.specs.Place.{first_below};
 ghost use Rattle.exercise_findings.specs.Number.{entry_of};
@@ -178,6 +178,23 @@ pub(crate) fn key_kept(ways: &Ways, entry: usize) -> Option<u64>
         Some(place) => key_in(ways, place),
         None => None,
     }
+}
+
+/// Where those of so many entries end that can have a key: none from there on has one. The column of
+/// places goes no further.
+pub(crate) fn keyed_end(ways: &Ways, count: usize) -> usize
+    ensures within { result ≤ count }
+    ensures rest { (keys : ℕ → Option ℕ) → AreRegistered keys count ways.now → (i : ℕ) → result ≤ i → i < count → keys i ≡ None }
+{
+    ways.places.len().min(count)
+}
+
+/// Whether an entry has a key. It is not looked at.
+#[tactic(auto, using(crate::proofs::Registered::is_keyed))]
+pub(crate) fn is_keyed(ways: &Ways, entry: usize) -> bool
+    ensures { (keys : ℕ → Option ℕ) (n : ℕ) → AreRegistered keys n ways.now → entry < n → result ≡ is_some (keys entry) }
+{
+    place_at(ways, entry).is_some()
 }
 
 /// How the key of an entry is told, by the place at which it stands.

@@ -1,5 +1,4 @@
-use Rattle.std.proofs.Common.{◌≡◌, ◌<◌, length, ap, ◌∙◌, subst, arith}
-use Rattle.std.specs.Prelude.{is_some}
+use Rattle.std.proofs.Common.{◌≡◌, ◌<◌, length, subst, arith}
 use Rattle.exercise_model.specs.Recording.{PlainRecording}
 use Rattle.exercise_review.specs.Heard.{AreHeard}
 use Rattle.exercise_review.specs.Register.{key_at}
@@ -13,7 +12,7 @@ pub note_receipt-requires-clause-key : goal.note_receipt-requires-clause-key
 note_receipt-requires-clause-key g c =
     let r : PlainRecording = g.L.ExerciseLog.recording c.args.log.now in
     let within : c.loop-entry.entry < length r.entries = omega (arith, c.loop-entry-test.true, c.entry_count-entry-end.ensures.count) in
-    c.is_some-has_key.ensures ∙ ap is_some (c.key_kept.ensures (key_at r) (length r.entries) c.requires within)
+    c.is_keyed-has_key.ensures (key_at r) (length r.entries) c.requires within
 
 pub returns : goal.returns
 returns g c =

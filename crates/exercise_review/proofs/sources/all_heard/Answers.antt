@@ -1,11 +1,13 @@
-use Rattle.std.proofs.Common.{◌≡◌, ◌<◌, ℕ, List, length, true, false, not, sym, ap, ◌∙◌, arith}
+use Rattle.std.proofs.Common.{◌≡◌, ◌<◌, ℕ, List, length, true, false, not, sym, ap, ◌∙◌, subst, arith}
 use Rattle.std.specs.Prelude.{is_some, is_none, slice_index_or}
 use Rattle.exercise_model.specs.Account.{pair_of}
 use Rattle.exercise_model.specs.Place.{first_below}
 use Rattle.exercise_model.specs.Recording.{PlainRecording}
 use Rattle.exercise_findings.specs.Number.{entry_of}
+use Rattle.exercise_review.specs.Register.{key_at, AreRegistered}
 use Rattle.exercise_review.specs.Sourced.{entry_in, is_unheard}
-use Rattle.exercise_review.proofs.Numbers.{first_none, first_still}
+use Rattle.exercise_review.proofs.Numbers.{first_none, first_still, first_end}
+use Rattle.exercise_review.proofs.Paired.{unpaired}
 use Rattle.exercise_review.proofs.Sourced.{alone_heard, kept_heard, one_unheard}
 use Rattle.exercise_review.proofs.sources.all_heard.Goals as goal
 use Rattle.exercise_review.proofs.sources.all_heard.Goals.{else-is_some-via-then-is_some+else-is_none, else-is_some-via-else-is_some}
@@ -17,8 +19,8 @@ pub returns-then-is_none : goal.returns-then-is_none
 returns-then-is_none g c =
     let r : PlainRecording = c.args.findings.now in
     let i : ℕ = c.loop-entry.entry in
-    let count = c.entry_count-entry-end.ensures.count ∙ ap (λ (x : PlainRecording). length x.entries) c.log.ensures in
-    let within : i < length r.entries = omega (arith, c.loop-entry-test.true, count) in
+    let count = c.entry_count.ensures.count ∙ ap (λ (x : PlainRecording). length x.entries) c.log.ensures in
+    let within : i < length r.entries = omega (arith, c.loop-entry-test.true, c.keyed_end-entry-end.ensures.within, count) in
     let first : c.entry_of-first.result ≡ entry_in c.args.sources.now.first.items i =
     c.entry_of-first.ensures ∙ ap entry_of (c.number_at.ensures ∙ ap (λ (xs : List ℕ). slice_index_or xs i 4294967295) c.deref.ensures.value) in
     let paired : is_some (pair_of r i) ≡ true = ap is_some (sym c.pair.ensures) ∙ sym c.is_some.ensures ∙ c.if-is_some.true in
@@ -41,6 +43,10 @@ loop-entry-preserved g c =
 pub returns : goal.returns
 returns g c =
     let r : PlainRecording = c.args.findings.now in
-    let count = c.entry_count-entry-end.ensures.count ∙ ap (λ (x : PlainRecording). length x.entries) c.log.ensures in
-    let end : c.loop-entry.entry ≡ length r.entries = omega (arith, c.loop-entry-test.false, c.loop-entry.auto.entry-end, count) in
-    sym (ap (λ n. is_none (first_below (is_unheard r c.args.sources.now) n)) (sym end) ∙ ap is_none c.loop-entry.invariant)
+    let keyed = c.keyed_end-entry-end in
+    let count : c.entry_count.result ≡ length r.entries = c.entry_count.ensures.count ∙ ap (λ (x : PlainRecording). length x.entries) c.log.ensures in
+    let end : c.loop-entry.entry ≡ keyed.result = omega (arith, c.loop-entry-test.false, c.loop-entry.auto.entry-end) in
+    let tied = subst (λ n. AreRegistered (key_at r) n c.args.orders.now) (sym count) c.requires in
+    sym (ap is_none (first_end (is_unheard r c.args.sources.now) keyed.result (length r.entries) (omega (arith, keyed.ensures.within, count))
+    (ap (first_below (is_unheard r c.args.sources.now)) (sym end) ∙ c.loop-entry.invariant)
+    (λ i from below. alone_heard r c.args.sources.now i (unpaired r i (keyed.ensures.rest (key_at r) tied i from (omega (arith, below, count)))))))

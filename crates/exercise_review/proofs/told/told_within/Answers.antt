@@ -1,7 +1,7 @@
 use Rattle.std.proofs.Common.{◌≡◌, ℕ, ◌<◌, Some, length, map, ap, ◌∙◌, subst, arith}
 use Rattle.exercise_model.specs.Recording.{PlainRecording}
 use Rattle.exercise_review.specs.Tally.{IsTold}
-use Rattle.exercise_review.proofs.Orders.{told_none, told_all, no_room}
+use Rattle.exercise_review.proofs.Orders.{told_none, told_end, told_all, no_room}
 use Rattle.exercise_review.proofs.told.told_within.Goals as goal
 
 pub loop-entry-init : goal.loop-entry-init
@@ -17,14 +17,16 @@ pub returns-in_err-push_entry : goal.returns-in_err-push_entry
 returns-in_err-push_entry g c =
     let r : PlainRecording = c.args.findings.now in
     let k : ℕ = c.loop-entry.entry in
-    let below : k < length r.entries = omega (arith, c.loop-entry-test.true, c.loop-entry.auto.entry-end, c.entry_count-entry-end.ensures) in
+    let below : k < length r.entries = omega (arith, c.loop-entry-test.true, c.loop-entry.auto.entry-end, c.keyed_end-entry-end.ensures.within) in
     no_room r c.loop-entry.told.rows.items c.push_entry.new.told.rows.items k c.args.most c.in_err-push_entry.field-0.0
     c.from_residual-in_err-push_entry.result c.from_residual-in_err-push_entry.ensures.1 below c.loop-entry.invariant.told.rows c.in_err-push_entry.ensures.added
 
 pub returns : goal.returns
 returns g c =
     let r : PlainRecording = c.args.findings.now in
-    let end : c.loop-entry.entry ≡ length r.entries =
-    omega (arith, c.loop-entry-test.false, c.loop-entry.auto.entry-end, c.entry_count-entry-end.ensures) in
-    let told = subst (λ n. IsTold r n c.loop-entry.told) end c.loop-entry.invariant.told in
+    let keyed = c.keyed_end-entry-end in
+    let end : c.loop-entry.entry ≡ keyed.result = omega (arith, c.loop-entry-test.false, c.loop-entry.auto.entry-end) in
+    let told =
+    told_end r keyed.result (length r.entries) c.loop-entry.told keyed.ensures.within keyed.ensures.rest
+    (subst (λ n. IsTold r n c.loop-entry.told) end c.loop-entry.invariant.told) in
     (told, told.rows ∙ ap (map Some) (told_all r), c.loop-entry.invariant.room)

@@ -1,0 +1,10 @@
+-- Which entries sent and received a request last: where the same may be looked for first (profile).
+use Rattle.std.specs.Prelude.{ℕ, Some}
+use Rattle.exercise_model.specs.Entry.{Entry, Sent, Received, Told}
+use Rattle.exercise_review.specs.declared.recent.Recent.{Recent}
+
+-- the same after entry i
+abbrev pub after : Recent → Entry → ℕ → Recent
+after x (Sent s stamp b) i = record { sent = Some i; got = x.got }
+after x (Received s stamp b) i = record { sent = x.sent; got = Some i }
+after x (Told s e y) i = x

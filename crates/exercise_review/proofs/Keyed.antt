@@ -11,7 +11,7 @@ use Rattle.exercise_model.specs.Place.{first_below}
 use Rattle.exercise_model.specs.Recording.{PlainRecording}
 use Rattle.exercise_model.specs.Setting.{is_open}
 use Rattle.exercise_review.specs.Digest.{digest_of}
-use Rattle.exercise_review.specs.Entries.{bytes_sent_by, bytes_got_by, bytes_sent, bytes_got, got_by}
+use Rattle.exercise_review.specs.Entries.{bytes_sent_by, bytes_sent, got_by}
 use Rattle.exercise_review.specs.Order.{sends_order, gets_anywhere, is_outside, is_for_station, head_sent, head_got, head_of_entry, head_of, order_of_entry, order_at}
 use Rattle.exercise_review.specs.Register.{order_key, id_key, sent_key, got_key, entry_key, key_at}
 use Rattle.exercise_model.specs.Account.{pair_of}
@@ -38,24 +38,6 @@ sent_meant r s i b =
           | false ↦ λ h _. absurd (cc)
         ]
     of_entry (Received t stamp c) = λ h _. absurd (cc)
-    of_entry (Told t n y) = λ h _. absurd (cc)
-
-pub got_meant : (r : PlainRecording) (s i : ℕ) (b : List ℕ) → bytes_got r s i ≡ Some b → is_some (key_at r i) ≡ true → is_some (meaning r.setting.exercise b) ≡ true
-unfolding bytes_got key_at
-got_meant r s i b =
-    elim (slice_get r.entries i) as (λ o. option_and_then (bytes_got_by s) o ≡ Some b → is_some (option_and_then (entry_key r i) o) ≡ true
-    → is_some (meaning r.setting.exercise b) ≡ true) [
-      | None ↦ λ h _. absurd (cc)
-      | Some e ↦ of_entry e
-    ]
-  where
-    of_entry : (e : Entry) → bytes_got_by s e ≡ Some b → is_some (entry_key r i e) ≡ true → is_some (meaning r.setting.exercise b) ≡ true
-    of_entry (Sent t stamp c) = λ h _. absurd (cc)
-    of_entry (Received t stamp c) = elim (nat_eq t s) as (λ k. cond k (Some c) None ≡ Some b → is_some (option_and_then (got_key r.setting.form t) (meaning r.setting.exercise c)) ≡ true
-        → is_some (meaning r.setting.exercise b) ≡ true) [
-          | true ↦ λ h has. ap (λ x. is_some (meaning r.setting.exercise x)) (sym (same_Some c b h)) ∙ means_by (got_key r.setting.form t) (meaning r.setting.exercise c) has
-          | false ↦ λ h _. absurd (cc)
-        ]
     of_entry (Told t n y) = λ h _. absurd (cc)
 
 -- ---- each order has a key

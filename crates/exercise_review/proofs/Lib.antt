@@ -1,4 +1,5 @@
 mod Numbers
+mod Options
 mod Brought
 mod Behind
 mod Lives

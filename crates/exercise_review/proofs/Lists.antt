@@ -8,7 +8,7 @@ use Rattle.std.proofs.lemmas.Bool.{cases_lt}
 use Rattle.std.proofs.lemmas.List.{length-append}
 use Rattle.exercise_review.specs.declared.fault.ReviewFault.{ReviewFault}
 use Rattle.exercise_review.specs.declared.fault.ReviewFault.TheVariants.{OverLimit, Memory}
-use Rattle.exercise_review.specs.Room.{lists_below, AddsWithin, MakesWithin}
+use Rattle.exercise_review.specs.Room.{lists_below, AddsWithin, CountsWithin, MakesWithin}
 
 pub lists_none : {X : Type 0} (f : ℕ → List X) → lists_below f 0 ≡ []
 unfolding lists_below
@@ -78,6 +78,33 @@ pub room_goes_on : {X : Type 0} (old part new : List X) (f : ℕ → List X) (k 
     → new ≡ old ++ lists_below f (k + 1)
 room_goes_on old part new f k before here =
     here ∙ ap (λ xs. xs ++ f k) before ∙ append_assoc old (lists_below f k) (f k) ∙ ap (λ xs. old ++ xs) (sym (lists_more f k))
+
+-- ---- a count
+
+pub count_begins : {X : Type 0} (before : ℕ) (f : ℕ → List X) → before ≡ before + length (lists_below f 0)
+count_begins before f = omega (arith, ap length (lists_none f))
+
+pub count_goes_on : {X : Type 0} (before part new : ℕ) (f : ℕ → List X) (k : ℕ) → part ≡ before + length (lists_below f k) → new ≡ part + length (f k)
+    → new ≡ before + length (lists_below f (k + 1))
+count_goes_on before part new f k was here = omega (arith, was, here, ap length (lists_more f k), length-append (lists_below f k) (f k))
+
+pub count_ends : {X : Type 0} (before part : ℕ) (f : ℕ → List X) (k n most : ℕ) (e : ReviewFault) (result : Result ℕ ReviewFault)
+    → IsErrAnd result (λ x. x ≡ e) → k < n → part ≡ before + length (lists_below f k) → CountsWithin most part (f k) (Err e)
+    → CountsWithin most before (lists_below f n) result
+count_ends before part f k n most e (Ok x) is l was over = absurd is
+count_ends {X = X} before part f k n most e (Err x) is l was over =
+    subst (λ y. CountsWithin {X = X} most before (lists_below f n) (Err y)) (sym is) (of_fault e over)
+  where
+    of_fault : (d : ReviewFault) → CountsWithin {X = X} most part (f k) (Err d) → CountsWithin {X = X} most before (lists_below f n) (Err d)
+    of_fault OverLimit many = omega (arith, part_below f k n l, many, was)
+    of_fault Memory many = tt
+
+-- as many of what they are told as of what is counted
+pub counts_same : {X Y : Type 0} (xs : List X) (ys : List Y) (most before : ℕ) (result : Result ℕ ReviewFault) → length xs ≡ length ys
+    → CountsWithin most before xs result → CountsWithin most before ys result
+counts_same xs ys most before (Ok n) same counted = (omega (arith, same, counted.0), counted.1)
+counts_same xs ys most before (Err OverLimit) same over = omega (arith, same, over)
+counts_same xs ys most before (Err Memory) same over = tt
 
 -- ---- a list that is made
 

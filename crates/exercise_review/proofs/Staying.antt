@@ -235,6 +235,9 @@ pub all_told : (r : PlainRecording) → IsRecording r → map (span_at r) (all_s
 unfolding all_stays all_spans
 all_told r limits = lists_told (span_at r) (stays_of r) (spans_of r) (length r.setting.stations) (λ s. station_told r s limits)
 
+pub as_many_told : (r : PlainRecording) → IsRecording r → length (all_stays r) ≡ length (all_spans r)
+as_many_told r limits = sym (length-map (all_stays r) (span_at r)) ∙ ap length (all_told r limits)
+
 pub stays_made : (r : PlainRecording) (old new stays : List Stay) (spans : List Span) (most : ℕ) → old ≡ [] → map (span_at r) stays ≡ spans
     → (new ≡ old ++ stays) × (length new ≤ most) → (map (span_at r) new ≡ spans) × (length new ≤ most)
 stays_made r old new stays spans most none told made = (ap (map (span_at r)) (made.0 ∙ ap (λ xs. xs ++ stays) none) ∙ told, made.1)

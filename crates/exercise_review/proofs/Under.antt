@@ -20,13 +20,13 @@ use Rattle.exercise_model.specs.Recording.{PlainRecording}
 use Rattle.exercise_model.specs.Account.{pair_of}
 use Rattle.exercise_model.specs.Meaning.{meaning}
 use Rattle.exercise_model.specs.Setting.{is_open}
-use Rattle.exercise_review.specs.Digest.{digest, digest_of}
+use Rattle.exercise_review.specs.Digest.{digest, digest_of, identifier_at}
 use Rattle.exercise_review.specs.Entries.{bytes_sent_by, bytes_got_by, bytes_sent, bytes_got, sent_by, got_by}
 use Rattle.exercise_review.specs.Order.{OrderData, sends_order, gets_order, entry_gets, gets_anywhere, is_outside, sends_under_id, is_first_under_id}
 use Rattle.exercise_review.specs.Party.{is_copy, is_told_from, tells_from}
 use Rattle.exercise_review.specs.Reply.{answers_order, takes_copy, is_reply, is_changing_reply, replies_in}
 use Rattle.exercise_review.specs.Word.{is_settling}
-use Rattle.exercise_review.specs.Register.{number_under, order_key, id_key, sent_key, got_key, entry_key, key_at, nowhere, second_key, second_at, holds, has_key, told_key, IsUnder}
+use Rattle.exercise_review.specs.Register.{order_key, id_key, sent_key, got_key, entry_key, key_at, nowhere, second_key, second_at, holds, has_key, told_key, IsUnder}
 use Rattle.exercise_review.proofs.Runs.{there}
 
 -- ---- the keys of entries
@@ -259,7 +259,7 @@ told_has r o a k (Some s) e i h =
     let answers = parts.0 in
     has_it r i k (got_keyed r s i q.0 q.1
     ∙ got_answer r.setting.form s q.0 (from_open r q.0 (and_parts (is_outside r q.0) _ parts.1).0) (is_answering q.0 o.request answers)
-    ∙ ap (option_map (number_under s)) (sym (answer_id q.0 o.request answers)) ∙ e)
+    ∙ ap (option_map (identifier_at s)) (sym (answer_id q.0 o.request answers)) ∙ e)
 
 maker_is : (o : OrderData) (m : Option ℕ) → id_key (option_map_or (λ s. s) m 0) o.request ≡ option_map_or (λ s. id_key s o.request) m (id_key 0 o.request)
 maker_is o None = refl
@@ -309,7 +309,7 @@ id_first r s i p = under_one (second_at r) (sends_under_id r s p) (if is_open r.
     let parts = and_parts (is_request_body q.0.body) _ q.2 in
     sent_second r s j q.0 q.1
     ∙ ap (λ b. if is_open r.setting.form then (if b then id_key s q.0 else None) else None) parts.0
-    ∙ ap (λ o. if is_open r.setting.form then option_map (number_under s) o else None) (sym (ids_are (request_id_of p.body) (request_id_of q.0.body) parts.1))) i
+    ∙ ap (λ o. if is_open r.setting.form then option_map (identifier_at s) o else None) (sym (ids_are (request_id_of p.body) (request_id_of q.0.body) parts.1))) i
 
 got_second : (r : PlainRecording) (p : Pdu) (i : ℕ) → gets_anywhere r p i ≡ true
     → second_at r i ≡ (if is_open r.setting.form then order_key nowhere p else None)

@@ -1,6 +1,7 @@
 -- Numbers of entities past which there is nothing to tell.
 use Rattle.std.proofs.Common.{◌≡◌, ℕ, zero, suc, ◌+◌, ◌<◌, ◌≤◌, List, [], ◌++◌, length, true, false, sym, ap, ◌∙◌, arith}
 use Rattle.std.specs.Prelude.{map, slice_index_or}
+use Rattle.std.proofs.lemmas.Bool.{le-leb, and_from}
 use Rattle.std.proofs.lemmas.List.{append-nil}
 use Rattle.dis_records.specs.declared.entity_state.EntityState.TheVariants.{Absent}
 use Rattle.exercise_model.specs.Station.{is_entity}
@@ -25,6 +26,10 @@ none_living c e all absent none next far =
       passes = λ l. absurd (let no : ⊥ = omega (arith, l) in no);
     } in
     none_lived c e absent (still_up_to e Absent ms 0 (length ms) all (length ms) own next (omega arith) far)
+
+-- a number up to the largest that an entity has, from 1 on
+pub entity_from : (k : ℕ) → k + 1 ≤ 65533 → is_entity (k + 1) ≡ true
+entity_from k most = and_from _ _ (le-leb 1 (k + 1) (omega arith)) (le-leb (k + 1) 65533 most)
 
 -- ---- the stays that are left out are none
 

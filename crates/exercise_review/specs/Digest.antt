@@ -1,5 +1,5 @@
 -- Digests of requests: what is the same order at one station has one digest (profile).
-use Rattle.std.specs.Prelude.{ℕ, ◌+◌, ◌-◌, ◌*◌, ◌%◌, ◌^◌, List, [], ◌∷◌, Option, Some, None, length, take, fold, slice_get, unwrap_or}
+use Rattle.std.specs.Prelude.{ℕ, ◌+◌, ◌*◌, ◌%◌, ◌^◌, length, fold, unwrap_or}
 use Rattle.std.specs.Hash.{u64}
 use Rattle.std.specs.Hash.DefaultHasher.{initial, write, finish}
 use Rattle.std.specs.declared.hash.DefaultHasher.{DefaultHasher}
@@ -28,20 +28,8 @@ time_fed h t = fed h t.hour t.past
 abbrev pub fixed_fed : DefaultHasher → FixedDatum → DefaultHasher
 fixed_fed h d = fed h d.id d.value
 
--- the last byte of a value, if it has one
-abbrev pub last_of : Datum → Option ℕ
-last_of d = slice_get d.bytes (length d.bytes - 1)
-
-abbrev pub last_fed : DefaultHasher → Option ℕ → DefaultHasher
-last_fed h None = h
-last_fed h (Some b) = write h (b ∷ [])
-
--- the bytes before it
-abbrev pub front_of : Datum → List ℕ
-front_of d = take (length d.bytes - 1) d.bytes
-
 abbrev pub variable_fed : DefaultHasher → Datum → DefaultHasher
-variable_fed h d = last_fed (write (fed h d.id d.bits) (front_of d)) (last_of d)
+variable_fed h d = write (fed h d.id d.bits) d.bytes
 
 abbrev pub datums_fed : DefaultHasher → DatumLists → DefaultHasher
 datums_fed h d = fold variable_fed (fold fixed_fed (fed h (length d.fixed) (length d.variable)) d.fixed) d.variable
@@ -77,3 +65,7 @@ at_station s d = (d + (s * 0x9E3779B97F4A7C15) % 2 ^ 64) % 2 ^ 64
 -- THE DIGEST OF p AT STATION s
 unfoldable pub digest_of : (s : ℕ) → Pdu → ℕ
 digest_of s p = at_station s (digest p)
+
+-- the digest of a request identifier at station s
+unfoldable pub identifier_at : (s id : ℕ) → ℕ
+identifier_at s id = finish (fed initial s id) % 2 ^ 64

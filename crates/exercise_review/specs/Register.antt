@@ -1,9 +1,9 @@
 -- What entries are looked up by: their station, and the order that they make, bring or take up (profile).
-use Rattle.std.specs.Prelude.{◌≡◌, ◌<◌, ◌≤◌, ◌==◌, ℕ, ◌+◌, ◌*◌, length, Bool, true, false, nat_eq, Option, Some, None, option_map, option_and_then, slice_get, slice_index_or, IfSome, if◌then◌else◌}
+use Rattle.std.specs.Prelude.{◌≡◌, ◌<◌, ◌≤◌, ◌==◌, ℕ, length, Bool, true, false, nat_eq, Option, Some, None, option_map, option_and_then, slice_get, slice_index_or, IfSome, if◌then◌else◌}
 use Rattle.std.specs.Option.{option_map_or}
 use Rattle.std.specs.List.{IsDistinct}
 use Rattle.std.specs.declared.hash.BuildHasherDefault.{BuildHasherDefault}
-use Rattle.std.specs.declared.hash.DefaultHasher.{DefaultHasher}
+use Rattle.std.specs.declared.hash.FoldHasher.{FoldHasher}
 use Rattle.indexmap.specs.IndexSet.{IndexSet}
 use Rattle.siman_pdus.specs.declared.pdu.Pdu.{Pdu}
 use Rattle.siman_pdus.specs.Role.{is_request_body, request_id_of}
@@ -18,15 +18,11 @@ use Rattle.exercise_review.specs.declared.ways.Keyed.{Keyed}
 use Rattle.exercise_review.specs.declared.ways.Keyed.TheVariants.{Nothing, At, Key}
 use Rattle.exercise_review.specs.declared.ways.Ways.{Ways}
 use Rattle.exercise_review.specs.Counted.{last_below}
-use Rattle.exercise_review.specs.Digest.{digest, digest_of}
+use Rattle.exercise_review.specs.Digest.{digest, digest_of, identifier_at}
 use Rattle.exercise_review.specs.Entries.{got_by}
 use Rattle.exercise_review.specs.Order.{OrderData}
 
 -- ---- keys
-
--- a station and a request identifier as one number
-abbrev pub number_under : (s id : ℕ) → ℕ
-number_under s id = s * 0x100000000 + id
 
 -- the digest of p, if p is a request
 abbrev pub request_digest : Pdu → Option ℕ
@@ -38,7 +34,7 @@ order_key s p = if is_request_body p.body then Some (digest_of s p) else None
 
 -- the key of the identifier of p at station s, if p has one
 abbrev pub id_key : ℕ → Pdu → Option ℕ
-id_key s p = option_map (number_under s) (request_id_of p.body)
+id_key s p = option_map (identifier_at s) (request_id_of p.body)
 
 -- what station s sends at entry i is looked up with the order that it makes or, for an answer, takes up
 unfoldable pub sent_key : PlainRecording → (s i : ℕ) → Pdu → Option ℕ
@@ -87,9 +83,9 @@ has_second r = holds (second_at r)
 abbrev pub IsUnder : PlainRecording → (ℕ → Bool) → ℕ → Type 0
 IsUnder r test k = (i : ℕ) → test i ≡ true → has_key r k i ≡ true
 
--- what keeps the keys of entries, in the order in which they first came
+-- what keeps the keys of entries, in the order in which they first came; all are digests
 abbrev pub Keys : Type 0
-Keys = IndexSet ℕ (BuildHasherDefault DefaultHasher)
+Keys = IndexSet ℕ (BuildHasherDefault FoldHasher)
 
 -- the key for whose place a number stands
 abbrev pub key_numbered : Keys → ℕ → Option ℕ

@@ -15,6 +15,12 @@ AddsWithin most old added (Ok x) new = (new ≡ old ++ added) × (length new ≤
 AddsWithin most old added (Err OverLimit) new = most < length old + length added
 AddsWithin most old added (Err Memory) new = Unit {0}
 
+-- THE SAME OF A COUNT: how many there are with those that were counted before
+abbrev pub CountsWithin : {X : Type 0} → (most before : ℕ) → (added : List X) → Result ℕ ReviewFault → Type 0
+CountsWithin most before added (Ok count) = (count ≡ before + length added) × (count ≤ most)
+CountsWithin most before added (Err OverLimit) = most < before + length added
+CountsWithin most before added (Err Memory) = Unit {0}
+
 -- THE SAME OF A LIST THAT IS MADE
 abbrev pub MakesWithin : {X : Type 0} → (most : ℕ) → List X → Result (Vec X Global) ReviewFault → Type 0
 MakesWithin most xs (Ok made) = (made.items ≡ xs) × (length xs ≤ most)

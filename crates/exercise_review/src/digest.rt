@@ -7,7 +7,7 @@ ghost use Rattle.std.specs.Hash.DefaultHasher.{write, initial};
 ghost use Rattle.dis_records.specs.Datum.{canonical};
 ghost use Rattle.dis_records.specs.Records.{shown};
 ghost use Rattle.siman_pdus.specs.Reading.{pdu_of, body_of, datums_of, ids_of};
-ghost use Rattle.exercise_review.specs.Digest.{fed, both, time_fed, fixed_fed, variable_fed, datums_fed, last_fed, id_fed, ids_fed, body_fed, head_fed, digest, at_station};
+ghost use Rattle.exercise_review.specs.Digest.{fed, both, time_fed, fixed_fed, variable_fed, datums_fed, id_fed, ids_fed, body_fed, head_fed, digest, at_station, identifier_at};
 
 use dis_records::records::{DatumIdRecords, FixedRecords, VariableRecords};
 use dis_records::{ClockTime, DatumsView, EntityId, IdsView, VariableView};
@@ -58,24 +58,28 @@ fn feed_ids(hasher: &mut DefaultHasher, ids: DatumIdRecords<'_>)
     }
 }
 
-/// Feeds the last byte of a value, if it has one.
-fn feed_last(hasher: &mut DefaultHasher, last: Option<u8>)
-    ensures { hasher.new ≡ last_fed hasher.old last }
+/// Feeds a value, its unused bits aside: in one piece where it has none, else its last byte behind those
+/// before it.
+#[tactic(auto, using(crate::proofs::Digests::whole_stands, crate::proofs::Digests::last_follows, crate::proofs::Digests::none_follows))]
+fn feed_value(hasher: &mut DefaultHasher, datum: VariableView<'_>)
+    ensures { hasher.new ≡ write hasher.old (canonical (shown datum.entry)).bytes }
 {
-    if let Some(last) = last {
+    if datum.bits % 8 == 0 {
+        hasher.write(datum.bytes);
+        return;
+    }
+    hasher.write(&datum.bytes[..datum.bytes.len().saturating_sub(1)]);
+    if let Some(last) = datum.last() {
         hasher.write(&[last]);
     }
 }
 
-/// Feeds a variable datum, its unused bits and its padding aside. The last byte stands behind those
-/// before it, so that whole words stay whole.
-#[tactic(auto, using(crate::proofs::Digests::front_stands, crate::proofs::Digests::last_stands))]
+/// Feeds a variable datum, its unused bits and its padding aside.
 fn feed_record(hasher: &mut DefaultHasher, datum: VariableView<'_>)
     ensures { hasher.new ≡ variable_fed hasher.old (canonical (shown datum.entry)) }
 {
     feed(hasher, datum.id, datum.bits);
-    hasher.write(&datum.bytes[..datum.bytes.len().saturating_sub(1)]);
-    feed_last(hasher, datum.last());
+    feed_value(hasher, datum);
 }
 
 /// Feeds variable datums.
@@ -161,6 +165,16 @@ pub(crate) fn digest(pdu: &PduView<'_>) -> u64
     };
     let mut hasher = head_fed(pdu.origin, pdu.target, request);
     feed_body(&mut hasher, &pdu.body);
+    hasher.finish()
+}
+
+/// The digest of a request identifier at a station.
+#[tactic(auto, unfolding(crate::specs::Digest::identifier_at))]
+pub(crate) fn identifier_at(station: u16, request: u32) -> u64
+    ensures { result ≡ identifier_at station request }
+{
+    let mut hasher = DefaultHasher::new();
+    feed(&mut hasher, u32::from(station), request);
     hasher.finish()
 }
 

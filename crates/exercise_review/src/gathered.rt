@@ -24,7 +24,6 @@ use crate::hints::Hints;
 use crate::news::{HeardNews, with_news};
 use crate::order::{Gets, Sends};
 use crate::reply::{News, Replies, Reply, change_of_order};
-use crate::resent::says_again;
 use crate::walk::{Counted, counted_entries, last_entry};
 use crate::word::{Spoken, Word, first_settling, settles};
 use exercise_model::{EntryView, ExerciseLog};
@@ -50,27 +49,6 @@ pub(crate) struct Gathered {
     pub replied: Replied,
     /// What the maker heard of that.
     pub news: HeardNews,
-}
-
-/// Whether what a station receives at an entry is a copy. Bytes that say the order are not read.
-#[tactic(auto, unfolding(crate::specs::Order::gets_order, crate::specs::Entries::got_by))]
-fn brings_copy<L: ExerciseLog>(
-    replies: &Replies<'_, L>,
-    entry: usize,
-    bytes: &[u8],
-    said: Option<&[u8]>,
-) -> bool
-    requires said { IsSaid replies.now.findings.now (order_of replies.now.order.now).request said }
-    requires got { bytes_got replies.now.findings.now replies.now.station entry ≡ Some bytes.now }
-    requires keyed { is_some (key_at replies.now.findings.now entry) ≡ true }
-    ensures { let q = replies.now in result ≡ is_copy q.findings.now (order_of q.order.now) q.station entry }
-{
-    let _entry = entry;
-    if says_again(said, bytes) {
-        return true;
-    }
-    let pdu = meant_again(replies.findings, bytes);
-    same_order(&replies.order.request, &pdu)
 }
 
 /// What a station sends at an entry, where these bytes mean this PDU, if that is a reply. What is known
@@ -118,27 +96,6 @@ const fn no_part<'a>() -> Part<'a>
     }
 }
 
-/// Whether what a station sends at an entry is the order. Bytes that say it are not read.
-#[tactic(auto, unfolding(crate::specs::Order::sends_order, crate::specs::Entries::sent_by), using(crate::proofs::Keyed::sent_meant))]
-fn is_sent<L: ExerciseLog>(
-    replies: &Replies<'_, L>,
-    entry: usize,
-    bytes: &[u8],
-    said: Option<&[u8]>,
-) -> bool
-    requires said { IsSaid replies.now.findings.now (order_of replies.now.order.now).request said }
-    requires sent { bytes_sent replies.now.findings.now replies.now.station entry ≡ Some bytes.now }
-    requires keyed { is_some (key_at replies.now.findings.now entry) ≡ true }
-    ensures { let q = replies.now in result ≡ sends_order q.findings.now q.station (order_of q.order.now).request entry }
-{
-    let _entry = entry;
-    if says_again(said, bytes) {
-        return true;
-    }
-    let pdu = meant_again(replies.findings, bytes);
-    same_order(&replies.order.request, &pdu)
-}
-
 /// What an entry at which a station sends this has to do with an order there. What takes up no request
 /// is no reply.
 #[tactic(auto, unfolding(crate::specs::Order::sends_order, crate::specs::Reply::is_reply, crate::specs::Entries::sent_by))]
@@ -164,7 +121,7 @@ fn part_sent<'a, L: ExerciseLog>(
 {
     if replies.findings.pair(entry).is_none() {
         return Part {
-            is_send: is_sent(replies, entry, bytes, said),
+            is_send: replies.says(bytes, said),
             is_copy: false,
             reply: None,
         };
@@ -200,7 +157,7 @@ fn part_at<'a, L: ExerciseLog>(
     match entry_at(replies.findings, entry) {
         Some(EntryView::Received { station, bytes, .. }) if station == replies.station => Part {
             is_send: false,
-            is_copy: brings_copy(replies, entry, bytes, said),
+            is_copy: replies.says(bytes, said),
             reply: None,
         },
         Some(EntryView::Sent { station, bytes, .. }) if station == replies.station => {

@@ -9,7 +9,7 @@ ghost use Rattle.exercise_review.specs.Entries.{bytes_sent, bytes_got, got_by};
 ghost use Rattle.siman_pdus.specs.declared.pdu.Pdu.{Pdu};
 ghost use Rattle.exercise_review.specs.Register.{request_digest, order_key, id_key, got_key, key_at, second_at, key_told, AreRegistered};
 
-use crate::digest::{at_station, digest, moved};
+use crate::digest::{at_station, digest, identifier_at, moved};
 use crate::entries::{bytes_got_in, bytes_sent_in};
 use crate::recent::Recent;
 use crate::resent::is_resent;
@@ -50,12 +50,12 @@ pub(crate) fn order_key(station: u16, pdu: &PduView<'_>) -> Option<u64>
     key_under(station, request_digest(pdu))
 }
 
-/// The key of the request identifier of a PDU at a station, if it has one.
+/// The key of the request identifier of a PDU at a station, if it has one: its digest there.
 pub(crate) fn id_key(station: u16, pdu: &PduView<'_>) -> Option<u64>
     ensures { result ≡ id_key station (pdu_of pdu.now) }
 {
     match request_id(pdu) {
-        Some(request) => Some(u64::from(station) * 0x1_0000_0000 + u64::from(request)),
+        Some(request) => Some(identifier_at(station, request)),
         None => None,
     }
 }

@@ -5,7 +5,7 @@ ghost use Rattle.exercise_review.specs.Order.{order_of};
 ghost use Rattle.exercise_review.specs.Party.{is_copy};
 ghost use Rattle.exercise_review.specs.Register.{order_key};
 ghost use Rattle.exercise_review.specs.Reply.{answers_order, takes_copy, is_reply, is_changing_reply, change_of_order, replies_in, has_reply_in, is_news};
-ghost use Rattle.exercise_review.specs.Stamped.{IsSaid};
+ghost use Rattle.exercise_review.specs.Stamped.{IsSaid, says};
 
 use crate::entries::{bytes_got, bytes_sent, meant, sent_by};
 use crate::keys::order_key;
@@ -57,18 +57,29 @@ impl<L: ExerciseLog> Replies<'_, L> {
         }
     }
 
-    /// Whether an entry is a copy of the order. Where it brings bytes that say it, it is not read.
+    /// Whether bytes say the order. They are not read where those at hand say it, and they are these but
+    /// for the timestamp.
+    pub(crate) fn says(&self, bytes: &[u8], said: Option<&[u8]>) -> bool
+        requires { IsSaid self.now.findings.now (order_of self.now.order.now).request said }
+        ensures { result ≡ says self.now.findings.now (order_of self.now.order.now).request bytes.now }
+    {
+        if says_again(said, bytes) {
+            return true;
+        }
+        match meant(self.findings, bytes) {
+            Some(pdu) => same_order(&self.order.request, &pdu),
+            None => false,
+        }
+    }
+
+    /// Whether an entry is a copy of the order.
     #[tactic(auto, unfolding(crate::specs::Order::gets_order, crate::specs::Entries::got_by))]
     fn is_copy(&self, entry: usize, said: Option<&[u8]>) -> bool
         requires { IsSaid self.now.findings.now (order_of self.now.order.now).request said }
         ensures { result ≡ is_copy self.now.findings.now (order_of self.now.order.now) self.now.station entry }
     {
         match bytes_got(self.findings, self.station, entry) {
-            Some(bytes) if says_again(said, bytes) => true,
-            Some(bytes) => match meant(self.findings, bytes) {
-                Some(pdu) => same_order(&self.order.request, &pdu),
-                None => false,
-            },
+            Some(bytes) => self.says(bytes, said),
             None => false,
         }
     }

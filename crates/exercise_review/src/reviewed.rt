@@ -10,13 +10,14 @@ ghost use Rattle.exercise_review.specs.Stay.{span_at};
 ghost use Rattle.exercise_review.specs.Tally.{IsTold, TellsWithin, fates_of, station_counts};
 ghost use Rattle.exercise_review.specs.Told.{orders_of, orders_told};
 
+use crate::changes::changes_by_station;
 use crate::fault::ReviewFault;
 use crate::register::Register;
 use crate::review::MOST_LINES;
 use crate::row::{Row, told_by};
 use crate::span::{Span, span_at};
 use crate::stay::Stay;
-use crate::stays::stays_within;
+use crate::stays::{spans_counted, stays_within};
 use crate::tally::{FateCounts, StationCounts, fates_of, stations_counted};
 use crate::told::{OrderAt, Told, told_within};
 use exercise_findings::Findings;
@@ -72,7 +73,8 @@ fn told_in<'a, L: ExerciseLog>(
     Ok((told, register.into_findings()))
 }
 
-/// What is told of the orders and the stretches of all lives, where they do not take too many lines.
+/// What is told of the orders and the stretches of all lives, where they do not take too many lines. Where
+/// the lives alone do, that is seen before anything is kept.
 fn listed<'a, L: ExerciseLog>(
     alloc: Global,
     findings: Findings<'a, L>,
@@ -84,8 +86,10 @@ fn listed<'a, L: ExerciseLog>(
     ensures findings { IfOk result (λ made. made.2 ≡ findings.entry) }
 {
     let most = MOST_LINES - 1 - findings.log().station_count();
+    let changes = changes_by_station(alloc, &findings)?;
+    let _spans = spans_counted(alloc, &findings, &changes, most)?;
     let (told, findings) = told_in(alloc, findings, most)?;
-    let stays = stays_within(alloc, &findings, most - told.rows.len())?;
+    let stays = stays_within(alloc, &findings, &changes, most - told.rows.len())?;
     Ok((told, stays, findings))
 }
 

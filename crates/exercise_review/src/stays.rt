@@ -2,12 +2,12 @@
 //! station, by entity and in their order.
 
 ghost use Rattle.std.specs.Prelude.{◌≡◌, ◌<◌, ◌≤◌, length, map};
-ghost use Rattle.exercise_review.specs.Room.{AddsWithin};
+ghost use Rattle.exercise_review.specs.Room.{AddsWithin, CountsWithin};
 ghost use Rattle.exercise_review.specs.Span.{spans_of, all_spans, changes_made};
-ghost use Rattle.exercise_review.specs.Course.{AreInOrder, lives_in};
+ghost use Rattle.exercise_review.specs.Course.{AreChanges, AreInOrder, lives_in};
 ghost use Rattle.exercise_review.specs.Stay.{StaysWithin, stay_of, stays_of, all_stays};
 
-use crate::changes::{Made, changes_by_station, changes_made};
+use crate::changes::{Made, changes_made};
 use crate::course::Course;
 use crate::fault::ReviewFault;
 use crate::living::{last_living, may_live, push_life};
@@ -57,18 +57,20 @@ fn push_station<L: ExerciseLog>(
     Ok(())
 }
 
-/// Adds the stays of all stations' entities, where there is room for so many.
+/// Adds the stays of all stations' entities, by the changes of each station, where there is room for so
+/// many.
 #[tactic(auto, unfolding(crate::specs::Stay::all_stays))]
 fn push_stays<L: ExerciseLog>(
     alloc: Global,
     stays: &mut Vec<Stay>,
     most: usize,
     findings: &Findings<'_, L>,
+    changes: &[Vec<Made>],
 ) -> Result<(), ReviewFault>
-    requires { length stays.old.items ≤ most }
+    requires changes { AreChanges findings.now (length findings.now.entries) changes.now }
+    requires room { length stays.old.items ≤ most }
     ensures { AddsWithin most stays.old.items (all_stays findings.now) result stays.new.items }
 {
-    let changes = changes_by_station(alloc, findings)?;
     for station in 0..findings.log().station_count() {
         push_station(
             alloc,
@@ -80,6 +82,76 @@ fn push_stays<L: ExerciseLog>(
         )?;
     }
     Ok(())
+}
+
+/// How many stays there are with those of an entity, by the course of its station, where there may be so
+/// many. They are made in a list that is cleared for each entity.
+fn count_entity(
+    made: &mut Vec<Stay>,
+    count: usize,
+    most: usize,
+    course: &Course<'_>,
+    station: u16,
+    entity: u16,
+) -> Result<usize, ReviewFault>
+    requires order { AreInOrder course.now }
+    requires room { count ≤ most }
+    ensures { CountsWithin most count (map (stay_of station entity) (lives_in course.now entity)) result }
+{
+    made.clear();
+    push_entity(made, most - count, course, station, entity)?;
+    Ok(count + made.len())
+}
+
+/// How many stays there are with those of a station's entities, by the changes of that station, where
+/// there may be so many.
+fn count_station<L: ExerciseLog>(
+    alloc: Global,
+    count: usize,
+    most: usize,
+    findings: &Findings<'_, L>,
+    station: u16,
+    changes: &[Made],
+) -> Result<usize, ReviewFault>
+    requires at { station < length findings.now.setting.stations }
+    requires changes { changes.now ≡ changes_made findings.now station }
+    requires room { count ≤ most }
+    ensures { CountsWithin most count (stays_of findings.now station) result }
+{
+    let course = Course::of(alloc, findings, station, changes)?;
+    let mut made = Vec::new(alloc);
+    let mut count = count;
+    for below in 0..last_living(&course) {
+        count = count_entity(&mut made, count, most, &course, station, below + 1)?;
+    }
+    Ok(count)
+}
+
+/// How many stretches the lives of all stations' entities have, by the changes of each station;
+/// `OverLimit` where there are more than so many. None is kept: there is no more room than for those of
+/// one entity.
+pub(crate) fn spans_counted<L: ExerciseLog>(
+    alloc: Global,
+    findings: &Findings<'_, L>,
+    changes: &[Vec<Made>],
+    most: usize,
+) -> Result<usize, ReviewFault>
+    requires { AreChanges findings.now (length findings.now.entries) changes.now }
+    ensures { CountsWithin most 0 (all_spans findings.now) result }
+{
+    let _entries = findings.log().entry_count();
+    let mut count = 0;
+    for station in 0..findings.log().station_count() {
+        count = count_station(
+            alloc,
+            count,
+            most,
+            findings,
+            station as u16,
+            &changes[station],
+        )?;
+    }
+    Ok(count)
 }
 
 /// The stretches of the lives of a station's entities, by entity and in their order; `OverLimit`
@@ -100,17 +172,19 @@ pub(crate) fn stays_of<L: ExerciseLog>(
     Ok(stays)
 }
 
-/// The stretches of the lives of all stations' entities, by station, by entity and in their order;
-/// `OverLimit` where there are more than so many.
+/// The stretches of the lives of all stations' entities, by the changes of each station: by station, by
+/// entity and in their order; `OverLimit` where there are more than so many.
 pub(crate) fn stays_within<L: ExerciseLog>(
     alloc: Global,
     findings: &Findings<'_, L>,
+    changes: &[Vec<Made>],
     most: usize,
 ) -> Result<Vec<Stay>, ReviewFault>
+    requires { AreChanges findings.now (length findings.now.entries) changes.now }
     ensures { StaysWithin findings.now most (all_spans findings.now) result }
 {
     let _entries = findings.log().entry_count();
     let mut stays = Vec::new(alloc);
-    push_stays(alloc, &mut stays, most, findings)?;
+    push_stays(alloc, &mut stays, most, findings, changes)?;
     Ok(stays)
 }

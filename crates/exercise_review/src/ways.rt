@@ -12,11 +12,12 @@ use crate::entry_number::{NO_ENTRY, entry_of};
 use crate::question::{Question, first_below};
 use indexmap::IndexSet;
 use std::alloc::{AllocError, Global};
-use std::hash::{BuildHasherDefault, DefaultHasher};
+use std::hash::{BuildHasherDefault, FoldHasher};
 
-/// The keys of entries, in the order in which they first came. Strangers choose what entries say, so the
-/// hasher is one for which nobody writes down keys that fall together.
-pub(crate) type Keys = IndexSet<u64, BuildHasherDefault<DefaultHasher>>;
+/// The keys of entries, in the order in which they first came. Strangers choose what entries say; but all
+/// keys are digests, of a hasher for which nobody writes down many that fall together, and so a quick one
+/// spreads them.
+pub(crate) type Keys = IndexSet<u64, BuildHasherDefault<FoldHasher>>;
 
 /// The keys of entries, the last entry under each, and for each entry where its key stands and which
 /// entry is the one before it under that.

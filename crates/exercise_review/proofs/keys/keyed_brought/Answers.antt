@@ -1,4 +1,4 @@
-use Rattle.std.proofs.Common.{rules, ◌≡◌, ℕ, false, Option, Some, None, refl, sym, ap, ◌∙◌}
+use Rattle.std.proofs.Common.{rules, ◌≡◌, ℕ, false, Some, None, sym, ap, ◌∙◌}
 use Rattle.std.specs.Prelude.{is_some, slice_get}
 use Rattle.exercise_model.specs.Account.{pair_of}
 use Rattle.exercise_model.specs.Held.{shown}
@@ -6,11 +6,8 @@ use Rattle.exercise_model.specs.Recording.{PlainRecording}
 use Rattle.exercise_model.specs.Setting.{is_open}
 use Rattle.exercise_review.specs.Register.{order_key, key_at}
 use Rattle.exercise_review.proofs.Moved.{answer_brought, request_brought}
+use Rattle.exercise_review.proofs.Options.{nothing}
 use Rattle.exercise_review.proofs.keys.keyed_brought.Goals as goal
-
-nothing : (o : Option ℕ) → is_some o ≡ false → o ≡ None
-nothing None h = refl
-nothing (Some x) h = absurd (cc)
 
 pub returns-then-is_some : goal.returns-then-is_some
 returns-then-is_some g c =

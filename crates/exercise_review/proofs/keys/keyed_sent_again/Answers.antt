@@ -1,16 +1,13 @@
-use Rattle.std.proofs.Common.{◌≡◌, ℕ, List, Option, Some, None, false, refl, sym, ap, ◌∙◌}
+use Rattle.std.proofs.Common.{◌≡◌, ℕ, List, Some, None, sym, ap, ◌∙◌}
 use Rattle.std.specs.Borrow.{Bor}
-use Rattle.std.specs.Prelude.{is_some, option_map}
+use Rattle.std.specs.Prelude.{option_map}
 use Rattle.exercise_model.specs.Account.{pair_of}
 use Rattle.exercise_model.specs.Recording.{PlainRecording}
 use Rattle.exercise_review.specs.Entries.{bytes_sent}
 use Rattle.exercise_review.specs.Register.{key_at}
+use Rattle.exercise_review.proofs.Options.{nothing}
 use Rattle.exercise_review.proofs.Stamped.{sent_again}
 use Rattle.exercise_review.proofs.keys.keyed_sent_again.Goals as goal
-
-nothing : (o : Option ℕ) → is_some o ≡ false → o ≡ None
-nothing None h = refl
-nothing (Some x) h = absurd (cc)
 
 pub returns-in-Some : goal.returns-in-Some
 returns-in-Some g c =

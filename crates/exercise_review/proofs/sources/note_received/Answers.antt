@@ -1,9 +1,10 @@
-use Rattle.std.proofs.Common.{◌≡◌, ◌<◌, ℕ, List, length, true, false, Option, Some, None, refl, sym, ap, ◌∙◌, subst}
-use Rattle.std.specs.Prelude.{is_some, option_map}
+use Rattle.std.proofs.Common.{◌≡◌, ◌<◌, ℕ, List, length, Some, None, sym, ap, ◌∙◌, subst}
+use Rattle.std.specs.Prelude.{option_map}
 use Rattle.siman_pdus.specs.Reading.{pdu_of}
 use Rattle.exercise_model.specs.Meaning.{meaning}
 use Rattle.exercise_model.specs.Recording.{PlainRecording}
 use Rattle.exercise_review.specs.Records.{entry_places}
+use Rattle.exercise_review.proofs.Options.{nothing}
 use Rattle.exercise_review.proofs.Sourced.{from_nowhere, place_got, source_below, source_other, sources_still}
 use Rattle.exercise_review.proofs.sources.note_received.Goals as goal
 
@@ -16,10 +17,6 @@ pub note_from-requires-clause-place : goal.note_from-requires-clause-place
 note_from-requires-clause-place g c =
     subst (λ (x : PlainRecording). entry_places x c.args.entry ≡ Some c.args.station) (sym c.log-log.ensures)
     (place_got c.args.findings.now c.args.station c.args.entry c.args.bytes.now c.requires.got)
-
-nothing : {X : Type 0} (o : Option X) → is_some o ≡ false → o ≡ None
-nothing None h = refl
-nothing (Some x) h = absurd (let no : true ≡ false = h in cc)
 
 pub returns-else-is_some : goal.returns-else-is_some
 returns-else-is_some g c whole =

@@ -1,0 +1,57 @@
+use Rattle.std.proofs.Common.{◌≡◌, ℕ, ◌+◌, ◌-◌, ◌<◌, ◌≤◌, [], length, map, sym, ap, ◌∙◌, subst, arith}
+use Rattle.std.specs.Prelude.{Err}
+use Rattle.exercise_model.specs.declared.station.TheConstants.{LARGEST_ENTITY}
+use Rattle.exercise_model.specs.Recording.{PlainRecording}
+use Rattle.exercise_review.specs.Room.{lists_below, CountsWithin}
+use Rattle.exercise_review.specs.Stay.{stay_of, stays_behind, stays_of}
+use Rattle.exercise_review.proofs.Courses.{lives_in_are}
+use Rattle.exercise_review.proofs.Unused.{entity_from, lists_still, no_stays}
+use Rattle.exercise_review.proofs.Lists.{count_begins, count_goes_on, count_ends}
+use Rattle.exercise_review.proofs.stays.count_station.Goals as goal
+
+pub loop-below-init : goal.loop-below-init
+loop-below-init g c = record { counted = count_begins c.args.count (stays_behind c.args.findings.now c.args.station); room = c.requires.room }
+
+pub returns-in_err-count : goal.returns-in_err-count
+unfolding stays_of
+returns-in_err-count g c =
+    let r : PlainRecording = c.args.findings.now in
+    let s : ℕ = c.args.station in
+    let k : ℕ = c.loop-below.below in
+    let most : k + 1 ≤ 65533 = omega (arith, c.loop-below-test.true, c.last_living-below-end.ensures.within) in
+    let same = ap (map (stay_of s (k + 1))) (lives_in_are r s (k + 1) c.in_ok-course.course (entity_from k most) c.in_ok-course.ensures) in
+    count_ends c.args.count c.loop-below.count (stays_behind r s) k LARGEST_ENTITY c.args.most c.in_err-count.field-0.0
+    c.from_residual-in_err-count.result c.from_residual-in_err-count.ensures.1
+    (omega (arith, most)) c.loop-below.invariant.counted
+    (subst (λ xs. CountsWithin c.args.most c.loop-below.count xs (Err c.in_err-count.field-0.0)) same c.in_err-count.ensures)
+
+pub loop-below-preserved : goal.loop-below-preserved
+loop-below-preserved g c =
+    let r : PlainRecording = c.args.findings.now in
+    let s : ℕ = c.args.station in
+    let k : ℕ = c.loop-below.below in
+    let most : k + 1 ≤ 65533 = omega (arith, c.loop-below-test.true, c.last_living-below-end.ensures.within) in
+    let same = ap (map (stay_of s (k + 1))) (lives_in_are r s (k + 1) c.in_ok-course.course (entity_from k most) c.in_ok-course.ensures) in
+    record {
+      counted = count_goes_on c.args.count c.loop-below.count c.in_ok-count.count (stays_behind r s) k
+          c.loop-below.invariant.counted (c.in_ok-count.ensures.0 ∙ ap (λ xs. c.loop-below.count + length xs) same);
+      room = c.in_ok-count.ensures.1;
+    }
+
+pub returns : goal.returns
+unfolding stays_of
+returns g c =
+    let r : PlainRecording = c.args.findings.now in
+    let s : ℕ = c.args.station in
+    let n : ℕ = c.loop-below.below in
+    let d : ℕ = 65533 - n in
+    let most = c.last_living-below-end.ensures.within in
+    let end : n ≡ c.last_living-below-end.result = omega (arith, c.loop-below-test.false, c.loop-below.auto.below-end) in
+    let all : n + d ≡ 65533 = omega (arith, end, most) in
+    let none : (k : ℕ) → n ≤ k → k < n + d → stays_behind r s k ≡ [] = λ k l m.
+    no_stays r s (k + 1) c.in_ok-course.course (entity_from k (omega (arith, m, all))) c.in_ok-course.ensures
+    (c.last_living-below-end.ensures.none (k + 1) (omega (arith, l, end)) (omega (arith, m, all))) in (
+      c.loop-below.invariant.counted
+          ∙ ap (λ xs. c.args.count + length xs) (sym (lists_still (stays_behind r s) n d none) ∙ ap (lists_below (stays_behind r s)) all),
+      c.loop-below.invariant.room,
+    )

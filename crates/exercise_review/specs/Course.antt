@@ -1,5 +1,6 @@
 -- The changes of a station, and which of them comes next for an entity (profile).
 use Rattle.std.specs.Prelude.{◌≡◌, ℕ, ◌+◌, ◌<◌, ◌≤◌, List, [], ◌++◌, length, Bool, true, false, ◌==◌, ◌&&◌, not, None, IfSome, slice_get, slice_index_or, Vec}
+use Rattle.std.specs.List.{list_any}
 use Rattle.std.specs.declared.alloc.Global.{Global}
 use Rattle.dis_records.specs.declared.kind.Kind.TheVariants as kinds
 use Rattle.dis_records.specs.declared.entity.Scope.{Scope}
@@ -49,6 +50,13 @@ is_of e c = is_one e c.scope
 -- it is one of all entities, and leaves those in state y in another
 abbrev pub moves_all : EntityState → Change → Bool
 moves_all y c = is_all c.scope && not (same_state (state_made c.kind y) y)
+
+-- a change is one of all entities, and one of these is
+abbrev pub is_made_of_all : Made → Bool
+is_made_of_all m = is_all m.change.scope
+
+abbrev pub has_change_of_all : Vec Made Global → Bool
+has_change_of_all ms = list_any is_made_of_all ms.items
 
 -- b is where the first change from place a on stands that passes, or the end of the list where none does
 pub record IsNextIn (test : Change → Bool) (ms : List Made) (a b : ℕ) : Type 0 where

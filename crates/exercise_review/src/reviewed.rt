@@ -17,7 +17,7 @@ use crate::review::MOST_LINES;
 use crate::row::{Row, told_by};
 use crate::span::{Span, span_at};
 use crate::stay::Stay;
-use crate::stays::{spans_counted, stays_within};
+use crate::stays::{refuse_many, stays_within};
 use crate::tally::{FateCounts, StationCounts, fates_of, stations_counted};
 use crate::told::{OrderAt, Told, told_within};
 use exercise_findings::Findings;
@@ -87,7 +87,7 @@ fn listed<'a, L: ExerciseLog>(
 {
     let most = MOST_LINES - 1 - findings.log().station_count();
     let changes = changes_by_station(alloc, &findings)?;
-    let _spans = spans_counted(alloc, &findings, &changes, most)?;
+    refuse_many(alloc, &findings, &changes, most)?;
     let (told, findings) = told_in(alloc, findings, most)?;
     let stays = stays_within(alloc, &findings, &changes, most - told.rows.len())?;
     Ok((told, stays, findings))

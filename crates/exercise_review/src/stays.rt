@@ -1,10 +1,11 @@
 //! The stretches of the lives of a recording's entities, one after the other, as they are kept: by
 //! station, by entity and in their order.
 
-ghost use Rattle.std.specs.Prelude.{◌≡◌, ◌<◌, ◌≤◌, length, map};
+ghost use Rattle.std.specs.Prelude.{◌≡◌, ◌<◌, ◌≤◌, Err, IfErr, length, map};
+ghost use Rattle.std.specs.List.{list_any};
 ghost use Rattle.exercise_review.specs.Room.{AddsWithin, CountsWithin};
 ghost use Rattle.exercise_review.specs.Span.{spans_of, all_spans, changes_made};
-ghost use Rattle.exercise_review.specs.Course.{AreChanges, AreInOrder, lives_in};
+ghost use Rattle.exercise_review.specs.Course.{AreChanges, AreInOrder, has_change_of_all, is_all, is_made_of_all, lives_in};
 ghost use Rattle.exercise_review.specs.Stay.{StaysWithin, stay_of, stays_of, all_stays};
 
 use crate::changes::{Made, changes_made};
@@ -12,8 +13,9 @@ use crate::course::Course;
 use crate::fault::ReviewFault;
 use crate::living::{last_living, may_live, push_life};
 use crate::stay::Stay;
+use dis_records::Scope;
 use exercise_findings::Findings;
-use exercise_model::ExerciseLog;
+use exercise_model::{Change, ExerciseLog};
 use std::alloc::Global;
 
 /// Adds the stays of an entity, by the course of its station, if there may be any.
@@ -130,7 +132,7 @@ fn count_station<L: ExerciseLog>(
 /// How many stretches the lives of all stations' entities have, by the changes of each station;
 /// `OverLimit` where there are more than so many. None is kept: there is no more room than for those of
 /// one entity.
-pub(crate) fn spans_counted<L: ExerciseLog>(
+fn spans_counted<L: ExerciseLog>(
     alloc: Global,
     findings: &Findings<'_, L>,
     changes: &[Vec<Made>],
@@ -152,6 +154,48 @@ pub(crate) fn spans_counted<L: ExerciseLog>(
         )?;
     }
     Ok(count)
+}
+
+/// Whether a change is one of all entities.
+fn is_of_all(change: Change) -> bool
+    ensures { result ≡ is_all change.scope }
+{
+    match change.scope {
+        Scope::All => true,
+        Scope::One(_) => false,
+    }
+}
+
+/// Whether one of these changes is one of all entities.
+fn has_change_of_all(changes: &[Made]) -> bool
+    ensures { result ≡ list_any is_made_of_all changes.now }
+{
+    changes.iter().any(|made| is_of_all(made.change))
+}
+
+/// Whether a change of one of the stations is one of all entities.
+fn is_some_change_of_all(changes: &[Vec<Made>]) -> bool
+    ensures { result ≡ list_any has_change_of_all changes.now }
+{
+    changes.iter().any(|made| has_change_of_all(made))
+}
+
+/// Refuses a recording of which the stretches of the lives alone are more than so many, by the changes
+/// of each station. They are counted where a change is one of all entities: any other moves one entity at
+/// most, and so there are few.
+pub(crate) fn refuse_many<L: ExerciseLog>(
+    alloc: Global,
+    findings: &Findings<'_, L>,
+    changes: &[Vec<Made>],
+    most: usize,
+) -> Result<(), ReviewFault>
+    requires { AreChanges findings.now (length findings.now.entries) changes.now }
+    ensures { IfErr result (λ fault. CountsWithin most 0 (all_spans findings.now) (Err fault)) }
+{
+    if is_some_change_of_all(changes) {
+        spans_counted(alloc, findings, changes, most)?;
+    }
+    Ok(())
 }
 
 /// The stretches of the lives of a station's entities, by entity and in their order; `OverLimit`

@@ -14,11 +14,10 @@ use Rattle.exercise_review.specs.declared.reviewed.KeptReview.{KeptReview}
 use Rattle.exercise_review.specs.declared.row.Row.{Row}
 use Rattle.exercise_review.specs.declared.stay.Stay.{Stay}
 use Rattle.exercise_review.specs.Review.{line_count, Reviews, KeepsReview}
-use Rattle.exercise_review.specs.Room.{CountsWithin}
 use Rattle.exercise_review.specs.Row.{AreRows}
 use Rattle.exercise_review.specs.Span.{all_spans}
 use Rattle.exercise_review.specs.Stay.{span_at, StaysWithin}
-use Rattle.exercise_review.specs.Tally.{TellsWithin, fates_of, station_counts}
+use Rattle.exercise_review.specs.Tally.{fates_of, station_counts}
 use Rattle.exercise_review.specs.Told.{orders_of, orders_told}
 use Rattle.exercise_review.proofs.Rows.{rows_count}
 
@@ -27,27 +26,6 @@ pub few_stations : (r : PlainRecording) → IsRecording r → length r.setting.s
 few_stations r limits =
     let most = leb-true (length r.setting.stations) MOST_STATIONS (and_parts _ _ (and_parts _ _ limits.setting.stations).1).0 in
     omega (arith, most)
-
--- the stretches alone take too many lines
-spans_many : (r : PlainRecording) (count : ℕ) (e : ReviewFault) → count ≡ length r.setting.stations → CountsWithin (4194303 - count) 0 (all_spans r) (Err e)
-    → Reviews r (Err e)
-spans_many r count OverLimit stations over = omega (arith, stations, over)
-spans_many r count Memory stations over = tt
-
-pub spans_refused : {X : Type 0} (r : PlainRecording) (count : ℕ) (e : ReviewFault) (result : Result X ReviewFault) → IsErrAnd result (λ x. x ≡ e)
-    → count ≡ length r.setting.stations → CountsWithin (4194303 - count) 0 (all_spans r) (Err e) → IfErr result (λ fault. Reviews r (Err fault))
-spans_refused r count e (Ok x) is stations over = absurd is
-spans_refused r count e (Err x) is stations over = subst (λ y. Reviews r (Err y)) (sym is) (spans_many r count e stations over)
-
--- the orders alone take too many lines
-orders_many : (r : PlainRecording) (count : ℕ) (e : ReviewFault) → count ≡ length r.setting.stations → TellsWithin r (4194303 - count) (Err e) → Reviews r (Err e)
-orders_many r count OverLimit stations over = omega (arith, stations, over)
-orders_many r count Memory stations over = tt
-
-pub orders_refused : {X : Type 0} (r : PlainRecording) (count : ℕ) (e : ReviewFault) (result : Result X ReviewFault) → IsErrAnd result (λ x. x ≡ e)
-    → count ≡ length r.setting.stations → TellsWithin r (4194303 - count) (Err e) → IfErr result (λ fault. Reviews r (Err fault))
-orders_refused r count e (Ok x) is stations over = absurd is
-orders_refused r count e (Err x) is stations over = subst (λ y. Reviews r (Err y)) (sym is) (orders_many r count e stations over)
 
 -- with the stretches they are too many
 stays_many : (r : PlainRecording) (rows : List Row) (count : ℕ) (e : ReviewFault) → count ≡ length r.setting.stations → AreRows r rows (orders_told r)

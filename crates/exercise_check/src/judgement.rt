@@ -54,6 +54,7 @@ fn source_taken<L: ExerciseLog>(
 
 /// Judges a datagram that a station is to receive, and which had to be sent before: it was where its
 /// source was taken.
+#[inline(never)]
 fn judge_received<L: ExerciseLog>(
     found: &Findings<'_, L>,
     cursors: &Cursors,
@@ -71,6 +72,7 @@ fn judge_received<L: ExerciseLog>(
 /// Judges the event of an entry, its station's next one, by what its station's log says of it: the
 /// first cause against it, the entry of the request that it takes up, and its source; and by which
 /// entries were taken so far, where the log says that it receives what had to be sent before.
+#[inline(always)]
 pub(crate) fn judge<L: ExerciseLog>(
     found: &Findings<'_, L>,
     cursors: &Cursors,

@@ -14,7 +14,7 @@ use Rattle.exercise_model.specs.Change.{responds, key_of, able}
 use Rattle.exercise_model.specs.Account.{sender_of, first_able, change_under, change_behind_pdu, change_behind_entry, change_behind}
 use Rattle.exercise_findings.specs.declared.key.Key.{Key}
 use Rattle.exercise_findings.specs.Number.{entry_number, entry_of, IsNumberOf}
-use Rattle.exercise_findings.specs.Column.{IsColumn}
+use Rattle.exercise_findings.specs.Column.{IsShortColumn}
 use Rattle.exercise_findings.specs.Firsts.{acknowledged_key, first_under}
 use Rattle.exercise_findings.specs.Behind.{able_key, key_behind, event_behind, behind_at, kept_behind, AreBehind}
 use Rattle.exercise_findings.proofs.Keyed.{first_able_by_key, under_earlier}
@@ -124,22 +124,26 @@ change_by_key r i =
 abbrev pub change_among : PlainRecording → List ℕ → ℕ → Option ℕ
 change_among r xs i = option_and_then (λ k. first_under r k (length r.entries)) (kept_behind r xs i)
 
+-- before the first
+pub among_none : (r : PlainRecording) (m : ℕ) → IsShortColumn 4294967295 (IsNumberOf (change_among r [])) m []
+among_none r m = record { each = λ j l. refl; rest = λ j l. refl }
+
 -- one more is looked up
 pub among_more : (r : PlainRecording) (m : ℕ) (xs : List ℕ) (x : ℕ) (k : Key) (number : ℕ) (old new : List ℕ)
-    → length r.entries ≤ 1048576 → Some k ≡ behind_at r x → number ≡ entry_number (first_under r k (length r.entries))
-    → length new ≡ length old → ((j : ℕ) → slice_index_or new j 0 ≡ (if nat_eq j x then number else slice_index_or old j 0))
-    → IsColumn 0 (IsNumberOf (change_among r xs)) m old → IsColumn 0 (IsNumberOf (change_among r (xs ++ x ∷ []))) m new
-among_more r m xs x k number old new few at is count written column =
+    → x < m → length r.entries ≤ 1048576 → Some k ≡ behind_at r x → number ≡ entry_number (first_under r k (length r.entries))
+    → ((j : ℕ) → slice_index_or new j 4294967295 ≡ (if nat_eq j x then number else slice_index_or old j 4294967295))
+    → IsShortColumn 4294967295 (IsNumberOf (change_among r xs)) m old → IsShortColumn 4294967295 (IsNumberOf (change_among r (xs ++ x ∷ []))) m new
+among_more r m xs x k number old new within few at is written column =
     let look : Option Key → Option ℕ = option_and_then (λ k. first_under r k (length r.entries)) in
     record {
-      count = count ∙ column.count;
       each = λ j l. ⊎_elim
-          (λ (same : j ≡ x). subst (λ i. IsNumberOf (change_among r (xs ++ x ∷ [])) i (slice_index_or new i 0)) (sym same)
-          (ap entry_of (written_here x number old new written ∙ is)
+          (λ (same : j ≡ x). subst (λ i. IsNumberOf (change_among r (xs ++ x ∷ [])) i (slice_index_or new i 4294967295)) (sym same)
+          (ap entry_of (written_here 4294967295 x number old new written ∙ is)
           ∙ number_back (first_under r k (length r.entries)) (bounded (first_under r k (length r.entries)) (under_earlier r k (length r.entries)))
           ∙ ap look at ∙ sym (ap look (snoc_here r xs x))))
-          (λ apart. ap entry_of (written_apart x number old new written j apart) ∙ column.each j l ∙ sym (ap look (snoc_apart r xs x j apart)))
+          (λ apart. ap entry_of (written_apart 4294967295 x number old new written j apart) ∙ column.each j l ∙ sym (ap look (snoc_apart r xs x j apart)))
           (cases_eq j x);
+      rest = λ j l. written_apart 4294967295 x number old new written j (λ same. absurd (omega (arith, l, within, same))) ∙ column.rest j l;
     }
   where
     bounded : (o : Option ℕ) → IfSome o (λ e. e < length r.entries) → IfSome o (λ e. e < 4294967295)
@@ -148,9 +152,9 @@ among_more r m xs x k number old new few at is count written column =
 
 -- one more has no change behind it
 pub among_still : (r : PlainRecording) (m : ℕ) (xs : List ℕ) (x : ℕ) (numbers : List ℕ) → None ≡ behind_at r x
-    → IsColumn 0 (IsNumberOf (change_among r xs)) m numbers → IsColumn 0 (IsNumberOf (change_among r (xs ++ x ∷ []))) m numbers
+    → IsShortColumn 4294967295 (IsNumberOf (change_among r xs)) m numbers → IsShortColumn 4294967295 (IsNumberOf (change_among r (xs ++ x ∷ []))) m numbers
 among_still r m xs x numbers none column = record {
-  count = column.count;
+  rest = column.rest;
   each = λ j l. column.each j l ∙ ap (option_and_then (λ k. first_under r k (length r.entries))) (⊎_elim
       (λ (same : j ≡ x). let at : behind_at r j ≡ None = ap (behind_at r) same ∙ sym none in
       kept_nothing r xs j at ∙ sym (kept_nothing r (xs ++ x ∷ []) j at))
@@ -160,9 +164,9 @@ among_still r m xs x numbers none column = record {
 
 -- all are looked up
 pub among_all : (r : PlainRecording) (xs : List ℕ) (numbers : List ℕ) → AreBehind r (length r.entries) xs
-    → IsColumn 0 (IsNumberOf (change_among r xs)) (length r.entries) numbers → IsColumn 0 (IsNumberOf (change_behind r)) (length r.entries) numbers
+    → IsShortColumn 4294967295 (IsNumberOf (change_among r xs)) (length r.entries) numbers → IsShortColumn 4294967295 (IsNumberOf (change_behind r)) (length r.entries) numbers
 among_all r xs numbers tied column = record {
-  count = column.count;
+  rest = column.rest;
   each = λ j l. column.each j l ∙ ap (option_and_then (λ k. first_under r k (length r.entries))) (tied.kept j l) ∙ change_by_key r j;
 }
 

@@ -6,7 +6,7 @@ use Rattle.dis_records.specs.declared.entity_state.EntityState.{EntityState}
 use Rattle.exercise_model.specs.Entry.{Sent, Received, Told}
 use Rattle.exercise_model.specs.Recording.{PlainRecording}
 use Rattle.exercise_model.specs.Account.{pair_of}
-use Rattle.exercise_findings.specs.Column.{IsColumn}
+use Rattle.exercise_findings.specs.Column.{IsShortColumn}
 use Rattle.exercise_findings.specs.Number.{entry_number}
 use Rattle.exercise_findings.specs.Source.{source_of, first_source}
 use Rattle.exercise_findings.specs.Earlier.{request_in, source_in, IsEarlierAt, IsSoFarAt}
@@ -94,13 +94,13 @@ looked_up r i (Some e) is few none = record { pair = source_no_request e ∙ non
 pub found_so_far : (r : PlainRecording) (i number : ℕ) → number ≢ 4294967294 → IsSoFarAt r i number → IsEarlierAt r i number
 found_so_far r i number apart kept = record { pair = kept.pair; source = kept.source apart }
 
-pub all_so_far : (r : PlainRecording) (xs : List ℕ) → IsColumn 0 (IsEarlierAt r) (length r.entries) xs → IsColumn 0 (IsSoFarAt r) (length r.entries) xs
+pub all_so_far : (r : PlainRecording) (xs : List ℕ) → IsShortColumn 4294967295 (IsEarlierAt r) (length r.entries) xs → IsShortColumn 4294967295 (IsSoFarAt r) (length r.entries) xs
 all_so_far r xs column = record {
-  count = column.count;
   each = λ j l. record { pair = (column.each j l).pair; source = λ _. (column.each j l).source };
+  rest = column.rest;
 }
 
--- ---- the requests alone
+-- ---- the requests alone, and the sources
 
-pub requests_so_far : (r : PlainRecording) (n : ℕ) (xs : List ℕ) → IsColumn 0 (IsSoFarAt r) n xs → IsColumn 0 (λ j x. request_in x ≡ pair_of r j) n xs
-requests_so_far r n xs column = record { count = column.count; each = λ j l. (column.each j l).pair }
+pub requests_so_far : (r : PlainRecording) (n : ℕ) (xs : List ℕ) → IsShortColumn 4294967295 (IsSoFarAt r) n xs → IsShortColumn 4294967295 (λ j x. request_in x ≡ pair_of r j) n xs
+requests_so_far r n xs column = record { each = λ j l. (column.each j l).pair; rest = column.rest }

@@ -23,7 +23,7 @@ own_key r n l at k has = (key_decides k l).0 (ap (λ m. option_map_or (same_key 
 pub its_key : (r : PlainRecording) (n : ℕ) (l : Key) → Some l ≡ key_at r n → has_key r l n ≡ true
 its_key r n l at = sym (ap (λ m. option_map_or (same_key l) m false) at) ∙ (key_decides l l).1 refl
 
-pub firsts_none : (r : PlainRecording) (firsts : Kept) → length firsts.slots.slots.items ≡ 0 → length firsts.order.items ≡ 0 → AreFirsts r 0 firsts
+pub firsts_none : (r : PlainRecording) (firsts : Kept) → length firsts.slots.slots ≡ 0 → length firsts.order.items ≡ 0 → AreFirsts r 0 firsts
 firsts_none r firsts none empty = kept_none (has_key r) key_hash firsts none empty
 
 -- an entry that has none
@@ -45,11 +45,11 @@ firsts_kept r n l old new at none behind tied =
 
 -- what is looked up
 pub firsts_looked_up : (r : PlainRecording) (n : ℕ) (firsts : Kept) (k : Key) (o : Option ℕ) → AreFirsts r n firsts
-    → IfSome o (λ e. Stands firsts.slots.slots.items e × (has_key r k e ≡ true))
-    → IfNone o ((e : ℕ) → IsReached firsts.slots.slots.items (key_hash k) e → has_key r k e ≡ false) → o ≡ first_under r k n
+    → IfSome o (λ e. Stands firsts.slots.slots e × (has_key r k e ≡ true))
+    → IfNone o ((e : ℕ) → IsReached firsts.slots.slots (key_hash k) e → has_key r k e ≡ false) → o ≡ first_under r k n
 unfolding first_under
 firsts_looked_up r n firsts k o tied found absent =
-    looked_up (has_key r) key_hash n firsts.slots.slots.items k (has_key r k) tied.first (λ e stands. refl) o found absent
+    looked_up (has_key r) key_hash n firsts.slots.slots k (has_key r k) tied.first (λ e stands. refl) o found absent
 
 pub firsts_order : (r : PlainRecording) (n : ℕ) (firsts : Kept) (k : Key) (i e : ℕ) → AreFirsts r n firsts
     → slice_get firsts.order.items i ≡ Some e → has_key r k e ≡ true → first_under r k n ≡ Some e

@@ -75,14 +75,14 @@ new_key r n new =
 
 -- ---- one entry more
 
-pub no_first_sends : (r : PlainRecording) (s : FirstSends) → length s.kept.slots.slots.items ≡ 0 → length s.kept.order.items ≡ 0 → s.hashed ≡ 0 → AreFirstSends r 0 s
+pub no_first_sends : (r : PlainRecording) (s : FirstSends) → length s.kept.slots.slots ≡ 0 → length s.kept.order.items ≡ 0 → s.hashed ≡ 0 → AreFirstSends r 0 s
 unfolding first_source first_below
 no_first_sends r s none empty unhashed = record {
   all = λ b e first. absurd (none-some e first);
   each = λ i e at. absurd (omega (arith, empty, slice_get_within s.kept.order.items i e at));
   within = omega (arith, unhashed);
   reached = λ b i e before at source. absurd (omega (arith, unhashed, before));
-  only = λ e stands. stands_none s.kept.slots.slots.items e none stands ((i : ℕ) × (slice_get s.kept.order.items i ≡ Some e));
+  only = λ e stands. stands_none s.kept.slots.slots e none stands ((i : ℕ) × (slice_get s.kept.order.items i ≡ Some e));
 }
 
 -- an entry before which the first send of all bytes is the same as before it
@@ -133,11 +133,11 @@ sends_more r n s stamp c old new at source none slots hashed pushed tied = recor
       (cases_eq i (length old.kept.order.items));
   within = omega (arith, hashed, tied.within, ap length pushed, length-append old.kept.order.items (n ∷ []));
   reached = λ b i e before here is.
-      subst (λ xs. IsReached xs (datagram_hash b) e) (sym (ap (λ x. x.slots.items) slots))
+      subst (λ xs. IsReached xs (datagram_hash b) e) (sym (ap (λ x. x.slots) slots))
       (tied.reached b i e (omega (arith, hashed, before))
       (was_at i e (λ last. absurd (omega (arith, last, before, hashed, tied.within))) here) is);
   only = λ e stands.
-      let old_at = tied.only e (subst (λ xs. Stands xs e) (ap (λ x. x.slots.items) slots) stands) in
+      let old_at = tied.only e (subst (λ xs. Stands xs e) (ap (λ x. x.slots) slots) stands) in
       (old_at.0, kept_at old_at.0 e old_at.1);
 }
   where
@@ -184,7 +184,7 @@ sends_more r n s stamp c old new at source none slots hashed pushed tied = recor
 -- ---- one more is kept under its hash
 
 pub hashed_more : (r : PlainRecording) (n e : ℕ) (old new : FirstSends) → slice_get old.kept.order.items old.hashed ≡ Some e
-    → ((b : List ℕ) → is_source r b e ≡ true → IsPut (datagram_hash b) e old.kept.slots.slots.items new.kept.slots.slots.items)
+    → ((b : List ℕ) → is_source r b e ≡ true → IsPut (datagram_hash b) e old.kept.slots.slots new.kept.slots.slots)
     → new.kept.order ≡ old.kept.order → new.hashed ≡ old.hashed + 1 → AreFirstSends r n old → AreFirstSends r n new
 hashed_more r n e old new at put order one tied = record {
   all = λ b x first. let was = tied.all b x first in (was.0, now_at was.0 x was.1);
@@ -195,11 +195,11 @@ hashed_more r n e old new at put order one tied = record {
       (λ (from : old.hashed ≤ i).
       let same : i ≡ old.hashed = omega (arith, from, before, one) in
       let this : e ≡ x = same_Some e x (sym at ∙ ap (slice_get old.kept.order.items) (sym same) ∙ was_at i x here) in
-      subst (IsReached new.kept.slots.slots.items (datagram_hash b)) this
+      subst (IsReached new.kept.slots.slots (datagram_hash b)) this
       (put b (subst (λ y. is_source r b y ≡ true) (sym this) is)).reached)
       (cases_lt i old.hashed);
   only = λ x stands. ⊎_elim
-      (λ (stood : Stands old.kept.slots.slots.items x). let was = tied.only x stood in (was.0, now_at was.0 x was.1))
+      (λ (stood : Stands old.kept.slots.slots x). let was = tied.only x stood in (was.0, now_at was.0 x was.1))
       (λ (same : x ≡ e). (old.hashed, now_at old.hashed x (at ∙ ap Some (sym same))))
       (its.1.only x stands);
 }
@@ -210,7 +210,7 @@ hashed_more r n e old new at put order one tied = record {
     now_at : (i x : ℕ) → slice_get old.kept.order.items i ≡ Some x → slice_get new.kept.order.items i ≡ Some x
     now_at i x here = ap (λ o. slice_get o.items i) order ∙ here
 
-    its : (h : ℕ) × IsPut h e old.kept.slots.slots.items new.kept.slots.slots.items
+    its : (h : ℕ) × IsPut h e old.kept.slots.slots new.kept.slots.slots
     its =
         let source = (tied.each old.hashed e at).source in
         let sent = sent_at r e source in
@@ -224,7 +224,7 @@ sends_hashed r n s stamp c old new at source none all one behind tied =
     let between : FirstSends = record { kept = record { slots = old.kept.slots; order = new.kept.order }; hashed = old.hashed } in
     hashed_more r (n + 1) n between new
     (ap (slice_get new.kept.order.items) all ∙ ap (λ xs. slice_get xs (length old.kept.order.items)) behind.order ∙ get-pushed_here old.kept.order.items n)
-    (λ b is. subst (λ x. IsPut (datagram_hash x) n old.kept.slots.slots.items new.kept.slots.slots.items) (sym (source_own r n s stamp c at b is)) behind.put)
+    (λ b is. subst (λ x. IsPut (datagram_hash x) n old.kept.slots.slots new.kept.slots.slots) (sym (source_own r n s stamp c at b is)) behind.put)
     refl one
     (sends_more r n s stamp c old between at source none refl refl behind.order tied)
 

@@ -108,37 +108,37 @@ first_kept {K} has hash n old new l tied own here none reached kept only = recor
 
 -- ---- what is kept, with the order in which it came
 
-pub kept_none : {K : Type 0} (has : K → ℕ → Bool) (hash : K → ℕ) (kept : Kept) → length kept.slots.slots.items ≡ 0 → length kept.order.items ≡ 0
+pub kept_none : {K : Type 0} (has : K → ℕ → Bool) (hash : K → ℕ) (kept : Kept) → length kept.slots.slots ≡ 0 → length kept.order.items ≡ 0
     → AreKept has hash 0 kept
 kept_none has hash kept none empty = record {
-  first = first_none has hash kept.slots.slots.items none;
+  first = first_none has hash kept.slots.slots none;
   order = λ i e at. absurd (omega (arith, empty, slice_get_within kept.order.items i e at));
 }
 
 pub kept_still : {K : Type 0} (has : K → ℕ → Bool) (hash : K → ℕ) (n : ℕ) (kept : Kept) → ((k : K) → has k n ≡ false)
     → AreKept has hash n kept → AreKept has hash (n + 1) kept
 kept_still has hash n kept none tied = record {
-  first = first_still has hash n kept.slots.slots.items tied.first (λ k. none_here (has k) n (none k));
+  first = first_still has hash n kept.slots.slots tied.first (λ k. none_here (has k) n (none k));
   order = tied.order;
 }
 
 pub kept_later : {K : Type 0} (has : K → ℕ → Bool) (hash : K → ℕ) (n m : ℕ) (kept : Kept) (l : K) → ((k : K) → has k n ≡ true → k ≡ l)
     → first_below (has l) n ≡ Some m → AreKept has hash n kept → AreKept has hash (n + 1) kept
 kept_later has hash n m kept l own first tied = record {
-  first = first_later has hash n m kept.slots.slots.items l tied.first own first;
+  first = first_later has hash n m kept.slots.slots l tied.first own first;
   order = tied.order;
 }
 
 pub kept_more : {K : Type 0} (has : K → ℕ → Bool) (hash : K → ℕ) (n : ℕ) (old new : Kept) (l : K) → ((k : K) → has k n ≡ true → k ≡ l)
     → has l n ≡ true → first_below (has l) n ≡ None → IsKeptBehind (hash l) n old new → AreKept has hash n old → AreKept has hash (n + 1) new
 kept_more has hash n old new l own here none behind tied = record {
-  first = first_kept has hash n old.slots.slots.items new.slots.slots.items l tied.first own here none behind.put.reached behind.put.kept behind.put.only;
+  first = first_kept has hash n old.slots.slots new.slots.slots l tied.first own here none behind.put.reached behind.put.kept behind.put.only;
   order = λ i e at.
       let placed : slice_get (old.order.items ++ n ∷ []) i ≡ Some e = ap (λ xs. slice_get xs i) (sym behind.order) ∙ at in
       ⊎_elim
       (λ (last : i ≡ length old.order.items).
       let same : n ≡ e = same_Some n e (sym (ap (slice_get (old.order.items ++ n ∷ [])) last ∙ get-pushed_here old.order.items n) ∙ placed) in
-      (hash l, subst (IsReached new.slots.slots.items (hash l)) same behind.put.reached))
+      (hash l, subst (IsReached new.slots.slots (hash l)) same behind.put.reached))
       (λ apart.
       let was = tied.order i e (sym (get-pushed_other old.order.items n i apart) ∙ placed) in
       (was.0, behind.put.kept was.0 e was.1))
@@ -147,9 +147,9 @@ kept_more has hash n old new l own here none behind tied = record {
 
 -- what stands in order stands in a slot
 pub order_stands : {K : Type 0} (has : K → ℕ → Bool) (hash : K → ℕ) (n : ℕ) (kept : Kept) (i e : ℕ) → AreKept has hash n kept
-    → slice_get kept.order.items i ≡ Some e → Stands kept.slots.slots.items e
+    → slice_get kept.order.items i ≡ Some e → Stands kept.slots.slots e
 order_stands has hash n kept i e tied at =
-    let reached = tied.order i e at in reached_stands kept.slots.slots.items reached.0 e reached.1
+    let reached = tied.order i e at in reached_stands kept.slots.slots reached.0 e reached.1
 
 -- what stands in order and has a key is the first that has it
 pub order_first : {K : Type 0} (has : K → ℕ → Bool) (hash : K → ℕ) (n : ℕ) (kept : Kept) (k : K) (i e : ℕ) → AreKept has hash n kept

@@ -79,14 +79,14 @@ unfolding first_request
 first_meant r k n i first = asks_meant r k i (passes (asks_at r k) n i first).1
 
 -- what stands in slots
-pub firsts_meant : (r : PlainRecording) (n : ℕ) (firsts : Kept) → AreFirsts r n firsts → (e : ℕ) → Stands firsts.slots.slots.items e → is_meant r e ≡ true
+pub firsts_meant : (r : PlainRecording) (n : ℕ) (firsts : Kept) → AreFirsts r n firsts → (e : ℕ) → Stands firsts.slots.slots e → is_meant r e ≡ true
 firsts_meant r n firsts tied e stands = let keyed = tied.first.keyed e stands in key_meant r keyed.0 e keyed.1
 
 pub order_meant : (r : PlainRecording) (n : ℕ) (firsts : Kept) → AreFirsts r n firsts → (i e : ℕ) → slice_get firsts.order.items i ≡ Some e → is_meant r e ≡ true
 order_meant r n firsts tied i e at = firsts_meant r n firsts tied e (order_stands (has_key r) key_hash n firsts i e tied at)
 
 pub requests_meant : (r : PlainRecording) (n : ℕ) (requests : Requests) → AreRequests r n requests → (e : ℕ)
-    → Stands requests.firsts.slots.slots.items e → is_meant r e ≡ true
+    → Stands requests.firsts.slots.slots e → is_meant r e ≡ true
 requests_meant r n requests tied e stands = let keyed = tied.firsts.first.keyed e stands in asks_meant r keyed.0 e keyed.1
 
 -- what brings a request

@@ -509,7 +509,7 @@ pub other_unasked : (r : PlainRecording) (s : ℕ) (b : List ℕ) → meaning r.
 other_unasked r s b other k = ap (option_and_then (request_under k s)) other
 
 -- before the first entry
-pub none_kept : (r : PlainRecording) (requests : Requests) → length requests.firsts.slots.slots.items ≡ 0 → length requests.firsts.order.items ≡ 0
+pub none_kept : (r : PlainRecording) (requests : Requests) → length requests.firsts.slots.slots ≡ 0 → length requests.firsts.order.items ≡ 0
     → ((k : Identifier) → get same_identifier requests.mixed k ≡ None) → AreRequests r 0 requests
 none_kept r requests none empty unmixed = record {
   firsts = kept_none (asks_at r) identifier_hash requests.firsts none empty;
@@ -519,8 +519,8 @@ none_kept r requests none empty unmixed = record {
 -- ---- what is looked up
 
 pub first_looked_up : (r : PlainRecording) (n : ℕ) (requests : Requests) (k : Identifier) (o : Option ℕ) → AreRequests r n requests
-    → IfSome o (λ e. Stands requests.firsts.slots.slots.items e × (asks_at r k e ≡ true))
-    → IfNone o ((e : ℕ) → IsReached requests.firsts.slots.slots.items (identifier_hash k) e → asks_at r k e ≡ false) → o ≡ first_request r k n
+    → IfSome o (λ e. Stands requests.firsts.slots.slots e × (asks_at r k e ≡ true))
+    → IfNone o ((e : ℕ) → IsReached requests.firsts.slots.slots (identifier_hash k) e → asks_at r k e ≡ false) → o ≡ first_request r k n
 unfolding first_request
 first_looked_up r n requests k o tied found absent =
-    looked_up (asks_at r) identifier_hash n requests.firsts.slots.slots.items k (asks_at r k) tied.firsts.first (λ e stands. refl) o found absent
+    looked_up (asks_at r) identifier_hash n requests.firsts.slots.slots k (asks_at r k) tied.firsts.first (λ e stands. refl) o found absent

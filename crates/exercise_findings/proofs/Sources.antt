@@ -204,11 +204,11 @@ sends_source r b j source = of_entry (slice_get r.entries j) refl
     of_entry (Some (Told s e y)) at = absurd (cc (by (Some (Told s e y)) at))
 
 pub senders_looked_up : (r : PlainRecording) (n : ℕ) (senders : Kept) (b : List ℕ) (o : Option ℕ) → AreSenders r n senders
-    → IfSome o (λ e. Stands senders.slots.slots.items e × (sends_at r b e ≡ true))
-    → IfNone o ((e : ℕ) → IsReached senders.slots.slots.items (datagram_hash b) e → sends_at r b e ≡ false) → o ≡ first_source r b n
+    → IfSome o (λ e. Stands senders.slots.slots e × (sends_at r b e ≡ true))
+    → IfNone o ((e : ℕ) → IsReached senders.slots.slots (datagram_hash b) e → sends_at r b e ≡ false) → o ≡ first_source r b n
 unfolding first_source
 senders_looked_up r n senders b o tied found absent =
-    looked_up (is_source r) datagram_hash n senders.slots.slots.items b (sends_at r b) tied.kept.first
+    looked_up (is_source r) datagram_hash n senders.slots.slots b (sends_at r b) tied.kept.first
     (λ e stands. sends_source r b e (tied.sources e stands)) o found absent
 
 -- an entry that was kept is the first source of what it sends

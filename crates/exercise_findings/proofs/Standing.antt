@@ -1,5 +1,5 @@
 -- What is put into slots is found in them, and nothing else stands there.
-use Rattle.std.proofs.Common.{◌≡◌, ℕ, ◌+◌, ◌<◌, ◌≤◌, List, length, set, Some, Bool, false, refl, sym, ap, ◌∙◌, subst, ⊎_elim, inl, inr, arith}
+use Rattle.std.proofs.Common.{◌≡◌, ℕ, zero, suc, ◌+◌, ◌<◌, ◌≤◌, List, [], ◌∷◌, length, set, map, replicate, Some, Bool, false, refl, sym, ap, ◌∙◌, subst, ⊎_elim, inl, inr, arith}
 use Rattle.std.specs.Prelude.{◌≢◌, ◌⊎◌, slice_get}
 use Rattle.std.proofs.Math.Numerals.{add-one}
 use Rattle.std.proofs.lemmas.List.{length-set}
@@ -7,7 +7,7 @@ use Rattle.std.proofs.lemmas.Option.{same_Some, slice_get_within}
 use Rattle.std.proofs.lemmas.Bool.{cases_lt, cases_eq}
 use borrow.Author.Count.{below_more}
 use Rattle.exercise_findings.specs.declared.slots.Slot.{Slot}
-use Rattle.exercise_findings.specs.Slots.{home, slot_behind, slot_on, HasEntry, AreTaken, IsFirstFree, IsReached, Stands}
+use Rattle.exercise_findings.specs.Slots.{home, slot_behind, slot_on, HasEntry, AreTaken, IsFirstFree, IsReached, Stands, free_slot}
 use Rattle.exercise_findings.proofs.EntityStates.{get-set_other, get-set_here}
 
 -- ---- one slot after another
@@ -28,6 +28,12 @@ pub taken_more : (slots : List Slot) (hash d : ℕ) (s : Slot) → AreTaken slot
 taken_more slots hash d s taken at some =
     below_more (λ (c : ℕ). (h : ℕ) × (e : ℕ) × HasEntry slots (slot_on (length slots) hash c) h e) d taken
     (s.hash, s.entry, record { at = at; some = some })
+
+-- in each place is a slot
+pub slot_there : (slots : List Slot) (i : ℕ) → i < length slots → (s : Slot) × (slice_get slots i ≡ Some s)
+slot_there [] i l = absurd (omega (arith, l))
+slot_there (s ∷ slots) zero l = (s, refl)
+slot_there (s ∷ slots) (suc i) l = slot_there slots i (omega (arith, l))
 
 -- what stands in one slot is one
 pub one_slot : (slots : List Slot) (i h e : ℕ) (s : Slot) → HasEntry slots i h e → slice_get slots i ≡ Some s → (h ≡ s.hash) × (e ≡ s.entry)
@@ -69,6 +75,20 @@ absent_free slots hash is d s passed at free e reached = ⊎_elim
 -- where there are no slots nothing stands
 pub stands_none : (slots : List Slot) (e : ℕ) → length slots ≡ 0 → Stands slots e → (P : Type 0) → P
 stands_none slots e none stands P = absurd (omega (arith, none, slice_get_within slots stands.0 _ stands.2.at))
+
+-- what all are the same number of
+pub map_replicate : {A B : Type 0} (f : A → B) (n : ℕ) (x : A) → map f (replicate n x) ≡ replicate n (f x)
+map_replicate f zero x = refl
+map_replicate f (suc n) x = ap (λ xs. f x ∷ xs) (map_replicate f n x)
+
+-- nor where all are free
+all_free : (n i : ℕ) (s : Slot) → slice_get (replicate n free_slot) i ≡ Some s → s.entry ≡ 0xFFFFFFFF
+all_free zero i s at = absurd (cc at)
+all_free (suc n) zero s at = ap (λ (x : Slot). x.entry) (sym (same_Some {A = Slot} free_slot s at))
+all_free (suc n) (suc i) s at = all_free n i s at
+
+pub none_stands : (n e : ℕ) → Stands (replicate n free_slot) e → (P : Type 0) → P
+none_stands n e stands P = absurd (stands.2.some (all_free n stands.0 (record { hash = stands.1; entry = e }) stands.2.at))
 
 pub reached_stands : (slots : List Slot) (hash e : ℕ) → IsReached slots hash e → Stands slots e
 reached_stands slots hash e reached = (slot_on (length slots) hash reached.steps, hash, reached.here)

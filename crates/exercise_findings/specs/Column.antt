@@ -1,7 +1,12 @@
 -- Columns: one value for each place (profile).
-use Rattle.std.specs.Prelude.{◌≡◌, ◌<◌, ℕ, List, length, slice_index_or}
+use Rattle.std.specs.Prelude.{◌≡◌, ◌<◌, ◌≤◌, ℕ, List, length, slice_index_or}
 
 -- One value for each place below n, and each is what P says of its place.
 pub record IsColumn {X : Type 0} (d : X) (P : ℕ → X → Type 0) (n : ℕ) (xs : List X) : Type 0 where
   pub count : length xs ≡ n
   pub each : (j : ℕ) → j < n → P j (slice_index_or xs j d)
+
+-- The same of a column that may end before n: behind its end this value stands.
+pub record IsShortColumn {X : Type 0} (d : X) (P : ℕ → X → Type 0) (n : ℕ) (xs : List X) : Type 0 where
+  pub each : (j : ℕ) → j < n → P j (slice_index_or xs j d)
+  pub rest : (j : ℕ) → n ≤ j → slice_index_or xs j d ≡ d

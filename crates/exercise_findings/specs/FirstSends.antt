@@ -19,8 +19,8 @@ pub record AreFirstSends (r : PlainRecording) (n : ℕ) (s : FirstSends) : Type 
   pub each : (i e : ℕ) → slice_get s.kept.order.items i ≡ Some e → IsFirstSend r n e
   pub within : s.hashed ≤ length s.kept.order.items
   pub reached : (b : List ℕ) (i e : ℕ) → i < s.hashed → slice_get s.kept.order.items i ≡ Some e → is_source r b e ≡ true
-      → IsReached s.kept.slots.slots.items (datagram_hash b) e
-  pub only : (e : ℕ) → Stands s.kept.slots.slots.items e → (i : ℕ) × (slice_get s.kept.order.items i ≡ Some e)
+      → IsReached s.kept.slots.slots (datagram_hash b) e
+  pub only : (e : ℕ) → Stands s.kept.slots.slots e → (i : ℕ) × (slice_get s.kept.order.items i ≡ Some e)
 
 -- what entry n sends from the station that it comes from was not sent before
 abbrev pub IsNewSend : PlainRecording → ℕ → Type 0

@@ -5,10 +5,10 @@ use Rattle.exercise_findings.specs.Slots.{IsReached, IsPut, AreFirst}
 
 -- An entry is kept under a hash, behind what was kept before, all of which stays.
 pub record IsKeptBehind (hash entry : ℕ) (old new : Kept) : Type 0 where
-  pub put : IsPut hash entry old.slots.slots.items new.slots.slots.items
+  pub put : IsPut hash entry old.slots.slots new.slots.slots
   pub order : new.order.items ≡ old.order.items ++ entry ∷ []
 
 -- THE TIE: what is kept under a key is the first entry below n that has the key, and what stands in order is kept
 pub record AreKept {K : Type 0} (has : K → ℕ → Bool) (hash : K → ℕ) (n : ℕ) (kept : Kept) : Type 0 where
-  pub first : AreFirst has hash n kept.slots.slots.items
-  pub order : (i : ℕ) (e : ℕ) → slice_get kept.order.items i ≡ Some e → (h : ℕ) × IsReached kept.slots.slots.items h e
+  pub first : AreFirst has hash n kept.slots.slots
+  pub order : (i : ℕ) (e : ℕ) → slice_get kept.order.items i ≡ Some e → (h : ℕ) × IsReached kept.slots.slots h e

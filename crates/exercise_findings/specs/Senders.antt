@@ -17,4 +17,4 @@ sends_at r b j = option_map_or (λ e. sends b (event_of e)) (slice_get r.entries
 -- THE TIE: of the bytes of each datagram the first entry below n is kept that sends it from the station that it comes from
 pub record AreSenders (r : PlainRecording) (n : ℕ) (senders : Kept) : Type 0 where
   pub kept : AreKept (is_source r) datagram_hash n senders
-  pub sources : (e : ℕ) → Stands senders.slots.slots.items e → source_at r e ≡ true
+  pub sources : (e : ℕ) → Stands senders.slots.slots e → source_at r e ≡ true

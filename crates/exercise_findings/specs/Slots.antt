@@ -1,7 +1,9 @@
 -- Entries under hashes, kept in slots: an entry stands in the first slot that was free, from the home of its hash on (profile).
-use Rattle.std.specs.Prelude.{◌≡◌, ◌≢◌, ◌<◌, ◌+◌, ◌-◌, ◌==◌, ◌⊎◌, ℕ, zero, suc, Bool, true, List, length, Some, slice_get, if◌then◌else◌, bit_and}
+use Rattle.std.specs.Prelude.{◌≡◌, ◌≢◌, ◌<◌, ◌+◌, ◌-◌, ◌==◌, ◌⊎◌, ◌/◌, ℕ, zero, suc, Bool, true, List, length, Some, slice_get, if◌then◌else◌, bit_and}
 use Rattle.exercise_model.specs.Place.{first_below}
 use Rattle.exercise_findings.specs.declared.slots.Slot.{Slot}
+use Rattle.exercise_findings.specs.declared.tagged.Look.{Look}
+use Rattle.exercise_findings.specs.declared.tagged.Look.TheVariants.{Free, Other, Under}
 
 -- among n slots, the home of a hash, and the slot behind slot i
 abbrev pub home : ℕ → ℕ → ℕ
@@ -55,3 +57,20 @@ pub record AreFirst {K : Type 0} (has : K → ℕ → Bool) (hash : K → ℕ) (
   pub keyed : (e : ℕ) → Stands slots e → (k : K) × (has k e ≡ true)
   pub only : (k : K) (e : ℕ) → Stands slots e → has k e ≡ true → first_below (has k) n ≡ Some e
   pub all : (k : K) (e : ℕ) → first_below (has k) n ≡ Some e → IsReached slots (hash k) e
+
+-- a slot that is free
+abbrev pub free_slot : Slot
+free_slot = record { hash = 0; entry = 0xFFFFFFFF }
+
+-- the tag of what is kept under a hash, and that of a slot
+abbrev pub tag_of : ℕ → ℕ
+tag_of hash = hash / 0x2000000 + 1
+
+abbrev pub tag_in : Slot → ℕ
+tag_in s = if s.entry == 0xFFFFFFFF then 0 else tag_of s.hash
+
+-- what a look at a slot tells of a hash
+abbrev pub LooksAt : Slot → ℕ → Look → Type 0
+LooksAt s hash Free = s.entry ≡ 0xFFFFFFFF
+LooksAt s hash Other = (s.entry ≢ 0xFFFFFFFF) × (s.hash ≢ hash)
+LooksAt s hash (Under entry) = (s.entry ≢ 0xFFFFFFFF) × (s.hash ≡ hash) × (s.entry ≡ entry)

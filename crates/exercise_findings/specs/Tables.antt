@@ -15,7 +15,7 @@ use Rattle.exercise_findings.specs.declared.pass.Passed.{Passed}
 use Rattle.exercise_findings.specs.declared.found.Found.{Found}
 use Rattle.exercise_findings.specs.Firsts.{key_at, AreFirsts, IsBased}
 use Rattle.exercise_findings.specs.ChangeNumber.{change_in}
-use Rattle.exercise_findings.specs.Column.{IsColumn}
+use Rattle.exercise_findings.specs.Column.{IsColumn, IsShortColumn}
 use Rattle.exercise_findings.specs.Behind.{behind_at, AreBehind}
 use Rattle.exercise_findings.specs.Answered.{unasked_at, AreAnswered}
 use Rattle.exercise_findings.specs.Source.{source_at}
@@ -66,9 +66,9 @@ pub record IsFound (r : PlainRecording) (n : ℕ) (f : Found) : Type 0 where
 pub record IsPass (r : PlainRecording) (n : ℕ) (f : Pass) : Type 0 where
   pub tied : AreTied r n f.tables
   pub causes : IsColumn None (IsOwnCause r) n f.causes.items
-  pub changes : IsColumn 0 (IsChangeAt r) n f.changes.items
-  pub earlier : IsColumn 0 (IsSoFarAt r) n f.earlier.items
-  pub later : f.looks.later ≡ 0 → IsColumn 0 (IsEarlierAt r) n f.earlier.items
+  pub changes : IsShortColumn 0 (IsChangeAt r) n f.changes.items
+  pub earlier : IsShortColumn 0xFFFFFFFF (IsSoFarAt r) n f.earlier.items
+  pub later : f.looks.later ≡ 0 → IsShortColumn 0xFFFFFFFF (IsEarlierAt r) n f.earlier.items
   pub ables : AreBehind r n f.ables.items
   pub answered : AreAnswered r n f.answered
   pub sends : AreFirstSends r n f.sends
@@ -79,10 +79,10 @@ pub record IsPass (r : PlainRecording) (n : ℕ) (f : Pass) : Type 0 where
 pub record AreFound (r : PlainRecording) (f : Passed) : Type 0 where
   pub tied : AreTied r (length r.entries) f.tables
   pub causes : IsColumn None (IsOwnCause r) (length r.entries) f.causes.items
-  pub changes : IsColumn 0 (IsChangeAt r) (length r.entries) f.changes.items
-  pub earlier : IsColumn 0 (IsSoFarAt r) (length r.entries) f.earlier.items
+  pub changes : IsShortColumn 0 (IsChangeAt r) (length r.entries) f.changes.items
+  pub earlier : IsShortColumn 0xFFFFFFFF (IsSoFarAt r) (length r.entries) f.earlier.items
   pub senders : IfSome f.senders (AreSenders r (length r.entries))
-  pub sources : IfNone f.senders (IsColumn 0 (IsEarlierAt r) (length r.entries) f.earlier.items)
+  pub sources : IfNone f.senders (IsShortColumn 0xFFFFFFFF (IsEarlierAt r) (length r.entries) f.earlier.items)
   pub ables : AreBehind r (length r.entries) f.ables.items
   pub others : f.others ≡ others_among r.setting.exercise (take (length r.entries) r.entries)
 

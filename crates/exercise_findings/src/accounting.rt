@@ -3,7 +3,7 @@
 ghost use Rattle.std.specs.Prelude.{◌≡◌, length, map, IfOk};
 ghost use Rattle.exercise_model.specs.Account.{change_behind, entities_of, values_below};
 ghost use Rattle.exercise_findings.specs.Account.{TellsAccount};
-ghost use Rattle.exercise_findings.specs.Column.{IsColumn};
+ghost use Rattle.exercise_findings.specs.Column.{IsShortColumn};
 ghost use Rattle.exercise_findings.specs.Number.{IsNumberOf};
 ghost use Rattle.exercise_findings.specs.Tables.{AreTied, AreFound};
 
@@ -41,7 +41,7 @@ fn states_and_changes<L: ExerciseLog>(
 ) -> Result<(Vec<Vec<(u16, EntityState)>>, Vec<u32>), AllocError>
     requires { AreFound (L.recording log.now) found.now }
     ensures states { let r = L.recording log.now in IfOk result (λ told. map (λ v. v.items) told.0.items ≡ values_below (entities_of r) (length r.setting.stations)) }
-    ensures changes { let r = L.recording log.now in IfOk result (λ told. IsColumn 0 (IsNumberOf (change_behind r)) (length r.entries) told.1.items) }
+    ensures changes { let r = L.recording log.now in IfOk result (λ told. IsShortColumn 0xFFFFFFFF (IsNumberOf (change_behind r)) (length r.entries) told.1.items) }
 {
     let changes = changes_behind(
         alloc,

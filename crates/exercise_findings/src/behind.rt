@@ -5,12 +5,12 @@
 ghost use Rattle.std.specs.Prelude.{◌≡◌, ◌<◌, ◌+◌, length, OnOk, IfOk};
 ghost use Rattle.siman_pdus.specs.Reading.{pdu_of};
 ghost use Rattle.exercise_model.specs.Account.{change_behind};
-ghost use Rattle.exercise_findings.specs.Column.{IsColumn};
+ghost use Rattle.exercise_findings.specs.Column.{IsShortColumn};
 ghost use Rattle.exercise_findings.specs.Number.{IsNumberOf};
 ghost use Rattle.exercise_findings.specs.Firsts.{AreFirsts};
 ghost use Rattle.exercise_findings.specs.Behind.{key_behind, behind_at, AreBehind};
 
-use crate::column::replace;
+use crate::column::put_number;
 use crate::firsts::{Firsts, first_near};
 use crate::hint::Hint;
 use crate::key::{Key, acknowledged_key};
@@ -80,16 +80,16 @@ pub(crate) fn changes_behind<L: ExerciseLog>(
 ) -> Result<Vec<u32>, AllocError>
     requires firsts { let r = L.recording log.now in AreFirsts r (length r.entries) firsts.now }
     requires ables { let r = L.recording log.now in AreBehind r (length r.entries) ables.now }
-    ensures { let r = L.recording log.now in IfOk result (λ changes. IsColumn 0 (IsNumberOf (change_behind r)) (length r.entries) changes.items) }
+    ensures { let r = L.recording log.now in IfOk result (λ changes. IsShortColumn 0xFFFFFFFF (IsNumberOf (change_behind r)) (length r.entries) changes.items) }
 {
     let end = log.entry_count();
-    let mut changes = vec![in alloc; NO_ENTRY; end]?;
+    let mut changes = Vec::new(alloc);
     let mut hint = Hint::new();
     for able in ables {
         let entry = *able as usize;
         if let Some(key) = key_behind_at(log, places, entry) {
             let change = entry_number(first_near(firsts, log, &key, end, &mut hint));
-            replace(&mut changes, entry, change);
+            put_number(&mut changes, NO_ENTRY, end, entry, change)?;
         }
     }
     Ok(changes)

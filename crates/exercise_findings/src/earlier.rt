@@ -3,14 +3,14 @@
 
 ghost use Rattle.std.specs.Prelude.{◌≡◌, ◌≢◌, ◌<◌, ◌≤◌, ◌+◌, ℕ, length, slice_index_or, IfSome, IfNone, IfOk, OnOk, Some, None, is_some, true, unwrap_or, option_map};
 ghost use Rattle.exercise_model.specs.Recording.{IsRecording};
-ghost use Rattle.exercise_findings.specs.Column.{IsColumn};
+ghost use Rattle.exercise_findings.specs.Column.{IsShortColumn};
 ghost use Rattle.exercise_findings.specs.Earlier.{request_in, source_in, IsEarlierAt, IsSoFarAt};
 ghost use Rattle.exercise_findings.specs.FirstSends.{AreFirstSends};
 ghost use Rattle.exercise_findings.specs.Senders.{AreSenders};
 ghost use Rattle.exercise_findings.specs.Sent.{Receives};
 ghost use Rattle.exercise_findings.specs.Source.{first_source, source_of};
 
-use crate::column::replace;
+use crate::column::{number_at, replace};
 use crate::first_sends::{FirstSends, latest_source};
 use crate::number::NO_ENTRY;
 use crate::senders::{Hints, Senders, first_source, next_source};
@@ -208,12 +208,12 @@ fn find_source<L: ExerciseLog>(
     requires limits { IsRecording (L.recording log.now) }
     requires within { entry < length (L.recording log.now).entries }
     requires senders { let r = L.recording log.now in AreSenders r (length r.entries) senders.now }
-    requires so_far { let r = L.recording log.now in IsColumn 0 (IsSoFarAt r) (length r.entries) column.old.items }
-    ensures so_far { let r = L.recording log.now in IsColumn 0 (IsSoFarAt r) (length r.entries) column.new.items }
-    ensures here { IsEarlierAt (L.recording log.now) entry (slice_index_or column.new.items entry 0) }
-    ensures others { (j : ℕ) → j ≢ entry → slice_index_or column.new.items j 0 ≡ slice_index_or column.old.items j 0 }
+    requires so_far { let r = L.recording log.now in IsShortColumn 0xFFFFFFFF (IsSoFarAt r) (length r.entries) column.old.items }
+    ensures so_far { let r = L.recording log.now in IsShortColumn 0xFFFFFFFF (IsSoFarAt r) (length r.entries) column.new.items }
+    ensures here { IsEarlierAt (L.recording log.now) entry (slice_index_or column.new.items entry 0xFFFFFFFF) }
+    ensures others { (j : ℕ) → j ≢ entry → slice_index_or column.new.items j 0xFFFFFFFF ≡ slice_index_or column.old.items j 0xFFFFFFFF }
 {
-    if column[entry] == LATER {
+    if number_at(column, NO_ENTRY, entry) == LATER {
         let source = source_number(source_by_hint(senders, hints, log, entry), NO_ENTRY);
         replace(column, entry, source);
     }
@@ -231,9 +231,9 @@ pub(crate) fn settle_source<L: ExerciseLog>(
     requires limits { IsRecording (L.recording log.now) }
     requires within { entry < length (L.recording log.now).entries }
     requires senders { let r = L.recording log.now in IfSome senders.now (AreSenders r (length r.entries)) }
-    requires so_far { let r = L.recording log.now in IsColumn 0 (IsSoFarAt r) (length r.entries) column.old.items }
+    requires so_far { let r = L.recording log.now in IsShortColumn 0xFFFFFFFF (IsSoFarAt r) (length r.entries) column.old.items }
     ensures none { IfNone senders.now (column.new ≡ column.old) }
-    ensures so_far { let r = L.recording log.now in IsColumn 0 (IsSoFarAt r) (length r.entries) column.new.items }
+    ensures so_far { let r = L.recording log.now in IsShortColumn 0xFFFFFFFF (IsSoFarAt r) (length r.entries) column.new.items }
 {
     if let Some(senders) = senders {
         find_source(column, senders, hints, log, entry);
@@ -249,8 +249,8 @@ pub(crate) fn all_earlier<L: ExerciseLog>(
 ) -> Vec<u32>
     requires limits { IsRecording (L.recording log.now) }
     requires senders { let r = L.recording log.now in AreSenders r (length r.entries) senders.now }
-    requires so_far { let r = L.recording log.now in IsColumn 0 (IsSoFarAt r) (length r.entries) so_far.items }
-    ensures { let r = L.recording log.now in IsColumn 0 (IsEarlierAt r) (length r.entries) result.items }
+    requires so_far { let r = L.recording log.now in IsShortColumn 0xFFFFFFFF (IsSoFarAt r) (length r.entries) so_far.items }
+    ensures { let r = L.recording log.now in IsShortColumn 0xFFFFFFFF (IsEarlierAt r) (length r.entries) result.items }
 {
     let mut column = so_far;
     for entry in 0..log.entry_count() {

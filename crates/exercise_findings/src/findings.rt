@@ -12,9 +12,11 @@ ghost use Rattle.exercise_findings.specs.Tables.{AreFindings, own_cause};
 
 use crate::account::Account;
 use crate::accounting::{account, states};
-use crate::change_number::change_in;
+use crate::change_number::{NO_CHANGE, change_in};
+use crate::column::number_at;
 use crate::earlier::{request_in, source_in, source_kept};
 use crate::made::state_made_before;
+use crate::number::NO_ENTRY;
 use crate::pass::{Passed, find, settle};
 use dis_records::EntityState;
 use exercise_model::{Cause, Change, ExerciseLog};
@@ -71,10 +73,7 @@ impl<'a, L: ExerciseLog> Findings<'a, L> {
     pub fn pair(&self, entry: usize) -> Option<u32>
         ensures { result ≡ pair_of self.now entry }
     {
-        match self.found.earlier.get(entry) {
-            Some(earlier) => request_in(*earlier),
-            None => None,
-        }
+        request_in(number_at(&self.found.earlier, NO_ENTRY, entry))
     }
 
     /// For a datagram that was received from a recorded station, the first entry of that station that
@@ -86,7 +85,7 @@ impl<'a, L: ExerciseLog> Findings<'a, L> {
         if entry >= self.log.entry_count() {
             return None;
         }
-        let earlier = self.found.earlier[entry];
+        let earlier = number_at(&self.found.earlier, NO_ENTRY, entry);
         source_kept(&self.found.senders, self.log, entry, earlier)
     }
 
@@ -94,10 +93,7 @@ impl<'a, L: ExerciseLog> Findings<'a, L> {
     pub fn source_at_hand(&self, entry: usize) -> Option<u32>
         ensures { IfSome result (λ source. source_of self.now entry ≡ Some source) }
     {
-        match self.found.earlier.get(entry) {
-            Some(earlier) => source_in(*earlier),
-            None => None,
-        }
+        source_in(number_at(&self.found.earlier, NO_ENTRY, entry))
     }
 
     /// Looks up where what an entry received comes from, where that is yet to be found, so that
@@ -116,10 +112,7 @@ impl<'a, L: ExerciseLog> Findings<'a, L> {
     pub fn change(&self, entry: usize) -> Option<Change>
         ensures { result ≡ change_at self.now entry }
     {
-        match self.found.changes.get(entry) {
-            Some(number) => change_in(*number),
-            None => None,
-        }
+        change_in(number_at(&self.found.changes, NO_CHANGE, entry))
     }
 
     /// The state of an entity of a station before an entry; Absent for a number that no entity has.

@@ -41,7 +41,7 @@ pub(crate) fn no_sends(alloc: Global, entries: usize) -> FirstSends
 fn hash_source<L: ExerciseLog>(slots: &mut Slots, log: &L, entry: u32) -> Result<(), AllocError>
     requires few { entry < 4294967295 }
     requires source { source_at (L.recording log.now) entry ≡ true }
-    ensures { let r = L.recording log.now in OnOk result ((b : List ℕ) → is_source r b entry ≡ true → IsPut (datagram_hash b) entry slots.old.slots.items slots.new.slots.items) }
+    ensures { let r = L.recording log.now in OnOk result ((b : List ℕ) → is_source r b entry ≡ true → IsPut (datagram_hash b) entry slots.old.slots slots.new.slots) }
 {
     match log.entry(entry as usize) {
         EntryView::Sent { bytes, .. } => keep(slots, datagram_hash(bytes), entry),

@@ -18,7 +18,7 @@ pub(crate) struct Kept {
 
 /// Nothing, of so many entries that there may be. It takes no memory.
 pub(crate) fn nothing_kept(alloc: Global, entries: usize) -> Kept
-    ensures slots { length result.slots.slots.items ≡ 0 }
+    ensures slots { length result.slots.slots ≡ 0 }
     ensures order { length result.order.items ≡ 0 }
 {
     Kept {

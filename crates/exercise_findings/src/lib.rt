@@ -6,8 +6,8 @@
 //! joined by equal bytes alone: it knows neither certificates nor an order between stations, so no
 //! certificate can change what it says. Its tables lie over the bytes of the log, under keys that
 //! strangers may have chosen. [`Missing`] names a send that a log lacks, for the crates above, which look
-//! for it; [`replace`] and [`Hint`] are inner doors to them, since they keep columns of their own, and
-//! look up in turn what came in turn.
+//! for it; [`number_at`], [`put_number`], [`replace`] and [`Hint`] are inner doors to them, since they keep
+//! columns of their own, and look up in turn what came in turn.
 #![tactic(auto)]
 
 mod account;
@@ -41,9 +41,10 @@ mod state;
 mod states;
 mod table;
 mod tables;
+mod tagged;
 
 pub use account::Account;
-pub use column::replace;
+pub use column::{number_at, put_number, replace};
 pub use findings::Findings;
 pub use hint::Hint;
 pub use missing::Missing;

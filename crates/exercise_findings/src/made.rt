@@ -5,10 +5,11 @@ ghost use Rattle.std.specs.Option.{option_map_or};
 ghost use Rattle.exercise_model.specs.History.{station_at};
 ghost use Rattle.exercise_model.specs.State.{change_made, changed, state_after};
 ghost use Rattle.exercise_model.specs.Place.{log_before, own_event};
-ghost use Rattle.exercise_findings.specs.Column.{IsColumn};
+ghost use Rattle.exercise_findings.specs.Column.{IsShortColumn};
 ghost use Rattle.exercise_findings.specs.Tables.{IsChangeAt};
 
-use crate::change_number::change_in;
+use crate::change_number::{NO_CHANGE, change_in};
+use crate::column::number_at;
 use dis_records::EntityState;
 use exercise_model::{Change, ExerciseLog, is_entity, listed_state, scope_has, state_made};
 
@@ -30,11 +31,11 @@ fn own_change<L: ExerciseLog>(
     entry: usize,
 ) -> Option<Change>
     requires within { entry < length (L.recording log.now).entries }
-    requires changes { let r = L.recording log.now in IsColumn 0 (IsChangeAt r) (length r.entries) changes.now }
+    requires changes { let r = L.recording log.now in IsShortColumn 0 (IsChangeAt r) (length r.entries) changes.now }
     ensures { let r = L.recording log.now in result ≡ option_and_then (change_made r.setting.exercise (station_at r station) (log_before r station entry)) (own_event r station entry) }
 {
     if log.entry(entry).station() == station {
-        change_in(changes[entry])
+        change_in(number_at(changes, NO_CHANGE, entry))
     } else {
         None
     }
@@ -50,7 +51,7 @@ pub(crate) fn state_made_before<L: ExerciseLog>(
 ) -> EntityState
     requires at { station < length (L.recording log.now).setting.stations }
     requires within { before ≤ length (L.recording log.now).entries }
-    requires changes { let r = L.recording log.now in IsColumn 0 (IsChangeAt r) (length r.entries) changes.now }
+    requires changes { let r = L.recording log.now in IsShortColumn 0 (IsChangeAt r) (length r.entries) changes.now }
     ensures { let r = L.recording log.now in result ≡ state_after r.setting.exercise (station_at r station) (log_before r station before) entity }
 {
     if !is_entity(entity) {

@@ -13,6 +13,7 @@ use crate::answered::{Answered, none_answered, note_answer};
 use crate::behind::note_behind;
 use crate::cause::judge_told;
 use crate::change_number::{NO_CHANGE, change_number};
+use crate::column::put_number;
 use crate::earlier::{Looks, all_earlier, earlier_so_far, settle_source};
 use crate::first_sends::{FirstSends, hash_all, no_sends, note_send};
 use crate::firsts::{LastBase, no_base};
@@ -125,14 +126,12 @@ impl Passed {
     }
 }
 
-/// What was found before the first entry, with room in the columns for all.
+/// What was found before the first entry, with room for the causes against all.
 fn nothing_found<L: ExerciseLog>(alloc: Global, log: &L) -> Result<Pass, AllocError>
     ensures { IfOk result (λ found. IsPass (L.recording log.now) 0 found) }
 {
     let entries = log.entry_count();
     let causes = Vec::with_capacity(alloc, entries)?;
-    let changes = Vec::with_capacity(alloc, entries)?;
-    let earlier = Vec::with_capacity(alloc, entries)?;
     let tables = no_tables(alloc, log)?;
     let places = places_of(alloc, log)?;
     let answers = Hint::new();
@@ -144,8 +143,8 @@ fn nothing_found<L: ExerciseLog>(alloc: Global, log: &L) -> Result<Pass, AllocEr
         sent: no_base(),
         received: no_base(),
         causes,
-        changes,
-        earlier,
+        changes: Vec::new(alloc),
+        earlier: Vec::new(alloc),
         looks: Looks {
             misses: 0,
             later: 0,
@@ -205,25 +204,19 @@ fn keep_sent<L: ExerciseLog>(
         log, tables, requests, rising, answers, sent, entry, station, bytes,
     )?;
     found.causes.push(here.cause)?;
-    found.changes.push(change_number(here.change))?;
-    found.earlier.push(entry_number(here.pair))?;
+    let (change, pair) = (change_number(here.change), entry_number(here.pair));
+    put_number(
+        &mut found.changes,
+        NO_CHANGE,
+        log.entry_count(),
+        entry,
+        change,
+    )?;
+    put_number(&mut found.earlier, NO_ENTRY, log.entry_count(), entry, pair)?;
     found.others += one_if(here.other);
-    let first = note_tables(
-        &mut found.tables,
-        log,
-        entry,
-        here.change,
-        here.key,
-        here.base,
-    )?;
-    let fresh = note_answer(
-        &mut found.answered,
-        log,
-        entry,
-        here.pair,
-        here.is_unasked,
-        here.key,
-    )?;
+    let (key, is_unasked) = (here.key, here.is_unasked);
+    let first = note_tables(&mut found.tables, log, entry, here.change, key, here.base)?;
+    let fresh = note_answer(&mut found.answered, log, entry, here.pair, is_unasked, key)?;
     let is_new = is_known_new(here.is_new, first, fresh);
     note_send(&mut found.sends, log, entry, bytes, here.is_source, is_new)
 }
@@ -251,9 +244,14 @@ fn keep_received<L: ExerciseLog>(
     } = found;
     let here = find_received(log, places, received, entry, station, bytes);
     found.causes.push(here.cause)?;
-    found.changes.push(change_number(here.change))?;
     let earlier = earlier_so_far(&mut found.sends, &mut found.looks, log, entry, bytes)?;
-    found.earlier.push(earlier)?;
+    put_number(
+        &mut found.earlier,
+        NO_ENTRY,
+        log.entry_count(),
+        entry,
+        earlier,
+    )?;
     found.others += one_if(here.other);
     note_behind(&mut found.ables, log, entry, here.behind)?;
     note_key(&mut found.tables, log, entry, here.key, here.base)
@@ -278,8 +276,6 @@ fn keep_told<L: ExerciseLog>(
 {
     let cause = judge_told(log, &found.tables, station, entry, entity, state);
     found.causes.push(cause)?;
-    found.changes.push(NO_CHANGE)?;
-    found.earlier.push(NO_ENTRY)?;
     Ok(())
 }
 

@@ -5,6 +5,7 @@ ghost use Rattle.std.specs.Prelude.{◌≡◌, ◌≢◌, ◌<◌, ◌⊎◌, �
 ghost use Rattle.exercise_findings.specs.Slots.{home, slot_behind, IsFirstFree, IsReached, IsPut, Stands};
 
 use crate::number::NO_ENTRY;
+use crate::tagged::{Look, TaggedSlots};
 use std::alloc::{AllocError, Global};
 
 /// A slot: an entry, and the hash that it is kept under.
@@ -21,18 +22,12 @@ pub(crate) struct Slot {
 pub(crate) struct Slots {
     alloc: Global,
     /// The slots: none, or a power of two.
-    pub slots: Vec<Slot>,
+    pub slots: TaggedSlots,
     /// How many have an entry. What is found is the same whatever stands here, and in the next line.
     used: usize,
     /// How many slots there are once one is needed.
     least: usize,
 }
-
-/// A slot that is free.
-const FREE: Slot = Slot {
-    hash: 0,
-    entry: NO_ENTRY,
-};
 
 /// What an entry is looked for by, among those under one hash.
 pub(crate) trait Sought {
@@ -49,11 +44,11 @@ pub(crate) trait Sought {
 
 /// No entries, of so many that there may be. It takes no memory.
 pub(crate) fn no_slots(alloc: Global, entries: usize) -> Slots
-    ensures { length result.slots.items ≡ 0 }
+    ensures { length result.slots ≡ 0 }
 {
     Slots {
         alloc,
-        slots: Vec::new(alloc),
+        slots: TaggedSlots::none(alloc),
         used: 0,
         least: least_slots(entries),
     }
@@ -94,22 +89,24 @@ fn slot_behind(place: usize, count: usize) -> usize
 
 /// The entry under a hash that is the one that is looked for.
 pub(crate) fn find<S: Sought>(slots: &Slots, hash: u32, sought: &S) -> Option<u32>
-    requires { (e : ℕ) → Stands slots.now.slots.items e → S.is_known sought.now e ≡ true }
-    ensures found { IfSome result (λ e. Stands slots.now.slots.items e × (S.is_sought sought.now e ≡ true)) }
-    ensures absent { IfNone result ((e : ℕ) → IsReached slots.now.slots.items hash e → S.is_sought sought.now e ≡ false) }
+    requires { (e : ℕ) → Stands slots.now.slots e → S.is_known sought.now e ≡ true }
+    ensures found { IfSome result (λ e. Stands slots.now.slots e × (S.is_sought sought.now e ≡ true)) }
+    ensures absent { IfNone result ((e : ℕ) → IsReached slots.now.slots hash e → S.is_sought sought.now e ≡ false) }
 {
-    let count = slots.slots.len();
+    let count = slots.slots.count();
     if count == 0 {
         return None;
     }
     let mut place = home(hash, count);
     for _step in 0..count {
-        let slot = slots.slots[place];
-        if slot.entry == NO_ENTRY {
-            return None;
-        }
-        if slot.hash == hash && sought.is_sought(slot.entry) {
-            return Some(slot.entry);
+        match slots.slots.look(place, hash) {
+            Look::Free => return None,
+            Look::Other => (),
+            Look::Under(entry) => {
+                if sought.is_sought(entry) {
+                    return Some(entry);
+                }
+            }
         }
         place = slot_behind(place, count);
     }
@@ -117,16 +114,16 @@ pub(crate) fn find<S: Sought>(slots: &Slots, hash: u32, sought: &S) -> Option<u3
 }
 
 /// The first slot that is free, from the home of a hash on.
-fn first_free(slots: &Vec<Slot>, hash: u32) -> Option<usize>
-    ensures { IfSome result (IsFirstFree slots.now.items hash) }
+fn first_free(slots: &TaggedSlots, hash: u32) -> Option<usize>
+    ensures { IfSome result (IsFirstFree slots.now hash) }
 {
-    let count = slots.len();
+    let count = slots.count();
     if count == 0 {
         return None;
     }
     let mut place = home(hash, count);
     for _step in 0..count {
-        if slots[place].entry == NO_ENTRY {
+        if slots.is_free(place) {
             return Some(place);
         }
         place = slot_behind(place, count);
@@ -136,15 +133,15 @@ fn first_free(slots: &Vec<Slot>, hash: u32) -> Option<usize>
 
 /// Puts an entry into the first slot that is free, from the home of its hash on. Where none is free
 /// there is no room; [`make_room`] leaves a quarter of them free.
-fn put(slots: &mut Vec<Slot>, hash: u32, entry: u32) -> Result<(), AllocError>
+fn put(slots: &mut TaggedSlots, hash: u32, entry: u32) -> Result<(), AllocError>
     requires some { entry ≢ 4294967295 }
-    ensures reached { OnOk result (IsReached slots.new.items hash entry) }
-    ensures kept { OnOk result ((h e : ℕ) → IsReached slots.old.items h e → IsReached slots.new.items h e) }
-    ensures only { OnOk result ((e : ℕ) → Stands slots.new.items e → Stands slots.old.items e ⊎ (e ≡ entry)) }
+    ensures reached { OnOk result (IsReached slots.new hash entry) }
+    ensures kept { OnOk result ((h e : ℕ) → IsReached slots.old h e → IsReached slots.new h e) }
+    ensures only { OnOk result ((e : ℕ) → Stands slots.new e → Stands slots.old e ⊎ (e ≡ entry)) }
 {
     match first_free(slots, hash) {
         Some(place) => {
-            slots[place] = Slot { hash, entry };
+            slots.put(place, hash, entry);
             Ok(())
         }
         None => Err(AllocError),
@@ -152,10 +149,10 @@ fn put(slots: &mut Vec<Slot>, hash: u32, entry: u32) -> Result<(), AllocError>
 }
 
 /// Puts what stands in a slot into others, if it is an entry.
-fn put_slot(slots: &mut Vec<Slot>, slot: Slot) -> Result<(), AllocError>
-    ensures reached { OnOk result (slot.entry ≢ 4294967295 → IsReached slots.new.items slot.hash slot.entry) }
-    ensures kept { OnOk result ((h e : ℕ) → IsReached slots.old.items h e → IsReached slots.new.items h e) }
-    ensures only { OnOk result ((e : ℕ) → Stands slots.new.items e → Stands slots.old.items e ⊎ ((e ≡ slot.entry) × (e ≢ 4294967295))) }
+fn put_slot(slots: &mut TaggedSlots, slot: Slot) -> Result<(), AllocError>
+    ensures reached { OnOk result (slot.entry ≢ 4294967295 → IsReached slots.new slot.hash slot.entry) }
+    ensures kept { OnOk result ((h e : ℕ) → IsReached slots.old h e → IsReached slots.new h e) }
+    ensures only { OnOk result ((e : ℕ) → Stands slots.new e → Stands slots.old e ⊎ ((e ≡ slot.entry) × (e ≢ 4294967295))) }
 {
     if slot.entry == NO_ENTRY {
         Ok(())
@@ -165,23 +162,23 @@ fn put_slot(slots: &mut Vec<Slot>, slot: Slot) -> Result<(), AllocError>
 }
 
 /// So many slots, with what stands in these.
-fn spread(alloc: Global, from: &Vec<Slot>, count: usize) -> Result<Vec<Slot>, AllocError>
-    ensures kept { IfOk result (λ to. (h e : ℕ) → IsReached from.now.items h e → IsReached to.items h e) }
-    ensures only { IfOk result (λ to. (e : ℕ) → Stands to.items e → Stands from.now.items e) }
+fn spread(alloc: Global, from: &TaggedSlots, count: usize) -> Result<TaggedSlots, AllocError>
+    ensures kept { IfOk result (λ to. (h e : ℕ) → IsReached from.now h e → IsReached to h e) }
+    ensures only { IfOk result (λ to. (e : ℕ) → Stands to e → Stands from.now e) }
 {
-    let mut to = vec![in alloc; FREE; count]?;
-    for place in 0..from.len() {
-        put_slot(&mut to, from[place])?;
+    let mut to = TaggedSlots::free(alloc, count)?;
+    for place in 0..from.count() {
+        put_slot(&mut to, from.slot(place))?;
     }
     Ok(to)
 }
 
 /// Makes twice as many slots where less than a quarter are free.
 fn make_room(slots: &mut Slots) -> Result<(), AllocError>
-    ensures kept { OnOk result ((h e : ℕ) → IsReached slots.old.slots.items h e → IsReached slots.new.slots.items h e) }
-    ensures only { OnOk result ((e : ℕ) → Stands slots.new.slots.items e → Stands slots.old.slots.items e) }
+    ensures kept { OnOk result ((h e : ℕ) → IsReached slots.old.slots h e → IsReached slots.new.slots h e) }
+    ensures only { OnOk result ((e : ℕ) → Stands slots.new.slots e → Stands slots.old.slots e) }
 {
-    let count = slots.slots.len();
+    let count = slots.slots.count();
     if slots.used < count - count / 4 {
         return Ok(());
     }
@@ -196,7 +193,7 @@ fn make_room(slots: &mut Slots) -> Result<(), AllocError>
 /// Keeps an entry under a hash.
 pub(crate) fn keep(slots: &mut Slots, hash: u32, entry: u32) -> Result<(), AllocError>
     requires { entry ≢ 4294967295 }
-    ensures { OnOk result (IsPut hash entry slots.old.slots.items slots.new.slots.items) }
+    ensures { OnOk result (IsPut hash entry slots.old.slots slots.new.slots) }
 {
     make_room(slots)?;
     put(&mut slots.slots, hash, entry)?;

@@ -18,14 +18,12 @@
 //!
 //! A [`Register`] keeps the entries by the orders that they make, bring or take up, and where each
 //! datagram was received. What has to do with an order at a station is looked for among those entries
-//! alone that have its digest there; what else is asked goes over the whole log. [`number_at`] and
-//! [`put_number`] are inner doors to its columns, for the crate above that keeps columns of its own.
+//! alone that have its digest there; what else is asked goes over the whole log.
 #![tactic(auto)]
 
 mod answered;
 mod change_laws;
 mod changes;
-mod column;
 mod conversion_laws;
 mod counting;
 mod course;
@@ -71,7 +69,6 @@ mod ways;
 mod word;
 
 pub use change_laws::changes_are_made;
-pub use column::{number_at, put_number};
 pub use conversion_laws::conversion_keeps_views;
 pub use exercise_findings::Missing;
 pub use fate::{Fate, Traces, fate_of, traces_of};

@@ -14,11 +14,10 @@ ghost use Rattle.exercise_review.specs.Records.{entry_places};
 ghost use Rattle.exercise_review.specs.Register.{key_at, AreRegistered};
 ghost use Rattle.exercise_review.specs.Sourced.{TellsSources, AreSources, AreWhole, IsAnswerIn, is_unheard};
 
-use crate::column::{number_at, put_number};
 use crate::entry_number::{NO_ENTRY, entry_of};
 use crate::receipt::Receipts;
 use crate::ways::{Ways, keyed_end};
-use exercise_findings::Findings;
+use exercise_findings::{Findings, number_at, put_number};
 use exercise_model::{EntryView, ExerciseLog, Form, meaning_view};
 use std::alloc::{AllocError, Global};
 

@@ -7,9 +7,9 @@ ghost use Rattle.exercise_findings.specs.Number.{entry_of};
 ghost use Rattle.exercise_review.specs.Register.{Keys, no_entry, holds, key_told, IsKept, AreRegistered};
 ghost use Rattle.exercise_review.specs.Counted.{last_below};
 
-use crate::column::{number_at, put_number, replace};
 use crate::entry_number::{NO_ENTRY, entry_of};
 use crate::question::{Question, first_below};
+use exercise_findings::{number_at, put_number, replace};
 use indexmap::IndexSet;
 use std::alloc::{AllocError, Global};
 use std::hash::{BuildHasherDefault, FoldHasher};

@@ -43,6 +43,7 @@ fn read_time(bytes: &[u8], at: usize) -> ClockTime
 }
 
 /// The body of a kind, whose parts are all there.
+#[inline(always)]
 #[tactic(auto, unfolding(crate::specs::Reading::shown_body))]
 fn body_view(kind: Kind, bytes: &[u8]) -> BodyView<'_>
     requires { IsWhole kind bytes.now }
@@ -152,6 +153,7 @@ pub fn view(bytes: &[u8]) -> Result<PduView<'_>, ViewFault>
 
 /// The PDU that a datagram is known to spell, in place: as [`view`] shows it, without another look at what
 /// it could be refused for, and without a walk over its records.
+#[inline(always)]
 pub fn view_again(bytes: &[u8]) -> PduView<'_>
     requires { is_some (reading bytes.now) ≡ true }
     ensures { Some (pdu_of result) ≡ reading bytes.now }

@@ -13,4 +13,4 @@ returns g c steps link ready cursors =
     passed r steps (record { place = c.args.place; link = link }) e.0 c.args.station c.index-follower.result.now c.args.cursors.now
     (record { followers = c.args.cursors.now.followers; next = c.replace.new.column }) c.requires.within e.1
     (sym (from_entry _ e.0 (λ x. station_of (event_of x) ≡ c.args.station) e.1 c.requires.own)) ready
-    (c.index-follower.ensures ∙ get_or_default c.args.cursors.now.followers.items c.args.place _ 0 (omega (arith, c.requires.within, c.requires.followers))) refl c.replace.ensures.count c.replace.ensures.each cursors
+    (c.index-follower.ensures ∙ get_or_default c.args.cursors.now.followers.items c.args.place _ 0 (omega (arith, c.requires.within, c.requires.followers))) refl c.replace.ensures.count (c.replace.ensures.each 0) cursors

@@ -11,6 +11,6 @@ returns g c =
     let below : s < length r.setting.stations = grind (arith) in
     let back = gone_back r c.args.entry (shown c.entry.result) s c.index-follower.result.now c.args.own.now c.replace.new.column.items c.replace-2.new.column.items
     c.entry.ensures.entry (c.from-station.ensures ∙ c.station.ensures) below
-    (c.index-follower.ensures ∙ get_or_default c.args.own.now.first.items s _ 0 (omega (arith, below, c.requires.tied.first.count))) c.replace.ensures.count c.replace.ensures.each c.replace-2.ensures.count
-    c.replace-2.ensures.each c.requires.tied in
+    (c.index-follower.ensures ∙ get_or_default c.args.own.now.first.items s _ 0 (omega (arith, below, c.requires.tied.first.count))) c.replace.ensures.count (c.replace.ensures.each 0) c.replace-2.ensures.count
+    (c.replace-2.ensures.each 0) c.requires.tied in
     record { followers = back.0; first = back.1 }

@@ -1,10 +1,11 @@
-use Rattle.std.proofs.Common.{◌≡◌, ℕ, List, [], ◌∷◌, ◌++◌, length, take, get_or, sym, ap, ◌∙◌, subst, arith}
+use Rattle.std.proofs.Common.{◌≡◌, ◌<◌, ℕ, List, [], ◌∷◌, ◌++◌, length, take, get_or, sym, ap, ◌∙◌, subst, arith}
 use Rattle.std.proofs.lemmas.List.{take_more, take_all}
-use Rattle.exercise_findings.specs.Column.{IsColumn}
+use Rattle.std.proofs.lemmas.List.Elements.{All-get_or}
+use Rattle.exercise_findings.specs.Column.{IsShortColumn}
 use Rattle.exercise_findings.specs.Number.{entry_number, IsNumberOf}
 use Rattle.exercise_findings.specs.Firsts.{first_under}
-use Rattle.exercise_findings.proofs.Ables.{change_among, among_more, among_still, among_all}
-use Rattle.exercise_findings.proofs.behind.changes_behind.Goals.{in-Some, in_default}
+use Rattle.exercise_findings.proofs.Ables.{change_among, among_none, among_more, among_still, among_all}
+use Rattle.exercise_findings.proofs.behind.changes_behind.Goals.{in-Some+in_ok-put_number, in_default}
 use Rattle.exercise_findings.proofs.behind.changes_behind.Goals as goal
 use Rattle.std.proofs.lemmas.Grind.{common_steps}
 
@@ -15,20 +16,21 @@ loop-able-preserved g c =
     let i = c.loop-able.able-index in
     let xs : List ℕ = c.args.ables.now in
     let x : ℕ = get_or xs i 0 in
-    let more : IsColumn 0 (IsNumberOf (change_among r (take i xs ++ x ∷ []))) n c.match-key_behind_at.changes.items =
+    let within : x < n = All-get_or (λ k. k < n) xs i 0 c.loop-able-test.true c.requires.ables.within in
+    let more : IsShortColumn 4294967295 (IsNumberOf (change_among r (take i xs ++ x ∷ []))) n c.match-key_behind_at.changes.items =
     elim c.match-key_behind_at.branch [
-      | in-Some w ↦
+      | in-Some+in_ok-put_number w ↦
           let key = w.in-Some.key in
-          subst (λ v. IsColumn 0 (IsNumberOf (change_among r (take i xs ++ x ∷ []))) n v.items) (sym w.changes-is)
-          (among_more r n (take i xs) x key w.entry_number-change.result c.loop-able.changes.items w.replace.new.column.items
-          c.entry_count-end.ensures.limits.count (sym w.in-Some.is ∙ c.key_behind_at.ensures)
+          subst (λ v. IsShortColumn 4294967295 (IsNumberOf (change_among r (take i xs ++ x ∷ []))) n v.items) (sym w.changes-is)
+          (among_more r n (take i xs) x key w.entry_number-change.result c.loop-able.changes.items w.put_number.new.column.items
+          within c.entry_count-end.ensures.limits.count (sym w.in-Some.is ∙ c.key_behind_at.ensures)
           (w.entry_number-change.ensures ∙ ap entry_number (w.first_near.ensures ∙ ap (first_under r key) c.entry_count-end.ensures.count))
-          w.replace.ensures.count w.replace.ensures.each c.loop-able.invariant)
+          w.in_ok-put_number.ensures c.loop-able.invariant)
       | in_default w ↦
-          subst (λ v. IsColumn 0 (IsNumberOf (change_among r (take i xs ++ x ∷ []))) n v.items) (sym w.changes-is)
+          subst (λ v. IsShortColumn 4294967295 (IsNumberOf (change_among r (take i xs ++ x ∷ []))) n v.items) (sym w.changes-is)
           (among_still r n (take i xs) x c.loop-able.changes.items (sym w.in_default.is ∙ c.key_behind_at.ensures) c.loop-able.invariant)
     ] in
-    subst (λ ys. IsColumn 0 (IsNumberOf (change_among r ys)) n c.match-key_behind_at.changes.items) (sym (take_more xs i 0 c.loop-able-test.true)) more
+    subst (λ ys. IsShortColumn 4294967295 (IsNumberOf (change_among r ys)) n c.match-key_behind_at.changes.items) (sym (take_more xs i 0 c.loop-able-test.true)) more
 
 pub returns : goal.returns
 returns g c =
@@ -36,7 +38,9 @@ returns g c =
     let xs : List ℕ = c.args.ables.now in
     let all : take c.loop-able.able-index xs ≡ xs = take_all c.loop-able.able-index xs c.loop-able-test.false in
     among_all r xs c.loop-able.changes.items c.requires.ables
-    (subst (λ ys. IsColumn 0 (IsNumberOf (change_among r ys)) (length r.entries) c.loop-able.changes.items) all c.loop-able.invariant)
+    (subst (λ ys. IsShortColumn 4294967295 (IsNumberOf (change_among r ys)) (length r.entries) c.loop-able.changes.items) all c.loop-able.invariant)
 
 pub loop-able-init : goal.loop-able-init
-loop-able-init g c = grind (arith, common_steps)
+loop-able-init g c =
+    let r = g.L.ExerciseLog.recording c.args.log.now in
+    subst (λ (ys : List ℕ). IsShortColumn 4294967295 (IsNumberOf (change_among r [])) (length r.entries) ys) (sym c.new-changes.ensures.items) (among_none r (length r.entries))

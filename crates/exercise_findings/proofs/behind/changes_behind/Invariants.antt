@@ -1,5 +1,5 @@
 use Rattle.std.proofs.Common.{take, length}
-use Rattle.exercise_findings.specs.Column.{IsColumn}
+use Rattle.exercise_findings.specs.Column.{IsShortColumn}
 use Rattle.exercise_findings.specs.Number.{IsNumberOf}
 use Rattle.exercise_findings.proofs.Ables.{change_among}
 use Rattle.exercise_findings.proofs.behind.changes_behind.Given as goal
@@ -8,4 +8,4 @@ use Rattle.exercise_findings.proofs.behind.changes_behind.Given as goal
 abbrev pub invariant-loop-able : goal.invariant-loop-able
 invariant-loop-able g l =
     let r = g.L.ExerciseLog.recording l.log in
-    IsColumn 0 (IsNumberOf (change_among r (take l.able-index l.ables))) (length r.entries) l.changes.items
+    IsShortColumn 4294967295 (IsNumberOf (change_among r (take l.able-index l.ables))) (length r.entries) l.changes.items

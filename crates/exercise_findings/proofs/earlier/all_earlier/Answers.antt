@@ -14,7 +14,7 @@ loop-entry-preserved g c =
     let xs = c.find_source.new.column.items in
     record {
       so_far = c.find_source.ensures.so_far;
-      found = below_more (λ (j : ℕ). IsEarlierAt r j (slice_index_or xs j 0)) n
+      found = below_more (λ (j : ℕ). IsEarlierAt r j (slice_index_or xs j 4294967295)) n
           (λ j l. subst (IsEarlierAt r j) (sym (c.find_source.ensures.others j (λ same. absurd (omega (arith, l, same)))))
           (c.loop-entry.invariant.found j l))
           c.find_source.ensures.here;
@@ -22,7 +22,7 @@ loop-entry-preserved g c =
 
 pub returns : goal.returns
 returns g c = record {
-  count = c.loop-entry.invariant.so_far.count;
+  rest = c.loop-entry.invariant.so_far.rest;
   each = λ j l. c.loop-entry.invariant.found j
       (omega (arith, l, c.loop-entry-test.false, c.loop-entry.auto.entry-end, c.entry_count-entry-end.ensures.count));
 }

@@ -1,6 +1,6 @@
 use Rattle.std.proofs.Common.{ℕ, ◌<◌, length}
 use Rattle.std.specs.Prelude.{slice_index_or}
-use Rattle.exercise_findings.specs.Column.{IsColumn}
+use Rattle.exercise_findings.specs.Column.{IsShortColumn}
 use Rattle.exercise_findings.specs.Earlier.{IsEarlierAt, IsSoFarAt}
 use Rattle.exercise_findings.proofs.earlier.all_earlier.Given as goal
 
@@ -9,6 +9,6 @@ abbrev pub invariant-loop-entry : goal.invariant-loop-entry
 invariant-loop-entry g l =
     let r = g.L.ExerciseLog.recording l.log in
     record {
-      so_far : IsColumn 0 (IsSoFarAt r) (length r.entries) l.column.items;
-      found : (j : ℕ) → j < l.entry → IsEarlierAt r j (slice_index_or l.column.items j 0);
+      so_far : IsShortColumn 4294967295 (IsSoFarAt r) (length r.entries) l.column.items;
+      found : (j : ℕ) → j < l.entry → IsEarlierAt r j (slice_index_or l.column.items j 4294967295);
     }

@@ -20,7 +20,7 @@ returns-in-Sent g c =
     let n = c.args.entry in
     let at = c.entry.ensures.entry ∙ ap (λ e. Some (shown e)) c.in-Sent.is in
     on_ok c.keep.result
-    (λ put b is. subst (λ h. IsPut h n c.args.slots.now.slots.items c.keep.new.slots.slots.items)
+    (λ put b is. subst (λ h. IsPut h n c.args.slots.now.slots c.keep.new.slots.slots)
     (c.datagram_hash.ensures ∙ ap datagram_hash (sym (source_own r n c.in-Sent.station c.in-Sent.stamp c.in-Sent.bytes.now at b is))) put)
     c.keep.ensures
 

@@ -15,4 +15,4 @@ returns g c =
     let firsts = c.args.firsts.now in
     let k = c.args.key.now in
     firsts_looked_up r c.args.before firsts k c.find.result c.requires.tied c.find.ensures.found
-    (subst (λ h. IfNone c.find.result ((e : ℕ) → IsReached firsts.slots.slots.items h e → has_key r k e ≡ false)) c.requires.hash c.find.ensures.absent)
+    (subst (λ h. IfNone c.find.result ((e : ℕ) → IsReached firsts.slots.slots h e → has_key r k e ≡ false)) c.requires.hash c.find.ensures.absent)

@@ -3,6 +3,7 @@ use Rattle.std.specs.Prelude.{if◌then◌else◌}
 use Rattle.std.proofs.lemmas.Bool.{eq-eqb, ne_eqb}
 use Rattle.exercise_model.specs.Held.{shown}
 use Rattle.exercise_model.specs.Account.{change_at}
+use Rattle.exercise_findings.specs.ChangeNumber.{change_in}
 use Rattle.exercise_findings.proofs.Tied.{own_of}
 use Rattle.exercise_findings.proofs.made.own_change.Goals as goal
 
@@ -10,6 +11,7 @@ pub returns-then-station : goal.returns-then-station
 returns-then-station g c =
     let r = g.L.ExerciseLog.recording c.args.log.now in
     c.change_in.ensures
+    ∙ ap change_in c.number_at.ensures
     ∙ c.requires.changes.each c.args.entry c.requires.within
     ∙ sym (own_of r c.args.station c.args.entry (shown c.entry.result) c.entry.ensures.entry
     ∙ ap (λ b. if b then change_at r c.args.entry else None) (eq-eqb _ _ (sym c.station.ensures ∙ c.if-station.true)))

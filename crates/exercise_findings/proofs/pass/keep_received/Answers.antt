@@ -6,7 +6,7 @@ use Rattle.exercise_findings.specs.Column.{IsColumn}
 use Rattle.exercise_findings.specs.Earlier.{IsEarlierAt, IsSoFarAt}
 use Rattle.exercise_findings.specs.Tables.{IsOwnCause, IsChangeAt, other_at}
 use Rattle.exercise_findings.proofs.FirstAnswers.{answered_still}
-use Rattle.exercise_findings.proofs.Columns.{column_more, on_ok}
+use Rattle.exercise_findings.proofs.Columns.{column_more, short_more, short_still, on_ok}
 use Rattle.exercise_findings.proofs.Looks.{pair_here, unasked_here, change_here, at_most_one, others_next}
 use Rattle.exercise_findings.proofs.FirstSends.{sends_still}
 use Rattle.exercise_findings.proofs.Sources.{not_sent}
@@ -33,12 +33,9 @@ returns g c =
       tied = tied;
       causes = subst (λ (xs : List (Option Cause)). IsColumn None (IsOwnCause r) (n + 1) xs) (sym c.in_ok-push.ensures.items)
           (column_more None (IsOwnCause r) n _ c.find_received-here.result.cause was.causes here.cause);
-      changes = subst (λ (xs : List ℕ). IsColumn 0 (IsChangeAt r) (n + 1) xs) (sym c.in_ok-push-2.ensures.items)
-          (column_more 0 (IsChangeAt r) n _ c.change_number.result was.changes (c.change_number.ensures ∙ here.change));
-      earlier = subst (λ (xs : List ℕ). IsColumn 0 (IsSoFarAt r) (n + 1) xs) (sym c.in_ok-push-3.ensures.items)
-          (column_more 0 (IsSoFarAt r) n _ c.in_ok-earlier.earlier was.earlier earlier.so_far);
-      later = λ none. subst (λ (xs : List ℕ). IsColumn 0 (IsEarlierAt r) (n + 1) xs) (sym c.in_ok-push-3.ensures.items)
-          (column_more 0 (IsEarlierAt r) n _ c.in_ok-earlier.earlier (was.later (earlier.later none).0) (earlier.later none).1);
+      changes = short_still 0 (IsChangeAt r) n _ was.changes (sym (change_here r n got at));
+      earlier = short_more 4294967295 (IsSoFarAt r) n _ _ _ c.in_ok-put_number.ensures earlier.so_far was.earlier;
+      later = λ none. short_more 4294967295 (IsEarlierAt r) n _ _ _ c.in_ok-put_number.ensures (earlier.later none).1 (was.later (earlier.later none).0);
       ables = c.in_ok-note_behind.ensures;
       answered = answered_still r n c.args.found.now.answered (pair_here r n got at) (unasked_here r n got at) was.answered;
       sends = sends_still r n c.earlier_so_far.new.sends (not_sent r n got at (λ b. refl)) earlier.tied;

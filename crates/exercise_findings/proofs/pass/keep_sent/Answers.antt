@@ -8,7 +8,7 @@ use Rattle.exercise_findings.specs.Earlier.{IsEarlierAt, IsSoFarAt}
 use Rattle.exercise_findings.specs.FirstSends.{IsNewSend}
 use Rattle.exercise_findings.specs.Tables.{IsOwnCause, IsChangeAt, other_at}
 use Rattle.exercise_findings.proofs.Ables.{behind_still}
-use Rattle.exercise_findings.proofs.Columns.{column_more, on_ok}
+use Rattle.exercise_findings.proofs.Columns.{column_more, short_more, on_ok}
 use Rattle.exercise_findings.proofs.FirstAnswers.{one_of}
 use Rattle.exercise_findings.proofs.EarlierEntries.{sent_earlier, known_so_far}
 use Rattle.exercise_findings.proofs.Looks.{behind_here, at_most_one, others_next}
@@ -35,20 +35,17 @@ returns-clause-found g c =
     let sent : Entry = Sent c.args.station c.requires.sends.0 c.args.bytes.now in
     let at : slice_get r.entries n ≡ Some sent = c.requires.sends.1 in
     let here = c.in_ok-here.ensures.found in
-    let earlier : IsEarlierAt r n c.entry_number.result =
-    subst (IsEarlierAt r n) (sym (c.entry_number.ensures ∙ ap entry_number here.pair))
+    let earlier : IsEarlierAt r n c.entry_number-pair.result =
+    subst (IsEarlierAt r n) (sym (c.entry_number-pair.ensures ∙ ap entry_number here.pair))
     (sent_earlier r n c.args.station c.requires.sends.0 c.args.bytes.now at (omega (arith, c.requires.within, c.requires.limits.count))) in
     let one : c.one_if.result ≡ cond {A = ℕ} (other_at r n) 1 0 = c.one_if.ensures ∙ ap (λ b. cond {A = ℕ} b 1 0) here.other in
     on_ok c.note_send.result (λ sends. record {
       tied = c.in_ok-first.ensures.tied;
       causes = subst (λ (xs : List (Option Cause)). IsColumn None (IsOwnCause r) (n + 1) xs) (sym c.in_ok-push.ensures.items)
           (column_more None (IsOwnCause r) n _ c.in_ok-here.here.cause was.causes here.cause);
-      changes = subst (λ (xs : List ℕ). IsColumn 0 (IsChangeAt r) (n + 1) xs) (sym c.in_ok-push-2.ensures.items)
-          (column_more 0 (IsChangeAt r) n _ c.change_number.result was.changes (c.change_number.ensures ∙ here.change));
-      earlier = subst (λ (xs : List ℕ). IsColumn 0 (IsSoFarAt r) (n + 1) xs) (sym c.in_ok-push-3.ensures.items)
-          (column_more 0 (IsSoFarAt r) n _ c.entry_number.result was.earlier (known_so_far r n c.entry_number.result earlier));
-      later = λ none. subst (λ (xs : List ℕ). IsColumn 0 (IsEarlierAt r) (n + 1) xs) (sym c.in_ok-push-3.ensures.items)
-          (column_more 0 (IsEarlierAt r) n _ c.entry_number.result (was.later none) earlier);
+      changes = short_more 0 (IsChangeAt r) n _ _ _ c.in_ok-put_number.ensures (c.change_number-change.ensures ∙ here.change) was.changes;
+      earlier = short_more 4294967295 (IsSoFarAt r) n _ _ _ c.in_ok-put_number-2.ensures (known_so_far r n c.entry_number-pair.result earlier) was.earlier;
+      later = λ none. short_more 4294967295 (IsEarlierAt r) n _ _ _ c.in_ok-put_number-2.ensures earlier (was.later none);
       ables = behind_still r n c.args.found.now.ables.items (sym (behind_here r n sent at)) was.ables;
       answered = c.in_ok-fresh.ensures.tied;
       sends = sends;

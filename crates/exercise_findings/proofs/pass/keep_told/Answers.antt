@@ -6,7 +6,7 @@ use Rattle.exercise_findings.specs.Earlier.{IsEarlierAt, IsSoFarAt}
 use Rattle.exercise_findings.specs.Tables.{IsFound, IsOwnCause, IsChangeAt}
 use Rattle.exercise_findings.proofs.Ables.{behind_still}
 use Rattle.exercise_findings.proofs.FirstAnswers.{answered_still}
-use Rattle.exercise_findings.proofs.Columns.{column_more}
+use Rattle.exercise_findings.proofs.Columns.{column_more, short_still}
 use Rattle.exercise_findings.proofs.EarlierEntries.{told_earlier, known_so_far}
 use Rattle.exercise_findings.proofs.FirstEntries.{firsts_still}
 use Rattle.exercise_findings.proofs.Looks.{plain, told_found, others_next}
@@ -31,12 +31,9 @@ returns g c =
       };
       causes = subst (λ (xs : List (Option Cause)). IsColumn None (IsOwnCause r) (n + 1) xs) (sym c.in_ok-push.ensures.items)
           (column_more None (IsOwnCause r) n _ c.judge_told-cause.result was.causes here.cause);
-      changes = subst (λ (xs : List ℕ). IsColumn 0 (IsChangeAt r) (n + 1) xs) (sym c.in_ok-push-2.ensures.items)
-          (column_more 0 (IsChangeAt r) n _ 0 was.changes here.change);
-      earlier = subst (λ (xs : List ℕ). IsColumn 0 (IsSoFarAt r) (n + 1) xs) (sym c.in_ok-push-3.ensures.items)
-          (column_more 0 (IsSoFarAt r) n _ 4294967295 was.earlier (known_so_far r n 4294967295 earlier));
-      later = λ none. subst (λ (xs : List ℕ). IsColumn 0 (IsEarlierAt r) (n + 1) xs) (sym c.in_ok-push-3.ensures.items)
-          (column_more 0 (IsEarlierAt r) n _ 4294967295 (was.later none) earlier);
+      changes = short_still 0 (IsChangeAt r) n _ was.changes here.change;
+      earlier = short_still 4294967295 (IsSoFarAt r) n _ was.earlier (known_so_far r n 4294967295 earlier);
+      later = λ none. short_still 4294967295 (IsEarlierAt r) n _ (was.later none) earlier;
       ables = behind_still r n old.ables.items here.behind was.ables;
       answered = answered_still r n old.answered (sym here.pair) (sym here.unasked) was.answered;
       sends = sends_still r n old.sends (not_sent r n (Told c.args.station c.args.entity c.args.state) c.requires.told (λ b. refl)) was.sends;

@@ -15,4 +15,4 @@ returns g c =
     let requests = c.args.requests.now in
     let k = c.args.identifier.now in
     first_looked_up r c.args.before requests k c.find.result c.requires.tied c.find.ensures.found
-    (subst (λ h. IfNone c.find.result ((e : ℕ) → IsReached requests.firsts.slots.slots.items h e → asks_at r k e ≡ false)) c.requires.hash c.find.ensures.absent)
+    (subst (λ h. IfNone c.find.result ((e : ℕ) → IsReached requests.firsts.slots.slots h e → asks_at r k e ≡ false)) c.requires.hash c.find.ensures.absent)

@@ -11,4 +11,4 @@ returns g c n tied =
     let senders = c.args.senders.now in
     let b = c.args.datagram.now in
     senders_looked_up r n senders b c.find.result tied c.find.ensures.found
-    (subst (λ h. IfNone c.find.result ((e : ℕ) → IsReached senders.slots.slots.items h e → sends_at r b e ≡ false)) c.requires c.find.ensures.absent)
+    (subst (λ h. IfNone c.find.result ((e : ℕ) → IsReached senders.slots.slots h e → sends_at r b e ≡ false)) c.requires c.find.ensures.absent)

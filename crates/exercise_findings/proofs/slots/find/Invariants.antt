@@ -6,7 +6,7 @@ use Rattle.exercise_findings.proofs.slots.find.Given as goal
 -- So many slots from the home of the hash on do not have the entry.
 abbrev pub invariant-loop-step : goal.invariant-loop-step
 invariant-loop-step g l = record {
-  at : l.place ≡ slot_on (length l.slots.slots.items) l.hash l._step;
-  within : l.place < length l.slots.slots.items;
-  passed : Passed l.slots.slots.items l.hash (g.S.Sought.is_sought l.sought) l._step;
+  at : l.place ≡ slot_on (length l.slots.slots) l.hash l._step;
+  within : l.place < length l.slots.slots;
+  passed : Passed l.slots.slots l.hash (g.S.Sought.is_sought l.sought) l._step;
 }

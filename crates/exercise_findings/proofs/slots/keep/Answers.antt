@@ -7,7 +7,7 @@ returns c = record {
   reached = c.in_ok-put.ensures.reached;
   kept = λ h e reached. c.in_ok-put.ensures.kept h e (c.in_ok-make_room.ensures.kept h e reached);
   only = λ e stands. ⊎_elim
-      (λ (stood : Stands c.make_room.new.slots.slots.items e). inl (c.in_ok-make_room.ensures.only e stood))
+      (λ (stood : Stands c.make_room.new.slots.slots e). inl (c.in_ok-make_room.ensures.only e stood))
       (λ (same : e ≡ c.args.entry). inr same)
       (c.in_ok-put.ensures.only e stands);
 }

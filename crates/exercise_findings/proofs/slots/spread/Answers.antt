@@ -1,22 +1,21 @@
-use Rattle.std.proofs.Common.{◌≡◌, ℕ, length, refl, sym, ◌∙◌, subst, ⊎_elim, arith}
+use Rattle.exercise_findings.specs.declared.slots.Slot.{Slot}
+use Rattle.std.proofs.Common.{◌≡◌, ℕ, List, length, sym, ◌∙◌, subst, ⊎_elim, arith}
 use Rattle.std.specs.Prelude.{◌≢◌}
-use Rattle.std.proofs.lemmas.Option.{slice_get_read, slice_get_within}
+use Rattle.std.proofs.lemmas.Option.{slice_get_within}
 use borrow.Author.Count.{below_more}
 use Rattle.exercise_findings.specs.Slots.{slot_on, HasEntry, IsReached, Stands}
-use Rattle.exercise_findings.proofs.Standing.{one_slot}
+use Rattle.exercise_findings.proofs.Standing.{one_slot, none_stands}
 use Rattle.exercise_findings.proofs.slots.spread.Goals as goal
-use Rattle.std.proofs.lemmas.Grind.{elements}
 
 pub loop-place-preserved : goal.loop-place-preserved
 loop-place-preserved c =
-    let from = c.args.from.now.items in
-    let was = c.loop-place.to.items in
-    let to = c.put_slot.new.slots.items in
+    let from = c.args.from.now in
+    let was = c.loop-place.to in
+    let to = c.put_slot.new.slots in
     let place = c.loop-place.place in
-    let s = c.index.result.now in
+    let s = c.slot.result in
     let put = c.in_ok-put_slot.ensures in
-    let at = slice_get_read from (length from) place s refl
-    (omega (arith, c.loop-place-test.true, c.loop-place.auto.place-end, c.len-place-end.ensures)) c.index.ensures in
+    let at = c.slot.ensures in
     record {
       kept = below_more (λ (i : ℕ). (h e : ℕ) → HasEntry from i h e → IsReached to h e) place
           (λ i l h e has. put.kept h e (c.loop-place.invariant.kept i l h e has))
@@ -32,10 +31,13 @@ loop-place-preserved c =
 
 pub returns-clause-kept : goal.returns-clause-kept
 returns-clause-kept c h e reached =
-    let from = c.args.from.now.items in
+    let from = c.args.from.now in
     let i = slot_on (length from) h reached.steps in
     c.loop-place.invariant.kept i
-    (omega (arith, slice_get_within from i _ reached.here.at, c.loop-place-test.false, c.loop-place.auto.place-end, c.len-place-end.ensures)) h e reached.here
+    (omega (arith, slice_get_within from i _ reached.here.at, c.loop-place-test.false, c.loop-place.auto.place-end, c.count-place-end.ensures)) h e reached.here
 
 pub loop-place-init : goal.loop-place-init
-loop-place-init c = grind (arith, elements)
+loop-place-init c = record {
+  kept = λ i l h e has. absurd (omega (arith, l));
+  only = λ e stands. none_stands c.args.count e (subst (λ (slots : List Slot). Stands slots e) c.in_ok-to.ensures stands) (Stands c.args.from.now e);
+}

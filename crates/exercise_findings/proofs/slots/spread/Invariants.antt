@@ -5,6 +5,6 @@ use Rattle.exercise_findings.proofs.slots.spread.Given as goal
 -- What stands in so many slots was put into the others, and nothing else.
 abbrev pub invariant-loop-place : goal.invariant-loop-place
 invariant-loop-place l = record {
-  kept : (i : ℕ) → i < l.place → (h e : ℕ) → HasEntry l.from.items i h e → IsReached l.to.items h e;
-  only : (e : ℕ) → Stands l.to.items e → Stands l.from.items e;
+  kept : (i : ℕ) → i < l.place → (h e : ℕ) → HasEntry l.from i h e → IsReached l.to h e;
+  only : (e : ℕ) → Stands l.to e → Stands l.from e;
 }

@@ -1,9 +1,13 @@
-use Rattle.std.proofs.Common.{sym, arith}
+use Rattle.std.proofs.Common.{refl, sym, ap, ◌∙◌, length}
+use Rattle.std.specs.Prelude.{slice_index_or}
+use Rattle.exercise_model.specs.Account.{change_at}
+use Rattle.exercise_findings.specs.ChangeNumber.{change_in}
+use Rattle.exercise_findings.proofs.Columns.{short_told}
 use Rattle.exercise_findings.proofs.Looks.{change_past}
 use Rattle.exercise_findings.proofs.findings.Findings.change.Goals as goal
 
-pub returns-in-None : goal.returns-in-None
-returns-in-None g c =
+pub returns : goal.returns
+returns g c =
     let r = g.L.ExerciseLog.recording c.self.inside.log.now in
-    let past = rw (c.in-None.is, c.deref.ensures.value) at c.get.ensures.lookup.3 in
-    rw (← c.self.view_is) (sym (change_past r c.args.entry (omega (arith, past, c.self.invariant.found.changes.count))))
+    rw (← c.self.view_is) (c.change_in.ensures ∙ ap change_in c.number_at.ensures ∙ ap (λ ys. change_in (slice_index_or ys c.args.entry 0)) c.deref.ensures.value
+    ∙ short_told change_in (change_at r) 0 (length r.entries) c.args.entry c.self.inside.found.changes.items refl c.self.invariant.found.changes (change_past r))

@@ -44,6 +44,7 @@ mod manager_laws;
 mod missing;
 mod news;
 mod order;
+mod order_keys;
 mod outcome;
 mod parties;
 mod party;

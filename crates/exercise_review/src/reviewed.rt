@@ -74,7 +74,7 @@ fn told_in<'a, L: ExerciseLog>(
 }
 
 /// What is told of the orders and the stretches of all lives, where they do not take too many lines. Where
-/// the lives alone do, that is seen before anything is kept.
+/// the lives alone do, that is seen before orders are looked up, and before any stretch is kept.
 fn listed<'a, L: ExerciseLog>(
     alloc: Global,
     findings: Findings<'a, L>,

@@ -130,8 +130,7 @@ fn count_station<L: ExerciseLog>(
 }
 
 /// How many stretches the lives of all stations' entities have, by the changes of each station;
-/// `OverLimit` where there are more than so many. None is kept: there is no more room than for those of
-/// one entity.
+/// `OverLimit` where there are more than so many. Those of one entity at a time are made, and none is kept.
 fn spans_counted<L: ExerciseLog>(
     alloc: Global,
     findings: &Findings<'_, L>,

@@ -2,9 +2,9 @@
 
 use crate::call::{Call, Said, refused, usual};
 use dis_records::EntityState;
-use exercise_findings::Findings;
+use exercise_findings::{Findings, number_at, put_number};
 use exercise_model::{ExerciseLog, Recording};
-use exercise_review::{Fate, Review, ReviewFault, Reviewed, number_at, put_number, review_of};
+use exercise_review::{Fate, Review, ReviewFault, Reviewed, review_of};
 use std::alloc::{AllocError, Global};
 
 /// A creation is reviewed, the log of whose application stands first.

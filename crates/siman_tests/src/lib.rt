@@ -10,6 +10,8 @@ mod certificates;
 #[cfg(test)]
 mod conflicts;
 #[cfg(test)]
+mod crowds;
+#[cfg(test)]
 mod exercises;
 #[cfg(test)]
 mod faults;

@@ -1,0 +1,26 @@
+//! The keys of entries by the orders that they have to do with, as a register has them.
+
+ghost use Rattle.exercise_review.specs.Register.{key_at};
+
+use crate::register::Register;
+use crate::ways::Keying;
+use exercise_model::ExerciseLog;
+
+/// The keys of entries by the orders that they have to do with.
+#[derive(Drop)]
+pub(crate) struct OrderKeys<'b, 'a, L: ExerciseLog> {
+    pub register: &'b Register<'a, L>,
+}
+
+impl<L: ExerciseLog> Keying for OrderKeys<'_, '_, L> {
+    ghost keys = { λ q. key_at q.register.now };
+
+    #[tactic(auto, using(crate::proofs::KnownKeys::key_beyond))]
+    fn key(&self, entry: usize) -> Option<u64> {
+        if entry < self.register.log().entry_count() {
+            self.register.key(entry)
+        } else {
+            None
+        }
+    }
+}

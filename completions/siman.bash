@@ -20,6 +20,16 @@ _siman_files() {
     fi
 }
 
+# Folders: in one of them a file is to be made.
+_siman_folders() {
+    local folders
+    mapfile -t folders < <(compgen -d -- "$current")
+    if ((${#folders[@]} > 0)); then
+        COMPREPLY+=("${folders[@]}")
+        compopt -o filenames
+    fi
+}
+
 _siman() {
     local current words
     read -r -a words <<<"${COMP_LINE:0:COMP_POINT}."
@@ -35,19 +45,23 @@ _siman() {
         check:0) _siman_files dsrc ;;
         check:1) _siman_files dsct ;;
         audit:0) _siman_files dsrc ;;
-        audit:1) _siman_files dsct ;;
+        audit:1) _siman_folders ;;
+        audit:*) _siman_words '--force' ;;
         world:0) _siman_files script ;;
-        world:1) _siman_files dsrc ;;
+        world:1) _siman_folders ;;
+        world:*) _siman_words '--force' ;;
         live:0) _siman_files script ;;
-        live:1) _siman_files dsrc ;;
+        live:1) _siman_folders ;;
         station:0) _siman_files script ;;
-        station:2) _siman_files dsrc ;;
+        station:2) _siman_folders ;;
         station:*) _siman_words 'from=any' ;;
         convert:0) _siman_files dsrc ;;
-        convert:1) _siman_files dsrc ;;
+        convert:1) _siman_folders ;;
+        convert:*) _siman_words '--force' ;;
         mend:0) _siman_files dsrc ;;
-        mend:1) _siman_files dsrc ;;
-        join:*) _siman_files dsrc; _siman_words 'form=open form=closed' ;;
+        mend:1) _siman_folders ;;
+        mend:*) _siman_words '--force' ;;
+        join:*) _siman_files dsrc; _siman_words 'form=open form=closed --force' ;;
         review:0) _siman_files dsrc ;;
         review:*) _siman_words 'station= entity= request= fate=done fate=answered fate=refused fate=pending fate=unheard fate=unanswered fate=lost fate=unknown fate=nobody --json' ;;
         log:0) _siman_files dsrc ;;
@@ -56,8 +70,8 @@ _siman() {
         why:*) _siman_files dsct; _siman_words '--json' ;;
         chart:0) _siman_files dsrc ;;
         chart:1) _siman_files dsct ;;
-        chart:2) _siman_files svg ;;
-        chart:*) _siman_words 'from= to=' ;;
+        chart:2) _siman_folders ;;
+        chart:*) _siman_words 'from= to= --force' ;;
     esac
 }
 

@@ -14,9 +14,10 @@ TOP = Path(__file__).resolve().parent.parent
 # How usage has a word that may stand so often, and what may stand behind all words of a command.
 OFTEN = {"Once": "{}", "AtMostOnce": "[{}]", "OnceOrMore": "{} ..", "AnyTimes": "[{} ..]"}
 BEHIND = {
-    "Pieces": [r"[form=open\|form=closed]"], "View": ["[--json]"], "PerhapsTwo": ["[--json]"],
+    "Pieces": [r"[form=open\|form=closed]", "[--force]"], "View": ["[--json]"], "PerhapsTwo": ["[--json]"],
     "Station": ["[from=any]"],
-    "Picture": ["[from=STEP]", "[to=STEP]"],  # in the place of the word STEP
+    "Picture": ["[from=STEP]", "[to=STEP]", "[--force]"],  # in the place of the word STEP
+    **dict.fromkeys(("Audit", "World", "Convert", "Mend"), ["[--force]"]),
 }  # fmt: skip
 TABLE = TOP / "crates" / "siman_words" / "src" / "commands.rt"
 
@@ -27,10 +28,10 @@ def rows_of_program():
     found = []
     for row in re.split(r"^    Row \{$", rows, flags=re.M)[1:]:
         name = re.search(r'name: "([^"]+)"', row)[1]
-        takes = re.search(r"takes: Takes::(\w+)", row)[1]
+        takes, of_two = re.search(r"takes: Takes::(\w+)(?:\(TwoWords::(\w+)\))?", row).groups()
         words = re.findall(r'name: "([A-Z]+)",\s*often: Often::(\w+)', row.partition("words:")[2])
         told = [OFTEN[often].format(word) for word, often in words if word != "STEP"]
-        found.append(" ".join([name, *told, *BEHIND.get(takes, [])]))
+        found.append(" ".join([name, *told, *BEHIND.get(of_two or takes, [])]))
     return found
 
 

@@ -95,7 +95,8 @@ def try_same(trials, examples):
             words = [own, certificate] if place == "recording" else [good, own]
             fault = (pages.fault(f"output: same as {own}"),)
             for name in names:
-                after(trials, ["chart", *words, name], fault, name, lambda left, text=text: left == text)
+                for behind in ([], ["--force"]):
+                    after(trials, ["chart", *words, name, *behind], fault, name, lambda left, text=text: left == text)
 
 
 def try_all(trials, examples):

@@ -209,23 +209,24 @@ def exercise(seed, stations, moves, form):
 
 
 def usage_fault(told):
-    usage = ["text", "text Usage: siman chart <REC> <CERT> <SVG> [from=STEP] [to=STEP]", "text", "text For more information, try '--help'."]
+    usage = ["text", "text Usage: siman chart <REC> <CERT> <SVG> [from=STEP] [to=STEP] [--force]", "text", "text For more information, try '--help'."]
     return ["status 2", "errors", *told, *usage]
 
 
 HELP = """\
 Draws an exercise in the order of its certificate, and writes the picture
 
-Usage: siman chart <REC> <CERT> <SVG> [from=STEP] [to=STEP]
+Usage: siman chart <REC> <CERT> <SVG> [from=STEP] [to=STEP] [--force]
 
 Arguments:
   <REC>      The file of the recording
   <CERT>     The file of the certificate
-  <SVG>      The file of the picture, in SVG, which is made anew
+  <SVG>      The file of the picture, in SVG; it must not be there yet, or be empty
   [STEP]...  Which steps of the certificate are shown, counted from 0: from=STEP says the first, to=STEP the last; each may stand once
 
 Options:
-  -h, --help  Print help
+      --force  Replaces the file that stands under the name of the one that is made
+  -h, --help   Print help
 
 Example:
   siman chart exercise.dsrc exercise.dsct exercise.svg
@@ -241,7 +242,7 @@ def usages():
         told = [f"text {required}", *(f"text   {word}" for word in lacks)]
         yield from ["", f"case {name}", f"words {words}", "asked-nothing", *usage_fault(told)]
     for name, words, word in (("an-option", "chart losses order new --json", "--json"), ("an-option-among-steps", "chart losses order new from=1 --wide", "--wide")):
-        told = [f"text error: unexpected argument '{word}' found", "text", f"text   tip: to pass '{word}' as a value, use '-- {word}'"]
+        told = [f"text error: unexpected argument '{word}' found"]
         yield from ["", f"case {name}", f"words {words}", "asked-nothing", *usage_fault(told)]
     for name, words in (("help-by-chart-help", "chart --help"), ("help-by-help-chart", "help chart"), ("help-behind-steps", "chart losses order new from=1 -h")):
         yield from ["", f"case {name}", f"words {words}", "asked-nothing", "out", *pieces(HELP)]

@@ -59,7 +59,7 @@ class Cases:
     """The lines of cases; a file stays for the cases behind it."""
 
     def __init__(self):
-        self.lines, self.files, self.calls = [], {}, {}
+        self.lines, self.files, self.calls, self.kept = [], {}, {}, set()
 
     def case(self, name, files=()):
         self.lines.append(f"\ncase {name}")
@@ -68,11 +68,18 @@ class Cases:
                 self.lines += [f"file {file}", *hexes(text)]
                 self.files[file] = text
 
+    def replaces(self, words):
+        """Whether a file that an earlier case left stands under the name of the one that the words make."""
+        names = [word for word in words[1:] if not word.startswith(("form=", "--"))]
+        return words[0] in ("join", "audit", "convert") and names[-1:] and names[-1] in {*self.files, *self.kept} - set(names[:-1])
+
     def told(self, words, asked, outcome, left=None, keep=None):
-        self.lines.append(f"words {' '.join(words)}")
+        force = ["--force"] if self.replaces(words) else []
+        self.lines.append(f"words {' '.join([*words, *force])}")
         self.lines += [f"asked {name}" for name in asked]
         if keep:
             self.lines.append(f"keep {keep}")
+            self.kept.add(keep)
         if outcome.status:
             self.lines.append(f"status {outcome.status}")
         for part, text in (("out", outcome.out), ("errors", outcome.errors)):
@@ -85,7 +92,8 @@ class Cases:
         """Pieces that are joined, or not: all are opened in the order of the words, and then the new one is made."""
         self.case(name, files)
         answer, left = pages.answer_to_join(list(files), form)
-        words = ["join", *(file for file, _ in files), new, *([f"form={form}"] if form else [])]
+        asked = form or (CLOSED if len(files) == 1 else None)  # of one piece a form is asked for
+        words = ["join", *(file for file, _ in files), new, *([f"form={asked}"] if asked else [])]
         made = [f"make {new}"] if left is not None else []
         self.told(words, [*(file for file, _ in files), *made], answer, None if keep else left, keep)
         if keep:
@@ -225,14 +233,15 @@ def failing(cases):
 
 HELP = """Joins the recordings of one exercise that several recorders made
 
-Usage: siman join <PIECE>... <NEW>
+Usage: siman join <PIECE>... <NEW> [form=open|form=closed] [--force]
 
 Arguments:
   <PIECE>...  The file of a recording, of stations that no other piece has
-  <NEW>       The file of the joined recording, which is made anew. Behind it form=open or form=closed may stand: the form that it is to have
+  <NEW>       The file of the joined recording; it must not be there yet, or be empty. Behind it form=open or form=closed may stand: the form that it is to have. Of one piece a recording is made in such a form alone
 
 Options:
-  -h, --help  Print help
+      --force  Replaces the file that stands under the name of the one that is made
+  -h, --help   Print help
 
 Example:
   siman join manager.dsrc simulator.dsrc exercise.dsrc
@@ -257,14 +266,17 @@ def cases():
 
 
 def try_pieces(trials, pieces_of, form=None, most=None):
-    """Pieces that are joined to a new name, and to one that stands there."""
+    """Pieces that are joined to a new name, and to one that stands there, which is kept without --force."""
     named = [(trials.file(text), text) for text in pieces_of]
     answer, left = pages.answer_to_join(named, form)
     stands = trials.file(b"stays" * 20_000)
-    words = [f"form={form}"] if form else []
-    for name, there in [(f"{stands}.new", None), (stands, b"stays" * 20_000)]:
+    words = [f"form={form or CLOSED}"] if form or len(named) == 1 else []
+    files, kept = [file for file, _ in named], b"stays" * 20_000
+    for name, there, force in [(f"{stands}.new", None, []), (stands, kept, ["--force"])]:
         wanted = there if left is None else left
-        after(trials, ["join", *(file for file, _ in named), name, *words], (answer,), name, lambda came, wanted=wanted: came == wanted)
+        if force:
+            after(trials, ["join", *files, name, *words], (pages.fault("output: exists"),), name, lambda came: came == kept)
+        after(trials, ["join", *files, name, *words, *force], (answer,), name, lambda came, wanted=wanted: came == wanted)
 
 
 def try_many(trials):
@@ -297,7 +309,7 @@ def try_sizes(trials):
 def try_usage(trials):
     usage = Outcome(2, b"", Some())
     for words in [
-        [], ["a"], ["form=open"], ["a", "form=open"], ["a", "b", "form=none"], ["a", "b", "form="], ["a", "b", "form=open", "c"],
+        [], ["a"], ["a", "b"], ["a", "b", "--force"], ["form=open"], ["a", "form=open"], ["a", "b", "form=none"], ["a", "b", "form="], ["a", "b", "form=open", "c"],
         ["a", "form=open", "b"], ["form=open", "a", "b"], ["a", "b", "form=open", "form=open"], ["-a", "b"], ["a", "-b"], ["a", "b", "-c"],
     ]:
         trials.expect(["join", *words], usage)
@@ -312,11 +324,11 @@ def try_files(trials, examples):
     trials.expect(["join", other, certificate, "never"], pages.fault(f"recording: magic at 0 in {certificate}"))
     trials.expect(["join", WORKED_SCRIPT, other, "never"], pages.fault(f"recording: magic at 0 in {WORKED_SCRIPT}"))
     for name in ["examples", "none/there.dsrc", "", "/dev/full"]:
-        trials.expect(["join", good, name], UNWRITTEN)
-    trials.expect(["join", other, "/dev/null"], pages.answer_to_join([(other, piece(2))])[0])
+        trials.expect(["join", good, name, "form=closed"], UNWRITTEN)
+    trials.expect(["join", other, "/dev/null", "form=closed"], pages.answer_to_join([(other, piece(2))])[0])
     for behind in [">/dev/full", ">&-"]:
         name = f"unheard.{len(behind)}.joined.dsrc"
-        after(trials, ["join", other, name], (UNWRITTEN,), name, lambda left: left is None, behind=behind)
+        after(trials, ["join", other, name, "form=closed"], (UNWRITTEN,), name, lambda left: left is None, behind=behind)
 
 
 def try_same(trials):
@@ -329,7 +341,8 @@ def try_same(trials):
         os.link(trials.folder / named[number], trials.folder / hard)
         fault = (pages.fault(f"output: same as {named[number]}"),)
         for name in (named[number], f"./{named[number]}", link, hard):
-            after(trials, ["join", *named, name], fault, name, lambda left, text=pieces_of[number]: left == text)
+            for behind in ([], ["--force"]):
+                after(trials, ["join", *named, name, *behind], fault, name, lambda left, text=pieces_of[number]: left == text)
 
 
 def try_tour(trials):

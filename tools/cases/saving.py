@@ -4,6 +4,7 @@ import random
 import shutil
 import signal
 import subprocess
+import sys
 import time
 
 import pages
@@ -14,6 +15,7 @@ from pages import Outcome
 
 KILLS = 200
 OLD = b"what stood before\n"
+FAILING = TOP / "tools" / "failing_calls.py"
 
 
 def made(trials, folder, name, text):
@@ -32,8 +34,78 @@ def names_of(trials, folder, text):
     return [f"{folder}/{name}" for name in ("one", "./one", "hard", "soft", "softer")] + [f"./{folder}/../{folder}/one"]
 
 
+def makers(trials, examples):
+    """The words before the name of the new file, of each command that makes one."""
+    recording, certificate = examples[0], trials.file(b"")
+    yield ["world", WORKED_SCRIPT]
+    yield ["audit", recording]
+    yield ["convert", recording]
+    yield ["mend", recording]
+    yield ["join", recording, recording]
+    yield ["chart", recording, certificate]
+
+
+def try_exists(trials, examples):
+    """A file that stands is kept, by whatever name, before anything is read; an empty file is none."""
+    exists = (pages.fault("output: exists"),)
+    for words in makers(trials, examples):
+        folder = f"exists.{words[0]}"
+        for name in names_of(trials, folder, OLD):
+            after(trials, [*words, name], exists, f"{folder}/one", lambda left: left == OLD)
+        os.symlink("none", trials.folder / folder / "dangling")
+        after(trials, [*words, f"{folder}/dangling"], exists, f"{folder}/none", lambda left: left is None)
+        state(trials, f"nothing is left beside what {words[0]} spared", ["dangling", "hard", "one", "soft", "softer"], lambda folder=folder: sorted(os.listdir(trials.folder / folder)))
+    usual = (Outcome(0, WORKED_LINE, b""),)
+    made(trials, "empty", "one", b"")
+    after(trials, ["world", WORKED_SCRIPT, "empty/one"], usual, "empty/one", lambda left: left not in (None, b""))
+    for place in range(4):
+        words = ["world", WORKED_SCRIPT, f"force.{place}/there"]
+        words.insert(place, "--force") if place else words.append("--force")
+        made(trials, f"force.{place}", "there", OLD)
+        after(trials, words, usual, f"force.{place}/there", lambda left: left not in (None, OLD))
+
+
+def raced(trials, what, words, stands, wanted, before=()):
+    """A command that reads its script from a pipe, under whose new name `stands` appears before the script does."""
+    folder = trials.folder / f"race.{what}"
+    folder.mkdir()
+    pipe, new = folder / "script", folder / "new"
+    os.mkfifo(pipe)
+    text = (TOP / WORKED_SCRIPT).read_bytes()
+
+    def tried():
+        command = [*before, trials.program, *[str({"SCRIPT": pipe, "NEW": new}.get(word, word)) for word in words]]
+        with subprocess.Popen(command, stdout=subprocess.PIPE, stderr=subprocess.PIPE) as running:
+            with open(pipe, "wb") as writer:
+                time.sleep(0.2)
+                if stands is not None:
+                    new.write_bytes(stands)
+                writer.write(text)
+            out, errors = running.communicate()
+        left = new.read_bytes() if new.exists() else None
+        come = [running.returncode, out, errors, left == stands, sorted(os.listdir(folder))]
+        return [Verdict(f"{what}: a file that appears under the new name", (wanted,), come)]
+
+    trials.tasks.append(tried)
+
+
+def try_races(trials):
+    """A file that appears while the command works is kept, where links can be had and where they cannot."""
+    kept = [2, b"", b"", True, ["new", "script"]]
+    kept[1:3] = [WORKED_LINE, b"output: exists\n"]
+    replaced = [0, WORKED_LINE, b"", False, ["new", "script"]]
+    words = ["world", "SCRIPT", "NEW"]
+    raced(trials, "by a link", words, OLD, kept)
+    raced(trials, "with --force", [*words, "--force"], OLD, replaced)
+    raced(trials, "that is empty", words, b"", kept)
+    raced(trials, "not at all", words, None, replaced)
+    no_links = [sys.executable, str(FAILING), "link", "-", "EPERM"]
+    raced(trials, "without links", words, OLD, kept, no_links)
+    raced(trials, "without links, not at all", words, None, replaced, no_links)
+
+
 def try_same(trials, examples):
-    """No input is ever overwritten, by whatever name."""
+    """No input is ever overwritten, by whatever name, with --force or without."""
     recording = (trials.folder / examples[0]).read_bytes()
     script = (TOP / WORKED_SCRIPT).read_bytes()
     for command, text in [("world", script), ("live", script), ("audit", recording), ("convert", recording), ("mend", recording), ("join", recording)]:
@@ -41,7 +113,10 @@ def try_same(trials, examples):
         for read in names:
             fault = (pages.fault(f"output: same as {read}"),)
             for name in names:
-                after(trials, [command, read, name], fault, name, lambda left, text=text: left == text)
+                words = [command, read, name] + (["form=open"] if command == "join" else [])
+                after(trials, words, fault, name, lambda left, text=text: left == text)
+                if command != "live":
+                    after(trials, [*words, "--force"], fault, name, lambda left, text=text: left == text)
 
 
 def state(trials, what, wanted, came):
@@ -49,7 +124,7 @@ def state(trials, what, wanted, came):
 
 
 def try_links(trials):
-    """A link leads to the file that is replaced, and stays; so does the mode of that file."""
+    """With --force a link leads to the file that is replaced, and stays; so does the mode of that file."""
     path = made(trials, "links", "there", OLD)
     os.chmod(path, 0o640)
     os.symlink("there", path.parent / "soft")
@@ -57,7 +132,7 @@ def try_links(trials):
     usual = Outcome(0, WORKED_LINE, b"")
 
     def tried():
-        verdicts = [trials.verdict(Case(["world", WORKED_SCRIPT, f"links/{name}"], (usual,))) for name in ("soft", "dangling")]
+        verdicts = [trials.verdict(Case(["world", WORKED_SCRIPT, f"links/{name}", "--force"], (usual,))) for name in ("soft", "dangling")]
         standing = [
             os.path.islink(path.parent / "soft"), os.path.islink(path.parent / "dangling"), oct(path.stat().st_mode & 0o777),
             path.read_bytes() == (path.parent / "nowhere").read_bytes() != OLD, sorted(os.listdir(path.parent)),
@@ -75,7 +150,7 @@ def try_left(trials):
     after(trials, ["world", WORKED_SCRIPT, "left/new"], usual, "left/new.part", lambda left: left is None)
     made(trials, "left", "shut", OLD)
     (trials.folder / "left" / "shut.part").mkdir()
-    after(trials, ["world", WORKED_SCRIPT, "left/shut"], (UNWRITTEN,), "left/shut", lambda left: left == OLD)
+    after(trials, ["world", WORKED_SCRIPT, "left/shut", "--force"], (UNWRITTEN,), "left/shut", lambda left: left == OLD)
     long = "left/" + "n" * 253
     after(trials, ["world", WORKED_SCRIPT, long], (UNWRITTEN,), long, lambda left: left is None)
 
@@ -98,7 +173,7 @@ def try_room(trials):
     big = b"exercise 1\nstation 1:1\nopening 1:1 7 stopped\n" + b"tell 1:1 7\n" * 4000
     script = trials.file(big)
     made(trials, "room", "there", OLD)
-    after(trials, ["world", script, "room/there"], (UNWRITTEN,), "room/there", lambda left: left == OLD, before="ulimit -f 8; trap '' XFSZ; ")
+    after(trials, ["world", script, "room/there", "--force"], (UNWRITTEN,), "room/there", lambda left: left == OLD, before="ulimit -f 8; trap '' XFSZ; ")
     state(trials, "nothing is left beside a file that had no room", ["there"], lambda: sorted(os.listdir(trials.folder / "room")))
 
 
@@ -117,7 +192,7 @@ def try_nobody(trials):
     script = made(trials, "script", "one", (TOP / WORKED_SCRIPT).read_bytes())
 
     def tried():
-        words = ["setpriv", "--reuid", "65534", "--regid", "65534", "--clear-groups", str(program), "world", str(script), "shut/there"]
+        words = ["setpriv", "--reuid", "65534", "--regid", "65534", "--clear-groups", str(program), "world", str(script), "shut/there", "--force"]
         done = subprocess.run(words, cwd=trials.folder, capture_output=True, check=False)
         came = [done.returncode, done.stdout, done.stderr, path.read_bytes()]
         return [Verdict("a folder that may not be written", ([2, b"", b"output: write\n", OLD],), came)]
@@ -139,6 +214,7 @@ def try_kills(trials):
 
     def tried():
         run = [["world", script, "kills.dsrc"], ["convert", "kills.dsrc", "kills.new"], ["audit", "kills.dsrc", "kills.dsct"]]
+        run = [[*words, "--force"] for words in run]
         verdicts = [trials.verdict(Case(words, (Outcome(0, trials.run(Case(words, ())).out, b""),))) for words in run]
         chance = random.Random(1)
         wrong = []
@@ -155,12 +231,24 @@ def try_kills(trials):
             path.write_bytes(new)
         whole = [trials.verdict(Case(words, (Outcome(0, trials.run(Case(words, ())).out, b""),))) for words in run]
         parts = [name for name in os.listdir(trials.folder) if name.startswith("kills") and name.endswith(".part")]
-        return [*verdicts, Verdict(f"{KILLS} kills", ([],), wrong), *whole, Verdict("parts left at the end", ([],), parts)]
+        absent = []
+        for number in range(KILLS // 4):
+            words, path = ["convert", "kills.dsrc", "kills.absent"], trials.folder / "kills.absent"
+            killed(trials, words, chance.random() * 0.02)
+            if path.exists() and path.read_bytes() != (trials.folder / "kills.new").read_bytes():
+                absent.append((number, path.stat().st_size))
+            path.unlink(missing_ok=True)
+        return [
+            *verdicts, Verdict(f"{KILLS} kills", ([],), wrong), *whole, Verdict("parts left at the end", ([],), parts),
+            Verdict("kills of what makes a new file", ([],), absent),
+        ]  # fmt: skip
 
     trials.tasks.append(tried)
 
 
 def try_all(trials, examples):
+    try_exists(trials, examples)
+    try_races(trials)
     try_same(trials, examples)
     try_links(trials)
     try_left(trials)

@@ -76,7 +76,7 @@ def answers(trials, examples):
         (["live", WORKED_SCRIPT, f"{new}.live"], b"", Outcome(0, b"live records=13\n", b"")),
         (["convert", good, f"{new}.convert"], b"", Outcome(0, b"converted records=9\n", b"")),
         (["mend", good, f"{new}.mend"], b"", Outcome(0, b"whole records=9\n", b"")),
-        (["join", good, f"{new}.join"], b"", Outcome(0, b"joined pieces=1 stations=2 records=9 form=closed\n", b"")),
+        (["join", good, f"{new}.join", "form=closed"], b"", Outcome(0, b"joined pieces=1 stations=2 records=9 form=closed\n", b"")),
     ]
 
 

@@ -3,7 +3,7 @@ import pages
 from cases.examples import (
     FORMATS_CERTIFICATE, FORMATS_RECORDING, FORMATS_SHOWN, README_ANSWER, README_DATAGRAM, TOP, WORKED_ANSWER, WORKED_SCRIPT,
 )
-from cases.trials import Some
+from cases.trials import Case, Some
 from pages import Outcome
 
 
@@ -22,14 +22,34 @@ def try_words(trials):
         ["live"], ["live", "a"], ["live", "a", "b", "c"], ["live", "-a", "b"],
         ["convert"], ["convert", "a"], ["convert", "a", "b", "c"], ["convert", "-a", "b"], ["convert", recording, "-a"],
         ["mend"], ["mend", "a"], ["mend", "a", "b", "c"], ["mend", "-a", "b"], ["mend", recording, "-a"],
-        ["review"], ["review", "-a"], ["review", "--json"], ["review", recording, "-a"], ["review", recording, "--json", "a"],
-        ["why"], ["why", "-a"], ["why", "--json"], ["why", recording, "-a"], ["why", recording, "--json", certificate],
+        ["review"], ["review", "-a"], ["review", "--json"], ["review", recording, "-a"], ["review", recording, "--json", "--json"],
+        ["review", recording, "--force"], ["review", "-", "-"], ["show", recording, "--json"], ["check", recording, "--force", certificate],
+        ["audit", recording, "a", "--force", "--force"], ["live", "a", "b", "--force"], ["audit", recording, "a", "--json"],
+        ["join", recording, "a"], ["join", recording, "a", "--force"], ["join", "-", "-", "a"], ["station", "-", "1:1", "a", "127.0.0.1:1", "127.0.0.1:2"],
+        ["check", "-", "-"], ["chart", "-", "-", "a"], ["why", "-", "-"], ["pdus", "--force"], ["--json", "review", recording],
+        ["why"], ["why", "-a"], ["why", "--json"], ["why", recording, "-a"], ["why", recording, "--json", certificate, "--json"],
         ["why", recording, certificate, certificate],
         ["chart"], ["chart", recording], ["chart", recording, certificate], ["chart", recording, certificate, "-a"],
         ["chart", recording, certificate, "a", "--json"], ["chart", recording, certificate, "a", "from=0", "-x"],
         ["pdus", "07"], ["pdus", ""], ["pdus", "-x"], ["trial"], ["audit"], ["audit", recording], ["audit", recording, "a", "b"], ["audit", recording, "-a"],
     ]:  # fmt: skip
         trials.expect(words, usage)
+    shown = Outcome(0, FORMATS_SHOWN, b"")
+    trials.expect(["show", "-"], shown, given=FORMATS_RECORDING)
+    trials.expect(["show", "-"], shown, behind=f"<{recording}")
+    trials.expect(["show", "-"], pages.fault("file: -: is a directory"), behind="<&-")
+    trials.expect(["show", "./-"], pages.fault("file: ./-: no such file"), given=FORMATS_RECORDING)
+    for words in (["check", "-", certificate], ["check", recording, "-"]):
+        given = FORMATS_RECORDING if words[1] == "-" else FORMATS_CERTIFICATE
+        same = trials.run(Case(["check", recording, certificate], ()))
+        trials.expect(words, same, given=given)
+    log = trials.run(Case(["log", recording, "--json"], ()))
+    for words in (["log", "--json", recording], ["log", "--json", "-"], ["log", "-", "--json"]):
+        trials.expect(words, log, given=FORMATS_RECORDING)
+    trials.expect(["review", recording, "--json", "a"], pages.fault("filter: a"))
+    for words in (["show", "--jsn", recording], ["log", recording, "--jsn"], ["audit", recording, "a", "--forc"]):
+        told = trials.run(Case(words, ()))
+        trials.state(f"no wrong tip for {words}", (2, False), (told.status, b"'-- " in told.errors))
     for word in [b"\xff", b"07\xff", b"\xc3", b"a\xed\xa0\x80"]:
         for words in [[word], ["pdu", word], ["show", word], ["check", recording, word], ["x", word], [word, "07"]]:
             trials.expect(words, not_text)

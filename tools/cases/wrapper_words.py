@@ -1,6 +1,7 @@
 """Words for the wrapper, of which each makes no file: what they answer while no program is built must be what the
 program answers. A case is its words, its standard input, and whether it runs in the folder `below` of the clone,
-through a symbolic link there. `REC`, `CERT`, `one two` and `-` are files of the folder that they run in."""
+through a symbolic link there. `REC`, `CERT`, `one two` and `-` are files of the folder that they run in; as a word of
+its own `-` is standard input."""
 
 SCRIPT = b"station 1:1\n"
 WORDS = (
@@ -22,7 +23,9 @@ WORDS = (
     (["show", "./REC"], b"", False),
     (["show", "../REC"], b"", True),
     (["show", "one two"], b"", True),
-    (["show", "-"], b"", False),
+    (["show", "-"], b"from standard input\n", False),
+    (["show", "-"], b"", True),
+    (["show", "./-"], b"", False),
     (["show", "linked"], b"", False),
     (["show", "missing"], b"", False),
     (["show", "../missing"], b"", True),
@@ -40,10 +43,15 @@ WORDS = (
     (["check", "REC", "missing"], b"", False),
     (["check", "missing", "CERT"], b"", True),
     (["check", "REC"], b"", False),
+    (["check", "-", "CERT"], b"from standard input\n", True),
+    (["check", "-", "-"], b"", False),
     (["review", "REC"], b"", False),
     (["review", "REC", "fate=lost", "--json"], b"", True),
     (["review", "FOLDER/REC", "one two", "REC"], b"", True),
-    (["review", "-", "REC"], b"", False),
+    (["review", "-", "REC"], b"from standard input\n", False),
+    (["review", "--json", "REC", "fate=lost"], b"", True),
+    (["review", "REC", "--json", "--json"], b"", False),
+    (["review", "REC", "--force"], b"", False),
     (["review", "missing", "fate=lost"], b"", False),
     (["review", "../missing"], b"", True),
     (["review", "REC", "--json", "REC"], b"", False),
@@ -62,6 +70,7 @@ WORDS = (
     (["why", "REC", "--json", "CERT"], b"", False),
     (["why", "REC", "-x"], b"", False),
     (["why", "REC", "CERT", "REC"], b"", False),
+    (["why", "--json", "FOLDER/REC", "-"], b"from standard input\n", False),
     (["why", "--json"], b"", False),
     (["why"], b"", False),
     (["chart", "REC", "CERT"], b"", False),
@@ -69,6 +78,9 @@ WORDS = (
     (["audit", "REC"], b"", False),
     (["audit", "--help"], b"", False),
     (["world", "REC", "-x"], b"", False),
+    (["world", "--force", "REC"], b"", False),
+    (["live", "REC", "made", "--force"], b"", False),
+    (["join", "REC", "made"], b"", False),
     (["live", "-x", "made"], b"", False),
     (["station", "REC", "1:1", "made", "127.0.0.1:1"], b"", False),
     (["station", "REC", "1:1", "made", "127.0.0.1:1", "-x"], b"", False),

@@ -32,6 +32,16 @@ _siman_files() {
     fi
 }
 
+# Folders: in one of them a file is to be made.
+_siman_folders() {
+    local folders
+    mapfile -t folders < <(compgen -d -- "$current")
+    if ((${#folders[@]} > 0)); then
+        COMPREPLY+=("${folders[@]}")
+        compopt -o filenames
+    fi
+}
+
 _siman() {
     local current words
     read -r -a words <<<"${COMP_LINE:0:COMP_POINT}."
@@ -102,6 +112,11 @@ function __siman_files
     end
 end
 
+# Folders: in one of them a file is to be made.
+function __siman_folders
+    __fish_complete_directories (commandline -ct) ''
+end
+
 complete -c siman -f
 complete -c siman -n '__siman_at 1' -l help -s h -d 'Print help'
 complete -c siman -n '__siman_at 1' -l version -s V -d 'Print version'
@@ -119,14 +134,14 @@ def filled(template, parts):
 
 def places_of(command):
     """The words of a command by their places: those at one place, and those from a place on."""
-    names = [word.name for word in command.words]
-    first = next((k for k, word in enumerate(command.words) if word.is_repeated), len(names))
-    return names[:first], names[first:]
+    first = next((k for k, word in enumerate(command.words) if word.is_repeated), len(command.words))
+    return command.words[:first], command.words[first:]
 
 
-def ends_of(names):
-    """How the files end that may stand at a place, each once."""
-    return list(dict.fromkeys(ENDS[name] for name in names if name in ENDS))
+def ends_of(words):
+    """How the files end that may stand at a place, each once; nothing for one that is made: folders are offered there."""
+    ends = [None if word.is_made else ENDS[word.name] for word in words if word.name in ENDS]
+    return list(dict.fromkeys(ends)) if len(words) == 1 else list(dict.fromkeys(filter(None, ends)))
 
 
 def offered(command, values_of):
@@ -154,7 +169,7 @@ def cases_of(program, values_of, files, words):
     cases = []
     for command in program.commands:
         fixed, behind = places_of(command)
-        cases += [f"{command.name}:{k}) {files(end)} ;;" for k, name in enumerate(fixed) for end in ends_of([name])]
+        cases += [f"{command.name}:{k}) {files(end)} ;;" for k, word in enumerate(fixed) for end in ends_of([word])]
         rest = [*map(files, ends_of(behind)), *words(offered(command, values_of))]
         if rest:
             cases.append(f"{command.name}:*) {'; '.join(rest)} ;;")
@@ -165,7 +180,10 @@ def bash(program, values_of):
     def words(offered_words):
         return [f"_siman_words {quoted(' '.join(offered_words))}"] if offered_words else []
 
-    cases = cases_of(program, values_of, "_siman_files {}".format, words)
+    def files(end):
+        return f"_siman_files {end}" if end else "_siman_folders"
+
+    cases = cases_of(program, values_of, files, words)
     return filled(BASH, {"NAMES": " ".join(names_of(program)), "OPTIONS": " ".join(OPTIONS), "CASES": cases})
 
 
@@ -179,7 +197,10 @@ def zsh(program, values_of):
     told = {command.name: command.about for command in program.commands} | {"help": HELP}
     described = [quoted(f"{name}:{about}") for name, about in told.items()]
     options = [quoted(f"{name}:{about}") for name, about in OPTIONS.items()]
-    cases = cases_of(program, values_of, "_files -g '*.{}'".format, words)
+    def files(end):
+        return f"_files -g '*.{end}'" if end else "_files -/"
+
+    cases = cases_of(program, values_of, files, words)
     parts = {"COMMANDS": "\n        ".join(described), "OPTIONS": " ".join(options), "CASES": cases}
     return filled(ZSH, parts)
 
@@ -191,7 +212,8 @@ def fish_lines(command, values_of):
     yield f"{at} '__siman_at 1' -a {name} -d {quoted(command.about)}"
     for place, word in enumerate(fixed, start=2):
         for end in ends_of([word]):
-            yield f"{at} '__siman_at {place} {name}' -a '(__siman_files {end})'"
+            files = f"__siman_files {end}" if end else "__siman_folders"
+            yield f"{at} '__siman_at {place} {name}' -a '({files})'"
     for end in ends_of(behind):
         yield f"{at} '__siman_behind {len(fixed) + 2} {name}' -a '(__siman_files {end})'"
     if offered(command, values_of):

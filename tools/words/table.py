@@ -23,6 +23,11 @@ class Word(NamedTuple):
     is_repeated: bool
     about: str
 
+    @property
+    def is_made(self):
+        """Whether it names a file that the command makes, which must not be there yet."""
+        return "must not be there yet" in self.about
+
 
 class Command(NamedTuple):
     """A command: its name, its usage, what it does, what it answers, an example, its words, and the words with a key,

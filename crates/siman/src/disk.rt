@@ -6,7 +6,7 @@ use siman_console::{Endpoint, Outside};
 use siman_lines::UdpLine;
 use std::alloc::Global;
 use std::fs::{File, Metadata, OpenOptions};
-use std::io::{ErrorKind, Write};
+use std::io::{ErrorKind, Read, Stdin, Write};
 use std::os::unix::fs::MetadataExt;
 use std::{fs, io};
 
@@ -48,6 +48,27 @@ impl Write for MadeFile {
     }
 }
 
+/// The word for standard input, and the path of that.
+const INPUT: &str = "-";
+
+const INPUT_PATH: &str = "/dev/stdin";
+
+/// A file that is read: one that was opened by its name, or standard input.
+#[derive(Drop)]
+pub(crate) enum Source {
+    Named(File),
+    Input(Stdin),
+}
+
+impl Read for Source {
+    fn read(&mut self, buf: &mut [u8]) -> io::Result<usize> {
+        match self {
+            Source::Named(file) => file.read(buf),
+            Source::Input(input) => input.read(buf),
+        }
+    }
+}
+
 /// The disk, and which files were opened.
 #[derive(Drop)]
 pub(crate) struct Disk<'a> {
@@ -69,15 +90,31 @@ impl Disk<'_> {
         OpenOptions::new().write(true).open(self.rt, name)
     }
 
+    /// What is known of the file that is read.
+    fn known(&self, source: &Source) -> io::Result<Metadata> {
+        match source {
+            Source::Named(file) => file.metadata(),
+            Source::Input(_) => fs::metadata(self.rt, INPUT_PATH),
+        }
+    }
+
+    /// The file of a name, or standard input, to be read.
+    fn source(&self, name: &str) -> io::Result<Source> {
+        if name == INPUT {
+            return Ok(Source::Input(self.rt.stdin()));
+        }
+        Ok(Source::Named(File::open(self.rt, name)?))
+    }
+
     /// Begins a file beside a name, which is to take that name from the file that stands there, if
-    /// one does. An input is not to be replaced.
-    fn beside(&self, name: &str, stands: Option<&Metadata>) -> io::Result<MadeFile> {
+    /// one does: any, or an empty one alone. An input is not to be replaced.
+    fn beside(&self, name: &str, stands: Option<&Metadata>, force: bool) -> io::Result<MadeFile> {
         if let Some(known) = stands
             && is_among(&self.opened, known)
         {
             return Err(io::Error::from(ErrorKind::AlreadyExists));
         }
-        let (file, part) = begin_part(self.rt, name, stands, &self.opened)?;
+        let (file, part) = begin_part(self.rt, name, stands, force, &self.opened)?;
         Ok(MadeFile {
             file,
             part: Some(part),
@@ -86,46 +123,53 @@ impl Disk<'_> {
 }
 
 impl Outside for Disk<'_> {
-    type Opened = File;
+    type Opened = Source;
 
-    type File = File;
+    type File = Source;
 
     type Made = MadeFile;
 
     type Line = UdpLine;
 
-    fn open(&mut self, name: &str) -> io::Result<File> {
-        let file = File::open(self.rt, name)?;
-        let known = file.metadata()?;
+    fn open(&mut self, name: &str) -> io::Result<Source> {
+        let source = self.source(name)?;
+        let known = self.known(&source)?;
         if known.is_dir() {
             return Err(io::Error::from(ErrorKind::IsADirectory));
         }
         self.opened.push(identity(&known))?;
-        Ok(file)
+        Ok(source)
     }
 
-    fn is_opened(&mut self, file: &File, name: &str) -> bool {
-        match (file.metadata(), fs::metadata(self.rt, name)) {
+    fn is_opened(&mut self, source: &Source, name: &str) -> bool {
+        match (self.known(source), fs::metadata(self.rt, name)) {
             (Ok(opened), Ok(known)) => known.is_file() && identity(&known) == identity(&opened),
             _ => false,
         }
     }
 
-    fn read(&mut self, file: File) -> File {
-        file
+    fn read(&mut self, source: Source) -> Source {
+        source
     }
 
-    fn make(&mut self, name: &str) -> io::Result<MadeFile> {
+    fn is_filled(&mut self, name: &str) -> bool {
+        match fs::metadata(self.rt, name) {
+            Ok(known) => known.is_file() && known.len() > 0,
+            Err(_) => fs::symlink_metadata(self.rt, name).is_ok(),
+        }
+    }
+
+    fn make(&mut self, name: &str, force: bool) -> io::Result<MadeFile> {
         match self.standing(name) {
             Ok(file) => {
                 let known = file.metadata()?;
                 if known.is_file() {
-                    self.beside(name, Some(&known))
+                    self.beside(name, Some(&known), force)
                 } else {
                     Ok(in_place(file))
                 }
             }
-            Err(error) if error.kind() == ErrorKind::NotFound => self.beside(name, None),
+            Err(error) if error.kind() == ErrorKind::NotFound => self.beside(name, None, force),
             Err(error) => Err(error),
         }
     }

@@ -24,6 +24,10 @@ pub(crate) struct Part {
     name: String,
     /// The mode of the file that stood under that name.
     mode: Option<Permissions>,
+    /// The file that stood under that name, if one did.
+    stood: Option<Identity>,
+    /// Whether it takes that name from any file, and not from the empty one alone that stood there.
+    force: bool,
 }
 
 /// What a link in a folder leads to: a path from the root, or one from that folder.
@@ -135,6 +139,14 @@ fn permissions_of(stands: Option<&Metadata>) -> Option<Permissions> {
     }
 }
 
+/// Which file stands, if one does.
+fn identity_of(stands: Option<&Metadata>) -> Option<Identity> {
+    match stands {
+        Some(known) => Some(identity(known)),
+        None => None,
+    }
+}
+
 /// Makes the file of a part, in the place of one that was left. It has the owner of the file that
 /// stands, where the user may give it.
 fn make_part(
@@ -151,18 +163,26 @@ fn make_part(
     Ok(file)
 }
 
-/// Begins the file that is to take a name, in the place of the one that stands there, if one does.
+/// Begins the file that is to take a name, in the place of the one that stands there, if one does:
+/// any, or an empty one alone.
 pub(crate) fn begin_part(
     rt: &HostRuntime,
     name: &str,
     stands: Option<&Metadata>,
+    force: bool,
     opened: &[Identity],
 ) -> io::Result<(File, Part)> {
     let name = path_of(rt, name, stands)?;
     let path = format!(in rt.alloc(); "{name}.part")?;
     let file = make_part(rt, &path, stands, opened)?;
-    let mode = permissions_of(stands);
-    Ok((file, Part { path, name, mode }))
+    let part = Part {
+        path,
+        name,
+        mode: permissions_of(stands),
+        stood: identity_of(stands),
+        force,
+    };
+    Ok((file, part))
 }
 
 /// Has a change of names in the folder of a path outlast the machine, where the user may read it.
@@ -178,23 +198,70 @@ fn sync_folder(rt: &HostRuntime, path: &str) {
 }
 
 impl Part {
-    /// Gives the file the mode of the one that stands under its name, and then that name.
-    fn replace(&self, rt: &HostRuntime, file: &File) -> io::Result<()> {
+    /// Gives the file the mode of the one that stands under its name.
+    fn take_mode(&self, file: &File) -> io::Result<()> {
         if let Some(mode) = &self.mode {
             file.set_permissions(mode.clone()?)?;
             file.sync_all()?;
         }
+        Ok(())
+    }
+
+    /// Gives the file its name, in the place of whatever stands there.
+    fn replace(&self, rt: &HostRuntime) -> io::Result<()> {
         fs::rename(rt, self.path.as_str(), self.name.as_str())
+    }
+
+    /// Gives the file its name from the empty file that stood there, where that still stands so.
+    fn replace_empty(&self, rt: &HostRuntime, stood: Identity) -> io::Result<()> {
+        let known = fs::symlink_metadata(rt, self.name.as_str())?;
+        if identity(&known) != stood || known.len() > 0 {
+            return Err(io::Error::from(ErrorKind::AlreadyExists));
+        }
+        self.replace(rt)
+    }
+
+    /// Gives the file its name, where nothing stands, by an empty file that is made for it: where the
+    /// file system has no links.
+    fn replace_placeholder(&self, rt: &HostRuntime) -> io::Result<()> {
+        let placeholder = File::create_new(rt, self.name.as_str())?;
+        let replaced = self.replace(rt);
+        if replaced.is_err() && stands_at(rt, &placeholder, &self.name)? {
+            fs::remove_file(rt, self.name.as_str())?;
+        }
+        replaced
+    }
+
+    /// Gives the file its name, where nothing stands, by a link, which replaces nothing.
+    fn link(&self, rt: &HostRuntime) -> io::Result<()> {
+        match fs::hard_link(rt, self.path.as_str(), self.name.as_str()) {
+            Ok(()) => {
+                self.remove(rt);
+                Ok(())
+            }
+            Err(error) if error.kind() == ErrorKind::AlreadyExists => Err(error),
+            Err(_) => self.replace_placeholder(rt),
+        }
+    }
+
+    /// Gives the file its name as it was begun.
+    fn give_name(&self, rt: &HostRuntime, file: &File) -> io::Result<()> {
+        self.take_mode(file)?;
+        match self.stood {
+            _ if self.force => self.replace(rt),
+            Some(stood) => self.replace_empty(rt, stood),
+            None => self.link(rt),
+        }
     }
 
     /// Has the file take its name, or be gone.
     pub(crate) fn take_name(&self, rt: &HostRuntime, file: &File) -> io::Result<()> {
-        let replaced = self.replace(rt, file);
-        match &replaced {
+        let named = self.give_name(rt, file);
+        match &named {
             Ok(()) => sync_folder(rt, &self.name),
             Err(_) => self.remove(rt),
         }
-        replaced
+        named
     }
 
     /// Removes the file.

@@ -1,11 +1,12 @@
 -- What becomes of a file that a command makes (profile).
-use Rattle.std.specs.Prelude.{◌≡◌, ◌⊎◌, ℕ, List, [], ◌∷◌, Option, Result, Ok, Err}
+use Rattle.std.specs.Prelude.{◌≡◌, ◌⊎◌, ℕ, Bool, List, [], ◌∷◌, Option, Result, Ok, Err}
 use Rattle.std.specs.Io.KnownBytes.{Appends, Keeps}
 use Rattle.byte_files.specs.Writing.{WritesPart}
 use Rattle.std.specs.declared.io.ErrorKind.{ErrorKind}
+use Rattle.std.specs.declared.io.ErrorKind.TheVariants.{AlreadyExists}
 use Rattle.siman_answers.specs.Ending.{IsToldAs}
 use Rattle.siman_answers.specs.declared.fault.Fault.{Fault}
-use Rattle.siman_answers.specs.declared.fault.Fault.TheVariants.{Output}
+use Rattle.siman_answers.specs.declared.fault.Fault.TheVariants.{Output, Exists}
 use Rattle.siman_answers.specs.Outside.{Deed, Saved, Makes, Saves, Discards, Stream}
 
 -- what a command answered, its status, or the fault that it met
@@ -38,19 +39,24 @@ PutsBlocked list (Err fault) out = (fault ≡ Output) × WritesPart out.old out.
 abbrev pub TellsUnmade : ErrorKind → Answered → Stream → Type 0
 TellsUnmade kind answered out = Keeps out.old out.new × ((fault : Fault) × IsToldAs kind Output fault × (answered ≡ Err fault))
 
+-- why a file was not saved: one stands under its name by now, or something else
+abbrev pub unsaved : ErrorKind → Fault
+unsaved AlreadyExists = Exists
+unsaved kind = Output
+
 -- The status is answered where the file was saved.
 abbrev pub AnswersSaved : Saved → (status : ℕ) → Answered → Type 0
 AnswersSaved (Ok x) status answered = answered ≡ Ok status
-AnswersSaved (Err kind) status answered = (fault : Fault) × IsToldAs kind Output fault × (answered ≡ Err fault)
+AnswersSaved (Err kind) status answered = (fault : Fault) × IsToldAs kind (unsaved kind) fault × (answered ≡ Err fault)
 
 -- AFTER AN ANSWER THE FILE IS SAVED, with what it was left with, and after a fault it is discarded
 abbrev pub IsSaved : (left : Option (List ℕ)) → (put : Answered) → Deed → Answered → Type 0
 IsSaved left (Ok status) deed answered = (saved : Saved) × (deed ≡ Saves left saved) × AnswersSaved saved status answered
 IsSaved left (Err fault) deed answered = (deed ≡ Discards left) × (answered ≡ Err fault)
 
--- A FILE IS MADE, of which this is written and said; and then it is saved, or discarded
-abbrev pub MakesFile : (Puts : Answered → (file out : Stream) → Type 0) → (name : List ℕ) → List Deed → Answered → Stream → Type 0
-MakesFile Puts name (Makes made (Err kind) ∷ []) answered out = (made ≡ name) × TellsUnmade kind answered out
-MakesFile Puts name (Makes made (Ok fresh) ∷ deed ∷ []) answered out =
-    (made ≡ name) × ((left : Option (List ℕ)) × (put : Answered) × (let file : Stream = record { old = fresh; new = left } in Puts put file out) × IsSaved left put deed answered)
-MakesFile Puts name deeds answered out = ⊥
+-- A FILE IS MADE, in the place of one that stands or not, of which this is written and said; and then it is saved, or discarded
+abbrev pub MakesFile : (Puts : Answered → (file out : Stream) → Type 0) → (force : Bool) → (name : List ℕ) → List Deed → Answered → Stream → Type 0
+MakesFile Puts force name (Makes made replaces (Err kind) ∷ []) answered out = (made ≡ name) × (replaces ≡ force) × TellsUnmade kind answered out
+MakesFile Puts force name (Makes made replaces (Ok fresh) ∷ deed ∷ []) answered out =
+    (made ≡ name) × (replaces ≡ force) × ((left : Option (List ℕ)) × (put : Answered) × (let file : Stream = record { old = fresh; new = left } in Puts put file out) × IsSaved left put deed answered)
+MakesFile Puts force name deeds answered out = ⊥

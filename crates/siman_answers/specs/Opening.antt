@@ -1,13 +1,13 @@
 -- How files are opened to be read, while another is to be made (profile).
-use Rattle.std.specs.Prelude.{◌≡◌, ◌≢◌, ◌⊎◌, ℕ, true, false, List, [], ◌∷◌, ◌++◌, codes, Option, Result, Ok, Err}
+use Rattle.std.specs.Prelude.{◌≡◌, ◌≢◌, ◌⊎◌, ℕ, Bool, true, false, List, [], ◌∷◌, ◌++◌, codes, Option, Result, Ok, Err}
 use Rattle.std.specs.Io.KnownBytes.{Keeps}
 use Rattle.std.specs.declared.io.ErrorKind.{ErrorKind}
 use Rattle.std.specs.declared.io.ErrorKind.TheVariants.{OutOfMemory}
 use Rattle.siman_answers.specs.declared.fault.Fault.{Fault}
-use Rattle.siman_answers.specs.declared.fault.Fault.TheVariants.{Memory}
+use Rattle.siman_answers.specs.declared.fault.Fault.TheVariants.{Exists, Memory}
 use Rattle.siman_answers.specs.Ending.{fault_text, reason_of, reason_text}
 use Rattle.siman_answers.specs.Making.{Answered}
-use Rattle.siman_answers.specs.Outside.{Deed, Opens, Compares, Reads, Stream}
+use Rattle.siman_answers.specs.Outside.{Deed, Opens, Compares, LooksInto, Reads, Stream}
 
 -- how a file that was not opened is told: want of memory, or else `file: NAME: REASON` with the name as it was given
 abbrev pub IsUnopened : List ℕ → ErrorKind → Fault → Type 0
@@ -42,6 +42,38 @@ WorksOn {A} Gives Makes name made deeds answered out =
     ⊎ ((known : Option (List ℕ)) × (rest : List Deed) × (a : A) × (deeds ≡ Opens name (Ok known) ∷ Compares made false ∷ Reads known ∷ rest) × Gives known (Ok a)
     × Makes a made rest answered out)
 
+-- ---- what stands under the name of the file to be made
+
+-- it is looked what stands there, unless that is to be replaced
+abbrev pub looks_into : (force : Bool) → (made : List ℕ) → List Deed
+looks_into true made = []
+looks_into false made = LooksInto made false ∷ []
+
+-- A FILE THAT STANDS IS SPARED: it is told, unless it is to be replaced
+abbrev pub Spares : (force : Bool) → (made : List ℕ) → List Deed → Result (Unit {0}) Fault → Type 0
+Spares force made deeds (Ok x) = deeds ≡ looks_into force made
+Spares force made deeds (Err fault) = (force ≡ false) × (deeds ≡ LooksInto made true ∷ []) × (fault ≡ Exists)
+
+-- a file is opened that is not the one to be made, and none stands under the name of that, unless it is to be replaced
+abbrev pub opens_spared : (force : Bool) → (name made : List ℕ) → Option (List ℕ) → List Deed
+opens_spared force name made bytes = (Opens name (Ok bytes) ∷ Compares made false ∷ []) ++ looks_into force made
+
+abbrev pub OpensSpared : (force : Bool) → (name made : List ℕ) → List Deed → Result (Option (List ℕ)) Fault → Type 0
+OpensSpared force name made deeds (Ok bytes) = deeds ≡ opens_spared force name made bytes
+OpensSpared force name made deeds (Err fault) =
+    OpensApart name made deeds (Err fault)
+    ⊎ ((bytes : Option (List ℕ)) × (last : List Deed) × (deeds ≡ (Opens name (Ok bytes) ∷ Compares made false ∷ []) ++ last) × Spares force made last (Err fault))
+
+-- A FILE IS OPENED, something is made of what is read of it, and another file of that, in the place of one that stands or not; or it is told why not, before anything is read where one stands
+abbrev pub WorksSparing : {A : Type 0} → (Gives : Option (List ℕ) → Result A Fault → Type 0) → (Makes : A → (force : Bool) → (made : List ℕ) → List Deed → Answered → Stream → Type 0)
+    → (force : Bool) → (name made : List ℕ) → List Deed → Answered → Stream → Type 0
+WorksSparing {A} Gives Makes force name made deeds answered out =
+    ((fault : Fault) × OpensSpared force name made deeds (Err fault) × (answered ≡ Err fault) × Keeps out.old out.new)
+    ⊎ ((known : Option (List ℕ)) × (fault : Fault) × (deeds ≡ opens_spared force name made known ++ Reads known ∷ []) × Gives known (Err fault)
+    × (answered ≡ Err fault) × Keeps out.old out.new)
+    ⊎ ((known : Option (List ℕ)) × (rest : List Deed) × (a : A) × (deeds ≡ opens_spared force name made known ++ Reads known ∷ rest) × Gives known (Ok a)
+    × Makes a force made rest answered out)
+
 -- two files are opened, neither of which is the one to be made
 abbrev pub opens_both : (name other made : List ℕ) → (first second : Option (List ℕ)) → List Deed
 opens_both name other made first second =
@@ -59,12 +91,22 @@ OpensBoth name other made deeds (Err fault) =
     OpensApart name made deeds (Err fault)
     ⊎ ((first : Option (List ℕ)) × (last : List Deed) × (deeds ≡ (Opens name (Ok first) ∷ Compares made false ∷ []) ++ last) × OpensApart other made last (Err fault))
 
+-- both are, and none stands under the name of that one, unless it is to be replaced
+abbrev pub opens_both_spared : (force : Bool) → (name other made : List ℕ) → (first second : Option (List ℕ)) → List Deed
+opens_both_spared force name other made first second = opens_both name other made first second ++ looks_into force made
+
+abbrev pub OpensBothSpared : (force : Bool) → (name other made : List ℕ) → List Deed → Result (Option (List ℕ) × Option (List ℕ)) Fault → Type 0
+OpensBothSpared force name other made deeds (Ok bytes) = deeds ≡ opens_both_spared force name other made bytes.0 bytes.1
+OpensBothSpared force name other made deeds (Err fault) =
+    OpensBoth name other made deeds (Err fault)
+    ⊎ ((first second : Option (List ℕ)) × (last : List Deed) × (deeds ≡ opens_both name other made first second ++ last) × Spares force made last (Err fault))
+
 -- TWO FILES ARE OPENED before either is read, something is made of what is read of them, and another file of that; or it is told why not, as of one
-abbrev pub WorksOnBoth : {A : Type 0} → (Gives : (first second : Option (List ℕ)) → Result A Fault → Type 0) → (Makes : A → (made : List ℕ) → List Deed → Answered → Stream → Type 0)
-    → (name other made : List ℕ) → List Deed → Answered → Stream → Type 0
-WorksOnBoth {A} Gives Makes name other made deeds answered out =
-    ((fault : Fault) × OpensBoth name other made deeds (Err fault) × (answered ≡ Err fault) × Keeps out.old out.new)
-    ⊎ ((first second : Option (List ℕ)) × (fault : Fault) × (deeds ≡ opens_both name other made first second ++ Reads first ∷ Reads second ∷ [])
+abbrev pub WorksOnBoth : {A : Type 0} → (Gives : (first second : Option (List ℕ)) → Result A Fault → Type 0) → (Makes : A → (force : Bool) → (made : List ℕ) → List Deed → Answered → Stream → Type 0)
+    → (force : Bool) → (name other made : List ℕ) → List Deed → Answered → Stream → Type 0
+WorksOnBoth {A} Gives Makes force name other made deeds answered out =
+    ((fault : Fault) × OpensBothSpared force name other made deeds (Err fault) × (answered ≡ Err fault) × Keeps out.old out.new)
+    ⊎ ((first second : Option (List ℕ)) × (fault : Fault) × (deeds ≡ opens_both_spared force name other made first second ++ Reads first ∷ Reads second ∷ [])
     × Gives first second (Err fault) × (answered ≡ Err fault) × Keeps out.old out.new)
-    ⊎ ((first second : Option (List ℕ)) × (rest : List Deed) × (a : A) × (deeds ≡ opens_both name other made first second ++ Reads first ∷ Reads second ∷ rest)
-    × Gives first second (Ok a) × Makes a made rest answered out)
+    ⊎ ((first second : Option (List ℕ)) × (rest : List Deed) × (a : A) × (deeds ≡ opens_both_spared force name other made first second ++ Reads first ∷ Reads second ∷ rest)
+    × Gives first second (Ok a) × Makes a force made rest answered out)

@@ -56,8 +56,10 @@ pub data Deed : Type 0 where
   Compares : (name : List ℕ) → Bool → Deed
   -- a file that was opened, with these bytes, where they are known, is read from here on
   Reads : Option (List ℕ) → Deed
-  -- a file was made that is to stand under a name; it was saved there with these bytes, where they are known, or discarded
-  Makes : (name : List ℕ) → Found → Deed
+  -- it was looked whether a file stands under a name that a new one would have to replace
+  LooksInto : (name : List ℕ) → Bool → Deed
+  -- a file was made that is to stand under a name, in the place of another one or not; it was saved there with these bytes, where they are known, or discarded
+  Makes : (name : List ℕ) → (force : Bool) → Found → Deed
   Saves : Option (List ℕ) → Saved → Deed
   Discards : Option (List ℕ) → Deed
   -- it was looked whether a name is taken
@@ -89,6 +91,6 @@ IsFresh (Err kind) = ⊤
 
 abbrev pub WasHeld : (List ℕ → Option Found) → Deed → Type 0
 WasHeld holds (Opens name found) = IsHeld (holds name) found
-WasHeld holds (Makes name made) = IsFresh made
+WasHeld holds (Makes name force made) = IsFresh made
 WasHeld holds (Creates name made) = IsFresh made
 WasHeld holds other = ⊤

@@ -4,8 +4,8 @@
 //! It knows no command, opens no file itself and ends no process. A command is a [`Product`], of which
 //! a file is made ([`make_of_file`]), or says something of one file or two ([`OfFile`], [`OfFiles`]),
 //! over what a program may do ([`Outside`]), and gives a status or a [`Fault`], as which [`end`] ends.
-//! The contracts here say which files are opened and made, in which order (`SaysOfFile`, `WorksOn`,
-//! `MakesFile`), and what is told of each fault, to the byte (`fault_line`, `Ends`); the crates of the
+//! The contracts here say which files are opened and made, in which order (`SaysOfFile`,
+//! `WorksSparing`, `MakesFile`), and what is told of each fault, to the byte (`fault_line`, `Ends`); the crates of the
 //! commands say what is made of what is read.
 #![tactic(auto)]
 
@@ -32,7 +32,7 @@ pub use input::{InputFault, Unread, read_text};
 pub use join_limit::JoinLimit;
 pub use limits::{LARGEST_CERTIFICATE, LARGEST_RECORDING};
 pub use making::{Making, make_file, put_stuck, settle_and_say};
-pub use opening::{open_apart, open_both, unopened};
+pub use opening::{open_apart, open_both_spared, open_spared, spare, unopened};
 pub use outside::Outside;
 pub use passing::{HELD, pass_on, status_of};
 pub use product::{Product, make_of_file};

@@ -1,16 +1,18 @@
 //! Making a file: what is written to it, and what is said then.
 
 ghost use Rattle.std.specs.Prelude.{◌≡◌, ◌∷◌, [], ℕ, List, Option, Result};
+ghost use Rattle.std.specs.IoError.{error_kind};
 ghost use Rattle.std.specs.List.{All};
 ghost use Rattle.siman_answers.specs.declared.fault.Fault.{Fault};
 ghost use Rattle.siman_answers.specs.Outside.{Deed, Found, Adds, WasHeld, Stream};
-ghost use Rattle.siman_answers.specs.Making.{SaysSettled, PutsBlocked, IsSaved, MakesFile};
+ghost use Rattle.siman_answers.specs.Making.{SaysSettled, PutsBlocked, unsaved, IsSaved, MakesFile};
 
 use crate::fault::{Fault, of_error};
 use crate::outside::Outside;
 use byte_files::put;
 use std::alloc::Global;
-use std::io::Write;
+use std::io;
+use std::io::{ErrorKind, Write};
 
 /// What a command makes a file of.
 pub trait Making {
@@ -60,6 +62,16 @@ pub fn put_stuck<W: Write>(list: &str, out: &mut W) -> Result<u8, Fault<'static>
     }
 }
 
+/// Why a file was not saved.
+fn unsaved(error: &io::Error) -> Fault<'static>
+    ensures { result ≡ unsaved (error_kind error.now) }
+{
+    match error.kind() {
+        ErrorKind::AlreadyExists => Fault::Exists,
+        _ => Fault::Output,
+    }
+}
+
 /// Saves a file that was written, or discards it where there was a fault.
 fn save_or_discard<O: Outside>(
     put: Result<u8, Fault<'static>>,
@@ -77,23 +89,25 @@ fn save_or_discard<O: Outside>(
     };
     match outside.save(file) {
         Ok(()) => Ok(status),
-        Err(error) => Err(of_error(&error, Fault::Output)),
+        Err(error) => Err(of_error(&error, unsaved(&error))),
     }
 }
 
-/// Makes the file of a name, writes what there is to write, whole, and then says what there is to
-/// say. The file is saved after that, and discarded after a fault.
+/// Makes the file of a name, in the place of one that stands there or not, writes what there is to
+/// write, whole, and then says what there is to say. The file is saved after that, and discarded after
+/// a fault.
 pub fn make_file<M: Making, O: Outside, W: Write>(
     alloc: Global,
     made: &M,
     name: &str,
+    force: bool,
     outside: &mut O,
     out: &mut W,
 ) -> Result<u8, Fault<'static>>
     ensures { let out : Stream = record { old = W.contents out.old; new = W.contents out.new } in
-        (deeds : List Deed) × Adds (O.deeds outside.old) (O.deeds outside.new) deeds × ((holds : List ℕ → Option Found) → All (WasHeld holds) deeds) × MakesFile (M.puts made.now) name.now deeds result out }
+        (deeds : List Deed) × Adds (O.deeds outside.old) (O.deeds outside.new) deeds × ((holds : List ℕ → Option Found) → All (WasHeld holds) deeds) × MakesFile (M.puts made.now) force name.now deeds result out }
 {
-    match outside.make(name) {
+    match outside.make(name, force) {
         Ok(file) => {
             let mut file = file;
             let put = made.put(alloc, &mut file, out);

@@ -1,10 +1,10 @@
 //! Opening files to be read, while another is to be made.
 
-ghost use Rattle.std.specs.Prelude.{◌≡◌, List};
+ghost use Rattle.std.specs.Prelude.{◌≡◌, ℕ, List, Option};
 ghost use Rattle.std.specs.IoError.{error_kind};
 ghost use Rattle.std.specs.List.{All};
-ghost use Rattle.siman_answers.specs.Outside.{Deed, Adds, WasHeld};
-ghost use Rattle.siman_answers.specs.Opening.{IsUnopened, OpensApart, OpensBoth, bytes_by, both_by};
+ghost use Rattle.siman_answers.specs.Outside.{Deed, Found, Adds, WasHeld};
+ghost use Rattle.siman_answers.specs.Opening.{IsUnopened, OpensApart, OpensBoth, Spares, OpensSpared, OpensBothSpared, bytes_by, both_by};
 
 use crate::fault::Fault;
 use crate::outside::Outside;
@@ -43,7 +43,7 @@ pub fn open_apart<'a, O: Outside>(
 }
 
 /// Opens two files in the order of their names, neither of which may be the one that is to be made.
-pub fn open_both<'a, O: Outside>(
+fn open_both<'a, O: Outside>(
     names: (&'a str, &'a str),
     made: &'a str,
     outside: &mut O,
@@ -54,4 +54,46 @@ pub fn open_both<'a, O: Outside>(
     let first = open_apart((name, made), outside)?;
     let second = open_apart((other, made), outside)?;
     Ok((first, second))
+}
+
+/// Spares what stands under the name of the file that is to be made, unless that is to be replaced.
+pub fn spare<O: Outside>(name: &str, force: bool, outside: &mut O) -> Result<(), Fault<'static>>
+    ensures { (deeds : List Deed) × Adds (O.deeds outside.old) (O.deeds outside.new) deeds × ((holds : List ℕ → Option Found) → All (WasHeld holds) deeds) × Spares force name.now deeds result }
+{
+    if force {
+        return Ok(());
+    }
+    if outside.is_filled(name) {
+        return Err(Fault::Exists);
+    }
+    Ok(())
+}
+
+/// Opens the file of the first name to be read, where none stands that the one of the second would
+/// replace, unless that is asked for.
+pub fn open_spared<'a, O: Outside>(
+    names: (&'a str, &'a str),
+    force: bool,
+    outside: &mut O,
+) -> Result<O::Opened, Fault<'a>>
+    ensures { (deeds : List Deed) × Adds (O.deeds outside.old) (O.deeds outside.new) deeds × All (WasHeld (O.holds outside.old)) deeds × OpensSpared force names.entry.0.now names.entry.1.now deeds (bytes_by O.bytes result) }
+{
+    let file = open_apart(names, outside)?;
+    spare(names.1, force, outside)?;
+    Ok(file)
+}
+
+/// Opens two files in the order of their names, where none stands that the one to be made would
+/// replace, unless that is asked for.
+pub fn open_both_spared<'a, O: Outside>(
+    names: (&'a str, &'a str),
+    made: &'a str,
+    force: bool,
+    outside: &mut O,
+) -> Result<(O::Opened, O::Opened), Fault<'a>>
+    ensures { (deeds : List Deed) × Adds (O.deeds outside.old) (O.deeds outside.new) deeds × All (WasHeld (O.holds outside.old)) deeds × OpensBothSpared force names.entry.0.now names.entry.1.now made.now deeds (both_by O.bytes result) }
+{
+    let files = open_both(names, made, outside)?;
+    spare(made, force, outside)?;
+    Ok(files)
 }

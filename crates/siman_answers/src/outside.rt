@@ -11,7 +11,7 @@ use std::io::{Read, Write};
 pub trait Outside {
     ghost use Rattle.std.specs.Prelude.{◌≡◌, ◌∷◌, [], ℕ, List, Option, Some, None, IfOk, slice_get};
     ghost use Rattle.siman_lines.specs.Calls.{IsUnused};
-    ghost use Rattle.siman_answers.specs.Outside.{Found, Deed, Opens, Compares, Reads, Makes, Saves, Discards, LooksFor, Lines, Binds, Creates, Leaves, found_by, saved_by, counted_by, had_by, Adds, IsHeld, IsFresh};
+    ghost use Rattle.siman_answers.specs.Outside.{Found, Deed, Opens, Compares, Reads, LooksInto, Makes, Saves, Discards, LooksFor, Lines, Binds, Creates, Leaves, found_by, saved_by, counted_by, had_by, Adds, IsHeld, IsFresh};
 
     /// A file that was opened to be read, of which nothing was read so far.
     type Opened: Drop;
@@ -52,15 +52,21 @@ pub trait Outside {
         ensures done { Adds (deeds self.old) (deeds self.new) (Reads (bytes file) ∷ []) }
         ensures same { Self.File.remaining result ≡ bytes file };
 
-    /// Makes the file that is to stand under a name, to write it from its start. Until it is saved,
-    /// what stands under that name stays as it is, unless that is no regular file but a device, a
-    /// pipe or a socket, which is written as it stands.
-    fn make(&mut self, name: &str) -> io::Result<Self::Made>
-        ensures done { Adds (deeds self.old) (deeds self.new) (Makes name.now (found_by Self.Made.contents result) ∷ []) }
+    /// Whether a file stands under a name that a new one would have to replace: a regular one that is
+    /// not empty, or a link that leads nowhere. A device, a pipe or a socket is none such.
+    fn is_filled(&mut self, name: &str) -> bool
+        ensures done { Adds (deeds self.old) (deeds self.new) (LooksInto name.now result ∷ []) };
+
+    /// Makes the file that is to stand under a name, to write it from its start: in the place of one
+    /// that stands there by the time that it is saved (`force`), or else only where none stands but an
+    /// empty one. Until it is saved, what stands under that name stays as it is, unless that is no
+    /// regular file but a device, a pipe or a socket, which is written as it stands.
+    fn make(&mut self, name: &str, force: bool) -> io::Result<Self::Made>
+        ensures done { Adds (deeds self.old) (deeds self.new) (Makes name.now force (found_by Self.Made.contents result) ∷ []) }
         ensures fresh { IsFresh (found_by Self.Made.contents result) };
 
     /// Saves a file that was made: it takes its name, in one step, or what stands there stays as it
-    /// is.
+    /// is. Where that is not to be replaced, the error says so (`AlreadyExists`).
     fn save(&mut self, file: Self::Made) -> io::Result<()>
         ensures done { Adds (deeds self.old) (deeds self.new) (Saves (Self.Made.contents file) (saved_by result) ∷ []) };
 

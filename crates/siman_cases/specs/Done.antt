@@ -5,7 +5,7 @@ use Rattle.std.specs.declared.io.Error.{Error}
 use Rattle.std.specs.declared.io.ErrorKind.{ErrorKind}
 use Rattle.http_server.specs.declared.log.Log.{Log}
 use Rattle.siman_answers.specs.declared.endpoint.Endpoint.{Endpoint}
-use Rattle.siman_answers.specs.Outside.{Stream, Found, Deed, Opens, Compares, Reads, Makes, Saves, Discards, LooksFor, Lines, Binds, Creates, Leaves}
+use Rattle.siman_answers.specs.Outside.{Stream, Found, Deed, Opens, Compares, Reads, LooksInto, Makes, Saves, Discards, LooksFor, Lines, Binds, Creates, Leaves}
 use Rattle.siman_cases.specs.declared.done.Done.{Done}
 use Rattle.siman_cases.specs.declared.done.Done.TheVariants as done
 
@@ -28,8 +28,10 @@ abbrev pub deed_of : Done → Deed
 deed_of (done.Opened name failed) = Opens (letters_of name) (found_of failed)
 deed_of (done.Compared name same) = Compares (letters_of name) same
 deed_of done.Read = Reads None
-deed_of (done.Made name failed) = Makes (letters_of name) (found_of failed)
+deed_of (done.LookedInto name filled) = LooksInto (letters_of name) filled
+deed_of (done.Made name force failed) = Makes (letters_of name) force (found_of failed)
 deed_of done.Saved = Saves None (Ok tt)
+deed_of (done.Unsaved kind) = Saves None (Err kind)
 deed_of done.Discarded = Discards None
 deed_of (done.LookedFor name taken) = LooksFor (letters_of name) taken
 deed_of (done.Created name failed) = Creates (letters_of name) (found_of failed)

@@ -21,8 +21,12 @@ pub(crate) enum Done {
     Opened(Letters, Option<ErrorKind>),
     Compared(Letters, bool),
     Read,
-    Made(Letters, Option<ErrorKind>),
+    LookedInto(Letters, bool),
+    /// A file was made, in the place of one that stands there or not.
+    Made(Letters, bool, Option<ErrorKind>),
     Saved,
+    /// A file was not saved, for this reason.
+    Unsaved(ErrorKind),
     Discarded,
     LookedFor(Letters, bool),
     Created(Letters, Option<ErrorKind>),

@@ -10,6 +10,7 @@
 //! | `word` | one word more, which the lines behind it fill |
 //! | `unread-utf8`, `unread-memory` | the words can't be had: they are no UTF-8, or memory is refused |
 //! | `file NAME` | a file of that name, which the lines behind it fill |
+//! | `file NAME.later` | a file that appears under NAME while the one that is made there is written |
 //! | `shut NAME`, `folder NAME`, `odd NAME`, `full NAME` | a file that can't be opened or made: no permission, a directory, what is none in its path, no memory |
 //! | `input`, `out`, `errors`, `left` | the lines behind it fill standard input, what must be out, what must be told of faults, what the file must hold that is made |
 //! | `discarded` | as `left`, of a file that is made and must be discarded in the end |

@@ -27,6 +27,9 @@ pub(crate) struct Shelf<'a> {
     peer: Option<WireLine>,
     /// The file that was opened last.
     opened: Option<&'a File>,
+    /// Whether a file appears under the name of the one that is made while it is written, which that
+    /// one is not to replace.
+    appears: bool,
     pub(crate) asked: String,
     /// What was done, for contracts alone.
     pub(crate) done: Log<Done, ()>,
@@ -34,6 +37,10 @@ pub(crate) struct Shelf<'a> {
     /// What the file held that was discarded.
     pub(crate) discarded: Option<Vec<u8>>,
 }
+
+/// Behind its name, how a case calls a file that appears under it while the one that is made is
+/// written.
+const LATER: &str = ".later";
 
 /// A shelf with the files of a case, of which nothing was asked so far.
 pub(crate) fn filled(alloc: Global, case: &Case, makes: Calls, line_fails: Option<u64>) -> Shelf<'_>
@@ -46,6 +53,7 @@ pub(crate) fn filled(alloc: Global, case: &Case, makes: Calls, line_fails: Optio
         line_fails,
         peer: None,
         opened: None,
+        appears: false,
         asked: String::new(alloc),
         done: Log::new(),
         left: None,
@@ -95,6 +103,25 @@ impl<'a> Shelf<'a> {
             ) => Err(io::Error::from(*kind)),
             _ => Ok(write_to(self.alloc, self.makes)),
         }
+    }
+
+    /// Whether a file of this name stands there.
+    fn stands(&self, name: &str) -> Option<&'a File> {
+        found(&self.case.files, name.as_bytes())
+    }
+
+    /// Whether the case has a file appear under a name.
+    fn appears_at(&self, name: &str) -> io::Result<bool> {
+        let later = format!(in self.alloc; "{name}{LATER}")?;
+        Ok(self.stands(&later).is_some())
+    }
+
+    /// A file that is to take a name, in the place of one that stands there or not.
+    fn begin_made(&mut self, name: &str, force: bool) -> io::Result<Written>
+        ensures { deeds_of self.new.done ≡ deeds_of self.old.done }
+    {
+        self.appears = !force && self.appears_at(name)?;
+        self.begin(name)
     }
 
     /// What the station sent on its line.
@@ -165,13 +192,26 @@ impl<'a> Outside for Shelf<'a> {
         read_from(&file.stream.bytes, file.stream.calls)
     }
 
-    fn make(&mut self, name: &str) -> io::Result<Written> {
-        let answer = self.begin(name);
-        self.note(Done::Made(letters(name), failure(&answer)));
+    fn is_filled(&mut self, name: &str) -> bool {
+        let filled = match self.stands(name) {
+            Some(file) => file.shut.is_none() && !file.stream.bytes.is_empty(),
+            None => false,
+        };
+        self.note(Done::LookedInto(letters(name), filled));
+        filled
+    }
+
+    fn make(&mut self, name: &str, force: bool) -> io::Result<Written> {
+        let answer = self.begin_made(name, force);
+        self.note(Done::Made(letters(name), force, failure(&answer)));
         answer
     }
 
     fn save(&mut self, file: Written) -> io::Result<()> {
+        if self.appears {
+            self.note(Done::Unsaved(ErrorKind::AlreadyExists));
+            return Err(io::Error::from(ErrorKind::AlreadyExists));
+        }
         self.left = Some(file.bytes);
         self.note(Done::Saved);
         Ok(())

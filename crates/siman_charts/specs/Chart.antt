@@ -1,5 +1,5 @@
 -- What `chart` makes of a recording and a certificate, and how it ends.
-use Rattle.std.specs.Prelude.{◌≡◌, ◌⊎◌, ◌<◌, ◌≤◌, ℕ, ◌-◌, List, [], ◌∷◌, ◌++◌, All, length, map, codes, string_bytes, Option, Some, None, Result, Ok, Err}
+use Rattle.std.specs.Prelude.{◌≡◌, ◌⊎◌, ◌<◌, ◌≤◌, ℕ, Bool, ◌-◌, List, [], ◌∷◌, ◌++◌, All, length, map, codes, string_bytes, Option, Some, None, Result, Ok, Err}
 use Rattle.std.specs.Io.KnownBytes.{Keeps}
 use Rattle.exercise_model.specs.declared.cause.Cause.{Cause}
 use Rattle.exercise_model.specs.Account.{values_below}
@@ -138,9 +138,9 @@ ChartsFiles words window recording certificate charted =
     × ((text : List ℕ) × Has certificate text
     × Charts words window (recording_at LARGEST_RECORDING bytes) (certificate_at LARGEST_CERTIFICATE text) charted)
 
-abbrev pub MakesChart : Charted → (name : List ℕ) → List Deed → Answered → (out : Stream) → Type 0
-MakesChart (Drawn texts) name deeds answered out = MakesFile (PutsBoth (string_bytes texts.picture) (string_bytes texts.line)) name deeds answered out
-MakesChart (Refused line) name deeds answered out = (deeds ≡ []) × PutsBlocked (string_bytes line) answered out
+abbrev pub MakesChart : Charted → (force : Bool) → (name : List ℕ) → List Deed → Answered → (out : Stream) → Type 0
+MakesChart (Drawn texts) force name deeds answered out = MakesFile (PutsBoth (string_bytes texts.picture) (string_bytes texts.line)) force name deeds answered out
+MakesChart (Refused line) force name deeds answered out = (deeds ≡ []) × PutsBlocked (string_bytes line) answered out
 
 -- ---- by words
 
@@ -150,7 +150,7 @@ of_chart charts.OverLimit = ChartOverLimit
 of_chart charts.Memory = Memory
 
 -- WHAT `chart` DOES: the first word that says no step is told, and nothing is opened; else both files are opened in their order, none of which is the one to be made, before either is read
-abbrev pub ChartsNamed : (recording certificate picture : List ℕ) → (words : List (List ℕ)) → List Deed → Answered → Stream → Type 0
-ChartsNamed recording certificate picture words deeds answered out =
+abbrev pub ChartsNamed : (recording certificate picture : List ℕ) → (words : List (List ℕ)) → (force : Bool) → List Deed → Answered → Stream → Type 0
+ChartsNamed recording certificate picture words force deeds answered out =
     ((word : List ℕ) × (fault : Fault) × (window_of words ≡ Err word) × IsToldWord word fault × (deeds ≡ []) × (answered ≡ Err fault) × Keeps out.old out.new)
-    ⊎ ((window : Window) × (window_of words ≡ Ok window) × WorksOnBoth (ChartsFiles words window) MakesChart recording certificate picture deeds answered out)
+    ⊎ ((window : Window) × (window_of words ≡ Ok window) × WorksOnBoth (ChartsFiles words window) MakesChart force recording certificate picture deeds answered out)

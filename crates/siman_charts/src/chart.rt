@@ -24,7 +24,7 @@ use exercise_model::ExerciseLog;
 use exercise_recording::{RecordingView, fetch_recording};
 use exercise_review::Register;
 use siman_answers::{
-    Fault, LARGEST_CERTIFICATE, LARGEST_RECORDING, Making, Outside, make_file, open_both,
+    Fault, LARGEST_CERTIFICATE, LARGEST_RECORDING, Making, Outside, make_file, open_both_spared,
     put_stuck, settle_and_say,
 };
 use siman_pictures::draw;
@@ -66,17 +66,18 @@ pub fn chart_named<'a, O: Outside, W: Write>(
     alloc: Global,
     names: (&'a str, &'a str),
     picture: &'a str,
-    words: &'a [String],
+    force: bool,
+    words: &'a [&'a str],
     outside: &mut O,
     out: &mut W,
 ) -> Result<u8, Fault<'a>>
     ensures { let out : Stream = record { old = W.contents out.old; new = W.contents out.new } in
-        (deeds : List Deed) × Adds (O.deeds outside.old) (O.deeds outside.new) deeds × All (WasHeld (O.holds outside.old)) deeds × ChartsNamed names.entry.0.now names.entry.1.now picture.now (map string_bytes words.now) deeds result out }
+        (deeds : List Deed) × Adds (O.deeds outside.old) (O.deeds outside.new) deeds × All (WasHeld (O.holds outside.old)) deeds × ChartsNamed names.entry.0.now names.entry.1.now picture.now (map (λ word. word.now) words.now) force deeds result out }
 {
     match window_of(words) {
         Ok(window) => {
             let asked = (words, window);
-            chart_of_files(alloc, names, picture, asked, outside, out)
+            chart_of_files(alloc, names, picture, force, asked, outside, out)
         }
         Err(word) => Err(Fault::Filter(word)),
     }
@@ -87,27 +88,28 @@ fn chart_of_files<'a, O: Outside, W: Write>(
     alloc: Global,
     names: (&'a str, &'a str),
     picture: &'a str,
-    asked: (&'a [String], Window),
+    force: bool,
+    asked: (&'a [&'a str], Window),
     outside: &mut O,
     out: &mut W,
 ) -> Result<u8, Fault<'a>>
     ensures { let out : Stream = record { old = W.contents out.old; new = W.contents out.new } in
-        (deeds : List Deed) × Adds (O.deeds outside.old) (O.deeds outside.new) deeds × All (WasHeld (O.holds outside.old)) deeds × WorksOnBoth (ChartsFiles (map string_bytes asked.entry.0.now) asked.entry.1) MakesChart names.entry.0.now names.entry.1.now picture.now deeds result out }
+        (deeds : List Deed) × Adds (O.deeds outside.old) (O.deeds outside.new) deeds × All (WasHeld (O.holds outside.old)) deeds × WorksOnBoth (ChartsFiles (map (λ word. word.now) asked.entry.0.now) asked.entry.1) MakesChart force names.entry.0.now names.entry.1.now picture.now deeds result out }
 {
-    let opened = open_both(names, picture, outside)?;
+    let opened = open_both_spared(names, picture, force, outside)?;
     let charted = chart_opened(alloc, opened, asked, outside)?;
-    make_chart(alloc, &charted, picture, outside, out)
+    make_chart(alloc, &charted, picture, force, outside, out)
 }
 
 /// What comes of the recording and the certificate that were opened.
 fn chart_opened<'a, O: Outside>(
     alloc: Global,
     opened: (O::Opened, O::Opened),
-    asked: (&'a [String], Window),
+    asked: (&'a [&'a str], Window),
     outside: &mut O,
 ) -> Result<Charted, Fault<'a>>
     ensures done { Adds (O.deeds outside.old) (O.deeds outside.new) (Reads (O.bytes opened.0) ∷ Reads (O.bytes opened.1) ∷ []) }
-    ensures comes { ChartsFiles (map string_bytes asked.entry.0.now) asked.entry.1 (O.bytes opened.0) (O.bytes opened.1) result }
+    ensures comes { ChartsFiles (map (λ word. word.now) asked.entry.0.now) asked.entry.1 (O.bytes opened.0) (O.bytes opened.1) result }
 {
     let (recording, certificate) = opened;
     let recording = outside.read(recording);
@@ -120,9 +122,9 @@ fn chart<'a, R: Read + Drop, C: Read + Drop>(
     alloc: Global,
     recording: R,
     certificate: C,
-    asked: (&'a [String], Window),
+    asked: (&'a [&'a str], Window),
 ) -> Result<Charted, Fault<'a>>
-    ensures { ChartsFiles (map string_bytes asked.entry.0.now) asked.entry.1 (R.remaining recording) (C.remaining certificate) result }
+    ensures { ChartsFiles (map (λ word. word.now) asked.entry.0.now) asked.entry.1 (R.remaining recording) (C.remaining certificate) result }
 {
     let bytes = fetch_recording(alloc, recording, LARGEST_RECORDING)?;
     chart_bytes(alloc, &bytes, certificate, asked)
@@ -133,10 +135,10 @@ fn chart_bytes<'a, C: Read + Drop>(
     alloc: Global,
     bytes: &[u8],
     certificate: C,
-    asked: (&'a [String], Window),
+    asked: (&'a [&'a str], Window),
 ) -> Result<Charted, Fault<'a>>
     ensures { (text : List ℕ) × Has (C.remaining certificate) text
-        × Charts (map string_bytes asked.entry.0.now) asked.entry.1 (recording_at LARGEST_RECORDING bytes.now) (certificate_at LARGEST_CERTIFICATE text) result }
+        × Charts (map (λ word. word.now) asked.entry.0.now) asked.entry.1 (recording_at LARGEST_RECORDING bytes.now) (certificate_at LARGEST_CERTIFICATE text) result }
 {
     let log = RecordingView::over_limited(alloc, bytes, LARGEST_RECORDING)?;
     let certificate = fetch_certificate(alloc, certificate, LARGEST_CERTIFICATE)?;
@@ -148,9 +150,9 @@ fn chart_log<'a, L: ExerciseLog>(
     alloc: Global,
     log: &L,
     certificate: &Certificate,
-    asked: (&'a [String], Window),
+    asked: (&'a [&'a str], Window),
 ) -> Result<Charted, Fault<'a>>
-    ensures { Charts (map string_bytes asked.entry.0.now) asked.entry.1 (Ok (L.recording log.now)) (Ok certificate.now.steps.items) result }
+    ensures { Charts (map (λ word. word.now) asked.entry.0.now) asked.entry.1 (Ok (L.recording log.now)) (Ok certificate.now.steps.items) result }
 {
     match check(alloc, log, certificate) {
         Ok(_) => drawn(alloc, log, certificate.steps.as_slice(), asked),
@@ -166,11 +168,11 @@ fn drawn<'a, L: ExerciseLog>(
     alloc: Global,
     log: &L,
     steps: &[Step],
-    asked: (&'a [String], Window),
+    asked: (&'a [&'a str], Window),
 ) -> Result<Charted, Fault<'a>>
     requires good { IsGood (L.recording log.now) steps.now }
     requires holds { let r = L.recording log.now in Holds r (order_of r steps.now) }
-    ensures { Charts (map string_bytes asked.entry.0.now) asked.entry.1 (Ok (L.recording log.now)) (Ok steps.now) result }
+    ensures { Charts (map (λ word. word.now) asked.entry.0.now) asked.entry.1 (Ok (L.recording log.now)) (Ok steps.now) result }
 {
     match past_of(steps.len(), asked.0) {
         Some(word) => Err(Fault::Filter(word)),
@@ -183,12 +185,12 @@ fn shown<'a, L: ExerciseLog>(
     alloc: Global,
     log: &L,
     steps: &[Step],
-    asked: (&'a [String], Window),
+    asked: (&'a [&'a str], Window),
 ) -> Result<Charted, Fault<'a>>
     requires good { IsGood (L.recording log.now) steps.now }
     requires holds { let r = L.recording log.now in Holds r (order_of r steps.now) }
-    requires within { past_of (length steps.now) (map string_bytes asked.0.now) ≡ None }
-    ensures { Charts (map string_bytes asked.entry.0.now) asked.entry.1 (Ok (L.recording log.now)) (Ok steps.now) result }
+    requires within { past_of (length steps.now) (map (λ word. word.now) asked.0.now) ≡ None }
+    ensures { Charts (map (λ word. word.now) asked.entry.0.now) asked.entry.1 (Ok (L.recording log.now)) (Ok steps.now) result }
 {
     pictures_are_runs();
     let rows = rows_in(asked.1, steps.len());
@@ -257,14 +259,15 @@ fn make_chart<O: Outside, W: Write>(
     alloc: Global,
     charted: &Charted,
     name: &str,
+    force: bool,
     outside: &mut O,
     out: &mut W,
 ) -> Result<u8, Fault<'static>>
     ensures { let out : Stream = record { old = W.contents out.old; new = W.contents out.new } in
-        (deeds : List Deed) × Adds (O.deeds outside.old) (O.deeds outside.new) deeds × ((holds : List ℕ → Option Found) → All (WasHeld holds) deeds) × MakesChart charted.now name.now deeds result out }
+        (deeds : List Deed) × Adds (O.deeds outside.old) (O.deeds outside.new) deeds × ((holds : List ℕ → Option Found) → All (WasHeld holds) deeds) × MakesChart charted.now force name.now deeds result out }
 {
     match charted {
-        Charted::Drawn(texts) => make_file(alloc, texts, name, outside, out),
+        Charted::Drawn(texts) => make_file(alloc, texts, name, force, outside, out),
         Charted::Refused(line) => put_stuck(line, out),
     }
 }

@@ -1,6 +1,6 @@
 //! The words that say which steps a picture shows.
 
-ghost use Rattle.std.specs.Prelude.{◌≡◌, ◌≤◌, Ok, Err, IfOk, IfErr, map, option_map, string_bytes};
+ghost use Rattle.std.specs.Prelude.{◌≡◌, ◌≤◌, Ok, Err, IfOk, IfErr, map, option_map};
 ghost use Rattle.siman_charts.specs.ChartWords.{edge_by, edge_of, is_turned, narrowed, with_word, window_of, step_of, is_past, past_of, AreShown};
 
 use exercise_chart::Rows;
@@ -82,9 +82,9 @@ fn with_word(window: Window, word: &[u8]) -> Option<Window>
 
 /// Which steps words say, or the first word that says none: it is no such word, its key stood before,
 /// or the first step would be above the last.
-pub(crate) fn window_of(words: &[String]) -> Result<Window, &str>
-    ensures said { IfOk result (λ window. window_of (map string_bytes words.now) ≡ Ok window) }
-    ensures bad { IfErr result (λ word. window_of (map string_bytes words.now) ≡ Err word.now) }
+pub(crate) fn window_of<'a>(words: &'a [&'a str]) -> Result<Window, &'a str>
+    ensures said { IfOk result (λ window. window_of (map (λ word. word.now) words.now) ≡ Ok window) }
+    ensures bad { IfErr result (λ word. window_of (map (λ word. word.now) words.now) ≡ Err word.now) }
 {
     let mut window = Window {
         from: None,
@@ -94,7 +94,7 @@ pub(crate) fn window_of(words: &[String]) -> Result<Window, &str>
     while let [word, rest @ ..] = others {
         match with_word(window, word.as_bytes()) {
             Some(next) => window = next,
-            None => return Err(word.as_str()),
+            None => return Err(word),
         }
         others = rest;
     }
@@ -120,13 +120,13 @@ fn is_past(steps: usize, word: &[u8]) -> bool
 }
 
 /// The first word that says a step past the last of so many.
-pub(crate) fn past_of(steps: usize, words: &[String]) -> Option<&str>
-    ensures { option_map (λ word. word.now) result ≡ past_of steps (map string_bytes words.now) }
+pub(crate) fn past_of<'a>(steps: usize, words: &'a [&'a str]) -> Option<&'a str>
+    ensures { option_map (λ word. word.now) result ≡ past_of steps (map (λ word. word.now) words.now) }
 {
     let mut others = words;
     while let [word, rest @ ..] = others {
         if is_past(steps, word.as_bytes()) {
-            return Some(word.as_str());
+            return Some(word);
         }
         others = rest;
     }

@@ -25,7 +25,7 @@ use Rattle.siman_files.specs.Join.{word_of, JoinsPieces}
 use Rattle.siman_plays.specs.Live.{EndsLive}
 use Rattle.siman_answers.specs.Making.{Answered}
 use Rattle.siman_files.specs.Mend.{MendsFile, MakesMended}
-use Rattle.siman_answers.specs.Opening.{WorksOn}
+use Rattle.siman_answers.specs.Opening.{WorksSparing}
 use Rattle.siman_files.specs.Pdus.{EndsLines}
 use Rattle.siman_views.specs.Log.{LogsNamed}
 use Rattle.siman_views.specs.Review.{ReviewsNamed}
@@ -51,13 +51,13 @@ abbrev pub EndsAs : (Answered → Stream → Type 0) → Outcome → Type 0
 EndsAs Tells o = (answered : Answered) × Tells answered o.out × Ends answered o.ended o.errors.old o.errors.new
 
 -- how a command with two words ends
-abbrev pub EndsTwo : {L : Type 0} → Telling L → TwoWords → (first second : List ℕ) → List Deed → Outcome → Type 0
-EndsTwo told TwoWords.Check recording certificate deeds o = EndsAs (SaysOfFiles ChecksFiles recording certificate deeds) o
-EndsTwo told TwoWords.Audit recording certificate deeds o = EndsAs (WorksOn SearchesFile MakesFinding recording certificate deeds) o
-EndsTwo told TwoWords.World script recording deeds o = EndsAs (WorksOn RunsFile MakesWorld script recording deeds) o
-EndsTwo told TwoWords.Live script recording deeds o = EndsLive told script recording deeds o
-EndsTwo told TwoWords.Convert old new deeds o = EndsAs (WorksOn CarriesFile MakesConverted old new deeds) o
-EndsTwo told TwoWords.Mend old new deeds o = EndsAs (WorksOn MendsFile MakesMended old new deeds) o
+abbrev pub EndsTwo : {L : Type 0} → Telling L → TwoWords → (first second : List ℕ) → (force : Bool) → List Deed → Outcome → Type 0
+EndsTwo told TwoWords.Check recording certificate force deeds o = EndsAs (SaysOfFiles ChecksFiles recording certificate deeds) o
+EndsTwo told TwoWords.Audit recording certificate force deeds o = EndsAs (WorksSparing SearchesFile MakesFinding force recording certificate deeds) o
+EndsTwo told TwoWords.World script recording force deeds o = EndsAs (WorksSparing RunsFile MakesWorld force script recording deeds) o
+EndsTwo told TwoWords.Live script recording force deeds o = EndsLive told script recording deeds o
+EndsTwo told TwoWords.Convert old new force deeds o = EndsAs (WorksSparing CarriesFile MakesConverted force old new deeds) o
+EndsTwo told TwoWords.Mend old new force deeds o = EndsAs (WorksSparing MendsFile MakesMended force old new deeds) o
 
 -- how a command ends that takes no words, and reads standard input, which has these bytes where they are known
 abbrev pub EndsBare : NoWord → Option (List ℕ) → Outcome → Type 0
@@ -68,12 +68,12 @@ abbrev pub EndsTask : {L : Type 0} → Telling L → Asked → List Deed → Opt
 EndsTask told Trial deeds input o = (deeds ≡ []) × EndsAs (TriesInput input) o
 EndsTask told (Bare command) deeds input o = (deeds ≡ []) × EndsBare command input o
 EndsTask told (One command word) deeds input o = EndsAs (DoesOne command word deeds) o
-EndsTask told (Two command first second) deeds input o = EndsTwo told command first second deeds o
-EndsTask told (asks.Join pieces made form) deeds input o = EndsAs (JoinsPieces pieces made (word_of form) deeds) o
+EndsTask told (Two command first second force) deeds input o = EndsTwo told command first second force deeds o
+EndsTask told (asks.Join pieces made form force) deeds input o = EndsAs (JoinsPieces pieces force made (word_of form) deeds) o
 EndsTask told (asks.Station words) deeds input o = EndsStation told.strangers words deeds input o
 EndsTask told (View view recording filters spelling) deeds input o = EndsAs (DoesView view recording filters spelling deeds) o
 EndsTask told (asks.Why recording certificate spelling) deeds input o = EndsAs (WhyNamed spelling recording certificate deeds) o
-EndsTask told (asks.Chart recording certificate picture words) deeds input o = EndsAs (ChartsNamed recording certificate picture words deeds) o
+EndsTask told (asks.Chart recording certificate picture words force) deeds input o = EndsAs (ChartsNamed recording certificate picture words force deeds) o
 
 -- HOW WORDS END that ask for no task: with want of memory, with the help that they ask for, or as a fault of usage, which is told on the writer of faults
 abbrev pub EndsUsage : (helps : Bool) → Outcome → Type 0
@@ -82,9 +82,13 @@ EndsUsage helps o =
     ⊎ ((helps ≡ true) × (Ends (Ok 0) o.ended o.errors.old o.errors.new ⊎ Ends (Err Output) o.ended o.errors.old o.errors.new))
     ⊎ ((helps ≡ false) × (o.ended.status ≡ 2) × Keeps o.out.old o.out.new)
 
+-- WITH WANT OF MEMORY, before anything is done
+abbrev pub EndsAtOnce : List Deed → Outcome → Type 0
+EndsAtOnce deeds o = (deeds ≡ []) × Keeps o.out.old o.out.new × Ends (Err Memory) o.ended o.errors.old o.errors.new
+
 -- Words that ask for nothing of the table ask for help or break the usage, and no file is opened.
 abbrev pub EndsAsked : {L : Type 0} → Telling L → Option Asked → (helps : Bool) → List Deed → Option (List ℕ) → Outcome → Type 0
-EndsAsked told (Some task) helps deeds input o = EndsTask told task deeds input o
+EndsAsked told (Some task) helps deeds input o = EndsAtOnce deeds o ⊎ EndsTask told task deeds input o
 EndsAsked told None helps deeds input o = (deeds ≡ []) × EndsUsage helps o
 
 -- the words, or why they could not be had

@@ -35,6 +35,8 @@ pub use siman_texts::Spelling;
 pub use siman_views::{
     audit_command, filter_of, log_command, review_command, why_command, why_not_command,
 };
-pub use siman_words::{JoinForm, NoWord, OneWord, Task, TwoWords, ViewWord, asks_help, read_words};
+pub use siman_words::{
+    CommandLine, JoinForm, NoWord, OneWord, Task, TwoWords, ViewWord, asks_help, read_words,
+};
 pub use siman_worlds::{MoveFault, WorldFault, run_world};
 pub use usage::end_at_terminal;

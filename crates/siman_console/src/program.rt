@@ -19,8 +19,8 @@ use siman_files::{
 use siman_plays::{TrialCommand, WorldFile, end_live, end_station};
 use siman_texts::Spelling;
 use siman_views::{Finding, log_named, review_named, why_named};
-use siman_words::{NoWord, OneWord, Task, TwoWords, ViewWord, asks_help, read_words};
-use std::alloc::Global;
+use siman_words::{NoWord, OneWord, Task, TwoWords, ViewWord, asks_help, read_words, usage_text};
+use std::alloc::{AllocError, Global};
 use std::io;
 use std::io::{Read, Write};
 
@@ -46,13 +46,14 @@ fn end_two<O: Outside, W: Write, E: Write>(
     alloc: Global,
     command: TwoWords,
     words: (&str, &str),
+    force: bool,
     outside: &mut O,
     out: &mut W,
     errors: &mut E,
 ) -> Ended
     ensures { let told : Telling O.Line = record { received = O.Line.received; sent = O.Line.sent; failures = O.Line.failures; strangers = O.Line.strangers } in
         let o : Outcome = record { ended = result; out = record { old = W.contents out.old; new = W.contents out.new }; errors = record { old = E.contents errors.old; new = E.contents errors.new } } in
-        (deeds : List Deed) × Adds (O.deeds outside.old) (O.deeds outside.new) deeds × All (WasHeld (O.holds outside.old)) deeds × EndsTwo told command words.entry.0.now words.entry.1.now deeds o }
+        (deeds : List Deed) × Adds (O.deeds outside.old) (O.deeds outside.new) deeds × All (WasHeld (O.holds outside.old)) deeds × EndsTwo told command words.entry.0.now words.entry.1.now force deeds o }
 {
     match command {
         TwoWords::Check => end(
@@ -60,20 +61,20 @@ fn end_two<O: Outside, W: Write, E: Write>(
             errors,
         ),
         TwoWords::Audit => end(
-            make_of_file::<Finding, O, W>(alloc, words, outside, out),
+            make_of_file::<Finding, O, W>(alloc, words, force, outside, out),
             errors,
         ),
         TwoWords::World => end(
-            make_of_file::<WorldFile, O, W>(alloc, words, outside, out),
+            make_of_file::<WorldFile, O, W>(alloc, words, force, outside, out),
             errors,
         ),
         TwoWords::Live => end_live(alloc, words, outside, out, errors),
         TwoWords::Convert => end(
-            make_of_file::<Carried, O, W>(alloc, words, outside, out),
+            make_of_file::<Carried, O, W>(alloc, words, force, outside, out),
             errors,
         ),
         TwoWords::Mend => end(
-            make_of_file::<MendedFile, O, W>(alloc, words, outside, out),
+            make_of_file::<MendedFile, O, W>(alloc, words, force, outside, out),
             errors,
         ),
     }
@@ -84,13 +85,13 @@ fn end_two<O: Outside, W: Write, E: Write>(
 fn do_view<'a, O: Outside, W: Write>(
     alloc: Global,
     view: ViewWord,
-    words: (&'a str, &'a [String]),
+    words: (&'a str, &'a [&'a str]),
     spelling: Spelling,
     outside: &mut O,
     out: &mut W,
 ) -> Result<u8, Fault<'a>>
     ensures { let out : Stream = record { old = W.contents out.old; new = W.contents out.new } in
-        (deeds : List Deed) × Adds (O.deeds outside.old) (O.deeds outside.new) deeds × All (WasHeld (O.holds outside.old)) deeds × DoesView view words.entry.0.now (map string_bytes words.entry.1.now) spelling deeds result out }
+        (deeds : List Deed) × Adds (O.deeds outside.old) (O.deeds outside.new) deeds × All (WasHeld (O.holds outside.old)) deeds × DoesView view words.entry.0.now (map (λ word. word.now) words.entry.1.now) spelling deeds result out }
 {
     let (recording, words) = words;
     match view {
@@ -102,7 +103,7 @@ fn do_view<'a, O: Outside, W: Write>(
 /// Does what the words ask for, and ends as that asks for.
 fn end_task<'a, O: Outside, R: Read + Drop, W: Write, E: Write>(
     alloc: Global,
-    task: Task<'a, String>,
+    task: Task<'a, &'a str>,
     outside: &mut O,
     input: R,
     out: &mut W,
@@ -110,19 +111,19 @@ fn end_task<'a, O: Outside, R: Read + Drop, W: Write, E: Write>(
 ) -> Ended
     ensures { let told : Telling O.Line = record { received = O.Line.received; sent = O.Line.sent; failures = O.Line.failures; strangers = O.Line.strangers } in
         let o : Outcome = record { ended = result; out = record { old = W.contents out.old; new = W.contents out.new }; errors = record { old = E.contents errors.old; new = E.contents errors.new } } in
-        (deeds : List Deed) × Adds (O.deeds outside.old) (O.deeds outside.new) deeds × All (WasHeld (O.holds outside.old)) deeds × EndsTask told (asked_by string_bytes task.entry) deeds (R.remaining input) o }
+        (deeds : List Deed) × Adds (O.deeds outside.old) (O.deeds outside.new) deeds × All (WasHeld (O.holds outside.old)) deeds × EndsTask told (asked_by (λ word. word.now) task.entry) deeds (R.remaining input) o }
 {
     match task {
         Task::Trial => end(TrialCommand.say(alloc, input, out), errors),
         Task::Bare(NoWord::Pdus) => end_lines(alloc, input, out, errors),
         Task::One(command, word) => end(do_one(alloc, command, word, outside, out), errors),
-        Task::Two(command, first, second) => {
+        Task::Two(command, first, second, force) => {
             let words = (first, second);
-            end_two(alloc, command, words, outside, out, errors)
+            end_two(alloc, command, words, force, outside, out, errors)
         }
-        Task::Join(pieces, new, form) => {
+        Task::Join(pieces, new, form, force) => {
             let word = word_of(form);
-            let joined = join_pieces(alloc, pieces, new, word, outside, out);
+            let joined = join_pieces(alloc, pieces, new, force, word, outside, out);
             end(joined, errors)
         }
         Task::Station(words) => end_station(alloc, words, outside, input, out, errors),
@@ -134,9 +135,9 @@ fn end_task<'a, O: Outside, R: Read + Drop, W: Write, E: Write>(
             let names = (recording, certificate);
             end(why_named(alloc, names, spelling, outside, out), errors)
         }
-        Task::Chart(recording, certificate, picture, steps) => {
+        Task::Chart(recording, certificate, picture, steps, force) => {
             let names = (recording, certificate);
-            let charted = chart_named(alloc, names, picture, steps, outside, out);
+            let charted = chart_named(alloc, names, picture, force, steps, outside, out);
             end(charted, errors)
         }
     }
@@ -163,8 +164,15 @@ pub fn run<O: Outside, R: Read + Drop, W: Write, E: Write>(
         Ok(words) => words,
         Err(error) => return end(Err(of_error(&error, Fault::Words)), errors),
     };
-    match read_words(alloc, words.as_slice()) {
-        Ok(task) => end_task(alloc, task, outside, input, out, errors),
-        Err(error) => end_usage(asks_help(words.as_slice()), &error, out, errors),
+    let line = match read_words(alloc, words.as_slice()) {
+        Ok(line) => line,
+        Err(AllocError) => return end(Err(Fault::Memory), errors),
+    };
+    match line.task() {
+        Some(task) => end_task(alloc, task, outside, input, out, errors),
+        None => {
+            let text = usage_text(alloc, words.as_slice());
+            end_usage(asks_help(words.as_slice()), text, out, errors)
+        }
     }
 }

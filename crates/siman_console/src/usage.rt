@@ -4,36 +4,35 @@ ghost use Rattle.std.specs.Prelude.{false};
 ghost use Rattle.siman_answers.specs.Outside.{Outcome};
 ghost use Rattle.siman_console.specs.Program.{EndsUsage};
 
-use byte_files::put_shown;
-use clap::Error;
-use clap::error::ErrorKind;
+use byte_files::put;
 use siman_answers::{Ended, Fault, end};
-use siman_words::refuse_terminal;
-use std::alloc::Global;
+use siman_words::terminal_text;
+use std::alloc::{AllocError, Global};
 use std::io::Write;
 
-/// Tells why words gave no task. Status 0 is the help that they asked for, on `out`; 2 a fault of
+/// Tells the text of words that gave no task. Status 0 is the help that they asked for, on `out`; 2 a fault of
 /// usage, told on `errors`, or a failed write of the help (`output: write`); 3 want of memory
 /// (`memory`).
 pub(crate) fn end_usage<W: Write, E: Write>(
     asks_help: bool,
-    error: &Error,
+    text: Result<String, AllocError>,
     out: &mut W,
     errors: &mut E,
 ) -> Ended
     ensures { let o : Outcome = record { ended = result; out = record { old = W.contents out.old; new = W.contents out.new }; errors = record { old = E.contents errors.old; new = E.contents errors.new } } in
         EndsUsage asks_help o }
 {
-    if error.kind() == ErrorKind::OutOfMemory {
-        return end(Err(Fault::Memory), errors);
-    }
+    let text = match text {
+        Ok(text) => text,
+        Err(AllocError) => return end(Err(Fault::Memory), errors),
+    };
     if !asks_help {
         return Ended {
             status: 2,
-            written: put_shown(errors, error),
+            written: put(errors, text.as_bytes()),
         };
     }
-    match put_shown(out, error) {
+    match put(out, text.as_bytes()) {
         Ok(()) => end(Ok(0), errors),
         Err(_) => end(Err(Fault::Output), errors),
     }
@@ -45,5 +44,5 @@ pub fn end_at_terminal<W: Write, E: Write>(alloc: Global, out: &mut W, errors: &
     ensures { let o : Outcome = record { ended = result; out = record { old = W.contents out.old; new = W.contents out.new }; errors = record { old = E.contents errors.old; new = E.contents errors.new } } in
         EndsUsage false o }
 {
-    end_usage(false, &refuse_terminal(alloc), out, errors)
+    end_usage(false, terminal_text(alloc), out, errors)
 }

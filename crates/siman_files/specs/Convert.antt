@@ -1,5 +1,5 @@
 -- What `convert` does with a recording, and how it ends.
-use Rattle.std.specs.Prelude.{◌≡◌, ◌⊎◌, ℕ, List, length, codes, Option, Result, Ok, Err, string_bytes}
+use Rattle.std.specs.Prelude.{◌≡◌, ◌⊎◌, ℕ, Bool, List, length, codes, Option, Result, Ok, Err, string_bytes}
 use Rattle.exercise_model.specs.Recording.{PlainRecording}
 use Rattle.exercise_model.specs.Conversion.{converted}
 use Rattle.exercise_recording.specs.Text.{recording_text}
@@ -37,5 +37,5 @@ Carries recorded (Err fault) = IsUncarried recorded fault
 abbrev pub CarriesFile : (known : Option (List ℕ)) → Result Carried Fault → Type 0
 CarriesFile known carried = (bytes : List ℕ) × Has known bytes × Carries (recording_at LARGEST_OLD_RECORDING bytes) carried
 
-abbrev pub MakesConverted : Carried → (name : List ℕ) → List Deed → Result ℕ Fault → (out : Stream) → Type 0
-MakesConverted carried name = MakesFile (PutsBoth carried.conversion.text (string_bytes carried.line)) name
+abbrev pub MakesConverted : Carried → (force : Bool) → (name : List ℕ) → List Deed → Result ℕ Fault → (out : Stream) → Type 0
+MakesConverted carried force name = MakesFile (PutsBoth carried.conversion.text (string_bytes carried.line)) force name

@@ -1,5 +1,5 @@
 -- What `join` does with pieces of a recording, and how it ends.
-use Rattle.std.specs.Prelude.{◌≡◌, ◌⊎◌, ℕ, List, [], ◌∷◌, ◌++◌, map, codes, false, Option, Some, None, Result, Ok, Err, Vec, string_bytes, if◌then◌else◌}
+use Rattle.std.specs.Prelude.{◌≡◌, ◌⊎◌, ℕ, Bool, List, [], ◌∷◌, ◌++◌, map, codes, false, Option, Some, None, Result, Ok, Err, Vec, string_bytes, if◌then◌else◌}
 use Rattle.std.specs.List.{flat_map}
 use Rattle.std.specs.declared.alloc.Global.{Global}
 use Rattle.std.specs.Io.KnownBytes.{Keeps}
@@ -24,7 +24,7 @@ use Rattle.siman_files.specs.declared.join.OpenPiece.{OpenPiece}
 use Rattle.siman_answers.specs.declared.limits.TheConstants.{LARGEST_RECORDING}
 use Rattle.siman_answers.specs.Ending.{fault_text}
 use Rattle.siman_answers.specs.Making.{Answered, MakesFile, PutsBoth}
-use Rattle.siman_answers.specs.Opening.{OpensApart}
+use Rattle.siman_answers.specs.Opening.{OpensApart, Spares, looks_into}
 use Rattle.siman_answers.specs.Outside.{Has, Stream, Deed, Opens, Compares, Reads}
 
 -- the form that words ask for, if they ask for one
@@ -95,6 +95,15 @@ OpensPieces names made deeds (Err fault) =
     (pieces : List Seen) × (left : List (List ℕ)) × (last : List Deed) × (names ≡ map (λ (piece : Seen). piece.name) pieces ++ left)
     × (deeds ≡ flat_map (opening_deeds made) pieces ++ last) × StopsAt left made last fault
 
+-- and none stands under the name of that one, unless it is to be replaced
+abbrev pub OpensPiecesSpared : (names : List (List ℕ)) → (force : Bool) → (made : List ℕ) → List Deed → Opening → Type 0
+OpensPiecesSpared names force made deeds (Ok pieces) =
+    (names ≡ map (λ (piece : Seen). piece.name) pieces) × (deeds ≡ flat_map (opening_deeds made) pieces ++ looks_into force made)
+OpensPiecesSpared names force made deeds (Err fault) =
+    OpensPieces names made deeds (Err fault)
+    ⊎ ((pieces : List Seen) × (last : List Deed) × (names ≡ map (λ (piece : Seen). piece.name) pieces) × (deeds ≡ flat_map (opening_deeds made) pieces ++ last)
+    × Spares force made last (Err fault))
+
 -- ---- reading
 
 -- a piece that was read is taken behind the others, or it is told why not
@@ -131,10 +140,10 @@ ReadsAndGives word pieces deeds result =
     ⊎ ((j : JoiningData) × ReadsPieces word pieces deeds (Ok j) × Gives j result)
 
 -- WHAT `join` DOES: all pieces are opened before any is read, and the file is made when all are read: its text, whole, and then the line, with status 0
-abbrev pub JoinsPieces : (names : List (List ℕ)) → (made : List ℕ) → FormWord → List Deed → Answered → Stream → Type 0
-JoinsPieces names made word deeds answered out =
-    ((fault : Fault) × OpensPieces names made deeds (Err fault) × (answered ≡ Err fault) × Keeps out.old out.new)
-    ⊎ ((pieces : List Seen) × (opened read : List Deed) × (fault : Fault) × OpensPieces names made opened (Ok pieces) × ReadsAndGives word pieces read (Err fault)
+abbrev pub JoinsPieces : (names : List (List ℕ)) → (force : Bool) → (made : List ℕ) → FormWord → List Deed → Answered → Stream → Type 0
+JoinsPieces names force made word deeds answered out =
+    ((fault : Fault) × OpensPiecesSpared names force made deeds (Err fault) × (answered ≡ Err fault) × Keeps out.old out.new)
+    ⊎ ((pieces : List Seen) × (opened read : List Deed) × (fault : Fault) × OpensPiecesSpared names force made opened (Ok pieces) × ReadsAndGives word pieces read (Err fault)
     × (deeds ≡ opened ++ read) × (answered ≡ Err fault) × Keeps out.old out.new)
-    ⊎ ((pieces : List Seen) × (opened read rest : List Deed) × (file : JoinedFile) × OpensPieces names made opened (Ok pieces) × ReadsAndGives word pieces read (Ok file)
-    × (deeds ≡ opened ++ read ++ rest) × MakesFile (PutsBoth file.joint.text (string_bytes file.line)) made rest answered out)
+    ⊎ ((pieces : List Seen) × (opened read rest : List Deed) × (file : JoinedFile) × OpensPiecesSpared names force made opened (Ok pieces) × ReadsAndGives word pieces read (Ok file)
+    × (deeds ≡ opened ++ read ++ rest) × MakesFile (PutsBoth file.joint.text (string_bytes file.line)) force made rest answered out)

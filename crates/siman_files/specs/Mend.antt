@@ -1,5 +1,5 @@
 -- What `mend` does with a recording, and how it ends.
-use Rattle.std.specs.Prelude.{◌≡◌, ◌⊎◌, ℕ, List, [], ◌∷◌, codes, Option, Some, None, Result, Ok, Err, string_bytes}
+use Rattle.std.specs.Prelude.{◌≡◌, ◌⊎◌, ℕ, Bool, List, [], ◌∷◌, codes, Option, Some, None, Result, Ok, Err, string_bytes}
 use Rattle.exercise_recording.specs.declared.format_fault.FormatFault.{FormatFault}
 use Rattle.exercise_recording.specs.declared.format_fault.RecordingFault.TheVariants as recordings
 use Rattle.exercise_recording.specs.declared.mending.Mended.{Mended}
@@ -51,5 +51,5 @@ Mends given (Err fault) = IsUnmended given fault
 abbrev pub MendsFile : (known : Option (List ℕ)) → Result MendedFile Fault → Type 0
 MendsFile known mended = (bytes : List ℕ) × Has known bytes × Mends (mended_at LARGEST_TORN_RECORDING bytes) mended
 
-abbrev pub MakesMended : MendedFile → (name : List ℕ) → List Deed → Result ℕ Fault → (out : Stream) → Type 0
-MakesMended mended name = MakesFile (PutsBoth mended.mending.text (string_bytes mended.line)) name
+abbrev pub MakesMended : MendedFile → (force : Bool) → (name : List ℕ) → List Deed → Result ℕ Fault → (out : Stream) → Type 0
+MakesMended mended force name = MakesFile (PutsBoth mended.mending.text (string_bytes mended.line)) force name

@@ -72,9 +72,10 @@ impl Product for Carried {
         self,
         alloc: Global,
         name: &str,
+        force: bool,
         outside: &mut O,
         out: &mut W,
     ) -> Result<u8, Fault<'static>> {
-        make_file(alloc, &self, name, outside, out)
+        make_file(alloc, &self, name, force, outside, out)
     }
 }

@@ -3,12 +3,13 @@
 ghost use Rattle.std.specs.Prelude.{◌≡◌, ℕ, List, Option, IfOk, map, string_bytes};
 ghost use Rattle.std.specs.List.{All};
 ghost use Rattle.siman_answers.specs.Outside.{Deed, Found, Adds, WasHeld, Stream};
-ghost use Rattle.siman_files.specs.Join.{word_of, opened_by, seen_by, form_word, joined_text, IsToldOf, OpensPieces, TakesPiece, ReadsPieces, Gives, ReadsAndGives, JoinsPieces};
+ghost use Rattle.siman_files.specs.Join.{word_of, opened_by, seen_by, form_word, joined_text, IsToldOf, OpensPieces, OpensPiecesSpared, TakesPiece, ReadsPieces, Gives, ReadsAndGives, JoinsPieces};
 
 use exercise_model::Form;
 use exercise_recording::{FormWord, JoinFault, Joined, Joining, Joint};
 use siman_answers::{
     Fault, JoinLimit, LARGEST_RECORDING, Making, Outside, make_file, open_apart, settle_and_say,
+    spare,
 };
 use siman_texts::{Field, Value, named_line};
 use siman_words::JoinForm;
@@ -104,6 +105,21 @@ fn open_pieces<'a, S: AsStr, O: Outside>(
     Ok(pieces)
 }
 
+/// Opens pieces, where no file stands that the one to be made would replace, unless that is asked for.
+fn open_spared<'a, S: AsStr, O: Outside>(
+    alloc: Global,
+    names: &'a [S],
+    new: &'a str,
+    force: bool,
+    outside: &mut O,
+) -> Result<Vec<OpenPiece<'a, O::Opened>>, Fault<'a>>
+    ensures { (deeds : List Deed) × Adds (O.deeds outside.old) (O.deeds outside.new) deeds × All (WasHeld (O.holds outside.old)) deeds × OpensPiecesSpared (map S.text names.now) force new.now deeds (opened_by O.bytes result) }
+{
+    let pieces = open_pieces(alloc, names, new, outside)?;
+    spare(new, force, outside)?;
+    Ok(pieces)
+}
+
 /// Reads a piece that was opened, and takes it behind the others.
 fn take_piece<'a, O: Outside>(
     alloc: Global,
@@ -187,19 +203,20 @@ fn read_and_give<'a, O: Outside>(
 }
 
 /// Opens pieces in the order of their names, reads them one after the other, and makes a file of what
-/// they give together, in the form that is asked for.
+/// they give together, in the form that is asked for, in the place of one that stands or not.
 pub fn join_pieces<'a, S: AsStr, O: Outside, W: Write>(
     alloc: Global,
     names: &'a [S],
     new: &'a str,
+    force: bool,
     word: FormWord,
     outside: &mut O,
     out: &mut W,
 ) -> Result<u8, Fault<'a>>
     ensures { let out : Stream = record { old = W.contents out.old; new = W.contents out.new } in
-        (deeds : List Deed) × Adds (O.deeds outside.old) (O.deeds outside.new) deeds × All (WasHeld (O.holds outside.old)) deeds × JoinsPieces (map S.text names.now) new.now word deeds result out }
+        (deeds : List Deed) × Adds (O.deeds outside.old) (O.deeds outside.new) deeds × All (WasHeld (O.holds outside.old)) deeds × JoinsPieces (map S.text names.now) force new.now word deeds result out }
 {
-    let pieces = open_pieces(alloc, names, new, outside)?;
+    let pieces = open_spared(alloc, names, new, force, outside)?;
     let joined = read_and_give(alloc, word, pieces, outside)?;
-    make_file(alloc, &joined, new, outside, out)
+    make_file(alloc, &joined, new, force, outside, out)
 }

@@ -16,6 +16,30 @@ struct Table<'a> {
     alloc: Global,
     files: Files<'a>,
     left: Option<Vec<u8>>,
+    /// Whether the file that is being made takes the place of one that is not empty.
+    replaces: bool,
+    /// Whether such a file was saved or created.
+    replaced: bool,
+}
+
+impl<'a> Table<'a> {
+    /// What the file of a name holds, if there is one.
+    fn held(&self, name: &str) -> Option<&'a [u8]> {
+        for (known, bytes) in self.files {
+            if *known == name {
+                return Some(*bytes);
+            }
+        }
+        None
+    }
+
+    /// Whether a file that is not empty stands under a name.
+    fn fills(&self, name: &str) -> bool {
+        match self.held(name) {
+            Some(bytes) => !bytes.is_empty(),
+            None => false,
+        }
+    }
 }
 
 impl<'a> Outside for Table<'a> {
@@ -28,12 +52,10 @@ impl<'a> Outside for Table<'a> {
     type Line = WireLine;
 
     fn open(&mut self, name: &str) -> io::Result<&'a [u8]> {
-        for (known, bytes) in self.files {
-            if *known == name {
-                return Ok(*bytes);
-            }
+        match self.held(name) {
+            Some(bytes) => Ok(bytes),
+            None => Err(io::Error::from(ErrorKind::NotFound)),
         }
-        Err(io::Error::from(ErrorKind::NotFound))
     }
 
     fn is_opened(&mut self, _file: &&'a [u8], _name: &str) -> bool {
@@ -44,22 +66,29 @@ impl<'a> Outside for Table<'a> {
         read_from(file, WELL)
     }
 
-    fn make(&mut self, _name: &str) -> io::Result<Written> {
+    fn is_filled(&mut self, name: &str) -> bool {
+        self.fills(name)
+    }
+
+    fn make(&mut self, name: &str, _force: bool) -> io::Result<Written> {
+        self.replaces = self.fills(name);
         Ok(write_to(self.alloc, WELL))
     }
 
     fn save(&mut self, file: Written) -> io::Result<()> {
         self.left = Some(file.bytes);
+        self.replaced = self.replaces;
         Ok(())
     }
 
     fn discard(&mut self, _file: Written) {}
 
-    fn is_taken(&mut self, _name: &str) -> bool {
-        false
+    fn is_taken(&mut self, name: &str) -> bool {
+        self.held(name).is_some()
     }
 
-    fn create(&mut self, _name: &str) -> io::Result<Written> {
+    fn create(&mut self, name: &str) -> io::Result<Written> {
+        self.replaced = self.held(name).is_some();
         Ok(write_to(self.alloc, WELL))
     }
 
@@ -94,6 +123,8 @@ pub(crate) struct Ran {
     pub(crate) errors: Vec<u8>,
     /// What the file that was made holds, if one was made.
     pub(crate) left: Option<Vec<u8>>,
+    /// Whether that took the place of one that was not empty.
+    pub(crate) replaced: bool,
 }
 
 /// The words of a command line, the program's name first.
@@ -112,13 +143,15 @@ pub(crate) fn run_words(alloc: Global, words: &[&str], files: Files<'_>, input: 
         alloc,
         files,
         left: None,
+        replaces: false,
+        replaced: false,
     };
     let mut out = write_to(alloc, WELL);
     let mut errors = write_to(alloc, WELL);
     let line = command_line(alloc, words);
     let input = read_from(input, WELL);
     let ended = run(alloc, line, &mut table, input, &mut out, &mut errors);
-    let Table { left, .. } = table;
+    let Table { left, replaced, .. } = table;
     let Written { bytes: out, .. } = out;
     let Written { bytes: errors, .. } = errors;
     Ran {
@@ -126,6 +159,7 @@ pub(crate) fn run_words(alloc: Global, words: &[&str], files: Files<'_>, input: 
         out,
         errors,
         left,
+        replaced,
     }
 }
 
@@ -149,6 +183,21 @@ impl Ran {
     /// Whether it ended with a fault that is told, with nothing out and no file made.
     pub(crate) fn is_fault(&self) -> bool {
         self.status == 2 && self.out.is_empty() && !self.errors.is_empty() && self.left.is_none()
+    }
+
+    /// Whether it played a station to the end of its recording, and told the lines that were not done.
+    pub(crate) fn is_played(&self) -> bool {
+        let told = match self.status {
+            0 => self.errors.is_empty(),
+            2 => self.errors.starts_with(b"line "),
+            _ => false,
+        };
+        told && self.left.is_some() && self.out.ends_with(b" strangers=0\n")
+    }
+
+    /// Whether it made moves up to one that cannot be made, which it told, and left their recording.
+    pub(crate) fn is_lived(&self) -> bool {
+        self.status == 2 && self.errors.starts_with(b"world: ") && self.left.is_some()
     }
 
     /// Whether it ended with this status, as an answer or with a fault.

@@ -7,7 +7,7 @@
 //! was the line over memory that had no room, or with `not begun`, where what is lent could not be
 //! made.
 
-mod files;
+pub(crate) mod files;
 mod reasons;
 mod reviews;
 mod scripts;

@@ -100,5 +100,5 @@ EndsWorld scripted status file out errors =
 abbrev pub RunsFile : (known : Option (List ℕ)) → Result PlainRecording Fault → Type 0
 RunsFile known made = (text : List ℕ) × Has known text × Runs (script_at text) made
 
-abbrev pub MakesWorld : PlainRecording → (name : List ℕ) → List Deed → Result ℕ Fault → (out : Stream) → Type 0
-MakesWorld r name = MakesFile (PutsWorld r) name
+abbrev pub MakesWorld : PlainRecording → (force : Bool) → (name : List ℕ) → List Deed → Result ℕ Fault → (out : Stream) → Type 0
+MakesWorld r force name = MakesFile (PutsWorld r) force name

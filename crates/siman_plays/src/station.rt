@@ -1,7 +1,7 @@
 //! The command `station`: one station of a script, played over the network by the lines of standard
 //! input.
 
-ghost use Rattle.std.specs.Prelude.{◌≡◌, ◌+◌, ◌∷◌, ℕ, List, length, Option, None, Ok, map, string_bytes};
+ghost use Rattle.std.specs.Prelude.{◌≡◌, ◌+◌, ◌∷◌, ℕ, List, length, Option, None, Ok, map};
 ghost use Rattle.std.specs.List.{All};
 ghost use Rattle.siman_answers.specs.Outside.{Stream, Outcome, Deed, Found, Adds, WasHeld, Has};
 ghost use Rattle.siman_scripts.specs.Script.{script_at};
@@ -58,13 +58,13 @@ fn endpoint(word: &str) -> Result<Endpoint, Fault<'_>>
 }
 
 /// Where the sockets are of which words say it.
-fn endpoints(alloc: Global, words: &[String]) -> Result<Vec<Endpoint>, Fault<'_>>
-    ensures { FindsEndpoints (map string_bytes words.now) result }
+fn endpoints<'a>(alloc: Global, words: &'a [&'a str]) -> Result<Vec<Endpoint>, Fault<'a>>
+    ensures { FindsEndpoints (map (λ word. word.now) words.now) result }
 {
     let mut endpoints = Vec::new(alloc);
     let mut others = words;
     while let [word, rest @ ..] = others {
-        match endpoint(word.as_str()) {
+        match endpoint(word) {
             Ok(endpoint) => endpoints.push(endpoint)?,
             Err(fault) => return Err(fault),
         }
@@ -74,8 +74,8 @@ fn endpoints(alloc: Global, words: &[String]) -> Result<Vec<Endpoint>, Fault<'_>
 }
 
 /// What the words say of the places of a station and its peers.
-fn place<'a>(alloc: Global, words: &StationWords<'a, String>) -> Result<Placed, Fault<'a>>
-    ensures { Places (named_by string_bytes words.now) result }
+fn place<'a>(alloc: Global, words: &StationWords<'a, &'a str>) -> Result<Placed, Fault<'a>>
+    ensures { Places (named_by (λ word. word.now) words.now) result }
 {
     let address = station_address(words.address)?;
     let bind = endpoint(words.bind)?;
@@ -249,7 +249,7 @@ fn play_set_up<O: Outside, R: Read, W: Write, E: Write>(
 /// Opens the script that the words name, and plays its station.
 fn play_file<'a, O: Outside, R: Read, W: Write, E: Write>(
     alloc: Global,
-    words: &StationWords<'a, String>,
+    words: &StationWords<'a, &'a str>,
     placed: Placed,
     outside: &mut O,
     input: &mut R,
@@ -258,7 +258,7 @@ fn play_file<'a, O: Outside, R: Read, W: Write, E: Write>(
 ) -> Result<Told, Fault<'a>>
     requires { length placed.room.items ≡ LONGEST_LINE + 1 }
     ensures { let s : Streams = record { out = record { old = W.contents out.old; new = W.contents out.new }; errors = record { old = E.contents errors.old; new = E.contents errors.new } } in
-        (deeds : List Deed) × Adds (O.deeds outside.old) (O.deeds outside.new) deeds × All (WasHeld (O.holds outside.old)) deeds × PlaysFile O.Line.strangers (named_by string_bytes words.now) placed (R.remaining input.old) deeds result s }
+        (deeds : List Deed) × Adds (O.deeds outside.old) (O.deeds outside.new) deeds × All (WasHeld (O.holds outside.old)) deeds × PlaysFile O.Line.strangers (named_by (λ word. word.now) words.now) placed (R.remaining input.old) deeds result s }
 {
     let opened = match outside.open(words.setup) {
         Ok(opened) => opened,
@@ -286,16 +286,16 @@ fn end_played<E: Write>(played: Result<Told, Fault<'_>>, errors: &mut E) -> Ende
 
 /// Plays a station of a script as these words ask for it, by the lines of a reader, and ends as that
 /// asks for.
-pub fn end_station<O: Outside, R: Read + Drop, W: Write, E: Write>(
+pub fn end_station<'a, O: Outside, R: Read + Drop, W: Write, E: Write>(
     alloc: Global,
-    words: StationWords<'_, String>,
+    words: StationWords<'a, &'a str>,
     outside: &mut O,
     input: R,
     out: &mut W,
     errors: &mut E,
 ) -> Ended
     ensures { let o : Outcome = record { ended = result; out = record { old = W.contents out.old; new = W.contents out.new }; errors = record { old = E.contents errors.old; new = E.contents errors.new } } in
-        (deeds : List Deed) × Adds (O.deeds outside.old) (O.deeds outside.new) deeds × All (WasHeld (O.holds outside.old)) deeds × EndsStation O.Line.strangers (named_by string_bytes words.entry) deeds (R.remaining input) o }
+        (deeds : List Deed) × Adds (O.deeds outside.old) (O.deeds outside.new) deeds × All (WasHeld (O.holds outside.old)) deeds × EndsStation O.Line.strangers (named_by (λ word. word.now) words.entry) deeds (R.remaining input) o }
 {
     let placed = match place(alloc, &words) {
         Ok(placed) => placed,

@@ -1,5 +1,5 @@
 -- What `audit` says of a recording, and how it ends.
-use Rattle.std.specs.Prelude.{◌≡◌, ◌⊎◌, ℕ, List, [], length, string_bytes, Option, Result, Ok, Err}
+use Rattle.std.specs.Prelude.{◌≡◌, ◌⊎◌, ℕ, Bool, List, [], length, string_bytes, Option, Result, Ok, Err}
 use Rattle.std.specs.Io.KnownBytes.{Keeps}
 use Rattle.exercise_model.specs.Recording.{PlainRecording}
 use Rattle.exercise_model.specs.Headline.{Holds}
@@ -94,6 +94,6 @@ EndsAudit recorded status file out errors =
 abbrev pub SearchesFile : (known : Option (List ℕ)) → Result Finding Fault → Type 0
 SearchesFile known found = (bytes : List ℕ) × Has known bytes × Searches (recording_at LARGEST_RECORDING bytes) found
 
-abbrev pub MakesFinding : Finding → (name : List ℕ) → List Deed → Result ℕ Fault → (out : Stream) → Type 0
-MakesFinding (Order texts) name deeds answered out = MakesFile (PutsBoth texts.certificate.items (string_bytes texts.line)) name deeds answered out
-MakesFinding (Stuck text) name deeds answered out = (deeds ≡ []) × PutsBlocked (string_bytes text) answered out
+abbrev pub MakesFinding : Finding → (force : Bool) → (name : List ℕ) → List Deed → Result ℕ Fault → (out : Stream) → Type 0
+MakesFinding (Order texts) force name deeds answered out = MakesFile (PutsBoth texts.certificate.items (string_bytes texts.line)) force name deeds answered out
+MakesFinding (Stuck text) force name deeds answered out = (deeds ≡ []) × PutsBlocked (string_bytes text) answered out

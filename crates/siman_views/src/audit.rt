@@ -206,10 +206,11 @@ impl Product for Finding {
         self,
         alloc: Global,
         name: &str,
+        force: bool,
         outside: &mut O,
         out: &mut W,
     ) -> Result<u8, Fault<'static>> {
-        make_found(alloc, &self, name, outside, out)
+        make_found(alloc, &self, name, force, outside, out)
     }
 }
 
@@ -218,14 +219,15 @@ fn make_found<O: Outside, W: Write>(
     alloc: Global,
     finding: &Finding,
     name: &str,
+    force: bool,
     outside: &mut O,
     out: &mut W,
 ) -> Result<u8, Fault<'static>>
     ensures { let out : Stream = record { old = W.contents out.old; new = W.contents out.new } in
-        (deeds : List Deed) × Adds (O.deeds outside.old) (O.deeds outside.new) deeds × ((holds : List ℕ → Option Found) → All (WasHeld holds) deeds) × MakesFinding finding.now name.now deeds result out }
+        (deeds : List Deed) × Adds (O.deeds outside.old) (O.deeds outside.new) deeds × ((holds : List ℕ → Option Found) → All (WasHeld holds) deeds) × MakesFinding finding.now force name.now deeds result out }
 {
     match finding {
-        Finding::Order(order) => make_file(alloc, order, name, outside, out),
+        Finding::Order(order) => make_file(alloc, order, name, force, outside, out),
         Finding::Stuck(list) => put_stuck(list, out),
     }
 }

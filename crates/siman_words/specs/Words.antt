@@ -1,5 +1,5 @@
 -- What the words of a command line ask for (profile).
-use Rattle.std.specs.Prelude.{ℕ, ◌-◌, Bool, true, false, not, List, [], ◌∷◌, length, map, nat_lt, slice_index, ◌==◌, ◌&&◌, ◌||◌, codes, Option, Some, None, is_some, option_map, if◌then◌else◌}
+use Rattle.std.specs.Prelude.{ℕ, ◌+◌, ◌-◌, Bool, true, false, not, List, [], ◌∷◌, length, map, nat_lt, nat_le, slice_index, ◌==◌, ◌&&◌, ◌||◌, codes, Option, Some, None, is_some, option_map, if◌then◌else◌}
 use Rattle.std.specs.List.{starts_with}
 use Rattle.std.specs.Str.{bytes_eq}
 use Rattle.siman_texts.specs.declared.spelling.Spelling.{Spelling}
@@ -34,17 +34,18 @@ pub data Asked : Type 0 where
   Trial : Asked
   Bare : NoWord → Asked
   One : OneWord → (word : List ℕ) → Asked
-  Two : TwoWords → (first second : List ℕ) → Asked
-  -- the pieces of an exercise, the file that is to be made of them, and the form that it is to have, where the words say one
-  Join : (pieces : List (List ℕ)) → (made : List ℕ) → Option JoinForm → Asked
+  -- a command, its two words, and whether a file that stands under the second is replaced, where one is made
+  Two : TwoWords → (first second : List ℕ) → (force : Bool) → Asked
+  -- the pieces of an exercise, the file that is to be made of them, the form that it is to have, where the words say one, and whether a file that stands there is replaced
+  Join : (pieces : List (List ℕ)) → (made : List ℕ) → Option JoinForm → (force : Bool) → Asked
   -- a station is played over the network
   Station : StationAsked → Asked
   -- a view of a recording, the words that choose among its lines, and how these are spelled
   View : ViewWord → (recording : List ℕ) → (filters : List (List ℕ)) → Spelling → Asked
   -- what contradicts what in a recording, or in a certificate of it, where the words name one
   Why : (recording : List ℕ) → (certificate : Option (List ℕ)) → Spelling → Asked
-  -- the picture of a recording in the order of a certificate, the file that is to be made of it, and the words that say which steps are shown
-  Chart : (recording certificate picture : List ℕ) → (steps : List (List ℕ)) → Asked
+  -- the picture of a recording in the order of a certificate, the file that is to be made of it, the words that say which steps are shown, and whether a file that stands there is replaced
+  Chart : (recording certificate picture : List ℕ) → (steps : List (List ℕ)) → (force : Bool) → Asked
 
 -- words have the text that `text` gives
 abbrev pub named_by : {S : Type 0} → (text : S → List ℕ) → StationWords S → StationAsked
@@ -61,16 +62,39 @@ abbrev pub asked_by : {S : Type 0} → (text : S → List ℕ) → Task S → As
 asked_by text tasks.Trial = Trial
 asked_by text (tasks.Bare command) = Bare command
 asked_by text (tasks.One command word) = One command word.now
-asked_by text (tasks.Two command first second) = Two command first.now second.now
-asked_by text (tasks.Join pieces made form) = Join (map text pieces.now) made.now form
+asked_by text (tasks.Two command first second force) = Two command first.now second.now force
+asked_by text (tasks.Join pieces made form force) = Join (map text pieces.now) made.now form force
 asked_by text (tasks.Station words) = Station (named_by text words)
 asked_by text (tasks.View view recording filters spelling) = View view recording.now (map text filters.now) spelling
 asked_by text (tasks.Why recording certificate spelling) = Why recording.now (option_map (λ word. word.now) certificate) spelling
-asked_by text (tasks.Chart recording certificate picture steps) = Chart recording.now certificate.now picture.now (map text steps.now)
+asked_by text (tasks.Chart recording certificate picture steps force) = Chart recording.now certificate.now picture.now (map text steps.now) force
 
 -- a word that begins with a hyphen, and has more, is an option
 abbrev pub is_option : List ℕ → Bool
 is_option word = nat_lt 1 (length word) && (slice_index word 0 == 45)
+
+-- how often a word stands among words
+abbrev pub times : (wanted : List ℕ) → List (List ℕ) → ℕ
+times wanted [] = 0
+times wanted (word ∷ words) = if bytes_eq word wanted then times wanted words + 1 else times wanted words
+
+-- an option that some commands take: it may stand anywhere behind the command
+abbrev pub is_choice : List ℕ → Bool
+is_choice word = bytes_eq word (codes "--json") || bytes_eq word (codes "--force")
+
+-- the words behind a command that are no such option
+abbrev pub names_in : List (List ℕ) → List (List ℕ)
+names_in [] = []
+names_in (word ∷ words) = if is_choice word then names_in words else word ∷ names_in words
+
+-- the words behind a command, and how often `--json` and `--force` stand among them
+pub record Behind : Type 0 where
+  pub names : List (List ℕ)
+  pub json : ℕ
+  pub force : ℕ
+
+abbrev pub behind_of : List (List ℕ) → Behind
+behind_of words = record { names = names_in words; json = times (codes "--json") words; force = times (codes "--force") words }
 
 -- what the command of a name takes by a table, if there is one
 abbrev pub takes_of : List (List ℕ × Takes) → (name : List ℕ) → Option Takes
@@ -94,9 +118,9 @@ abbrev pub one_asked : OneWord → List (List ℕ) → Option Asked
 one_asked command (word ∷ []) = if is_option word then None else Some (One command word)
 one_asked command words = None
 
-abbrev pub two_asked : TwoWords → List (List ℕ) → Option Asked
-two_asked command (first ∷ second ∷ []) = if is_option first || is_option second then None else Some (Two command first second)
-two_asked command words = None
+abbrev pub two_asked : TwoWords → (force : Bool) → List (List ℕ) → Option Asked
+two_asked command force (first ∷ second ∷ []) = if is_option first || is_option second then None else Some (Two command first second force)
+two_asked command force words = None
 
 -- of a word and what stands behind it
 abbrev pub before_last : List ℕ → Option (List (List ℕ) × List ℕ) → List (List ℕ) × List ℕ
@@ -132,13 +156,18 @@ abbrev pub are_names : List (List ℕ) → Bool
 are_names [] = true
 are_names (word ∷ words) = not (is_option word || is_form_word word) && are_names words
 
--- PIECES ARE JOINED where at least one stands before the file to be made, and a form stands nowhere but at the end
-abbrev pub pieces_asked : Option JoinForm → Option (List (List ℕ) × List ℕ) → Option Asked
-pieces_asked form None = None
-pieces_asked form (Some p) = if length p.0 == 0 then None else Some (Join p.0 p.1 form)
+-- so many pieces are joined at least: two, or one where its form is to be another
+abbrev pub fewest_pieces : Option JoinForm → ℕ
+fewest_pieces None = 2
+fewest_pieces (Some form) = 1
 
-abbrev pub join_asked : List (List ℕ) → Option Asked
-join_asked words = let p = form_apart words in if are_names p.0 then pieces_asked p.1 (last_apart p.0) else None
+-- PIECES ARE JOINED where enough of them stand before the file to be made, and a form stands nowhere but at the end
+abbrev pub pieces_asked : Option JoinForm → (force : Bool) → Option (List (List ℕ) × List ℕ) → Option Asked
+pieces_asked form force None = None
+pieces_asked form force (Some p) = if nat_le (fewest_pieces form) (length p.0) then Some (Join p.0 p.1 form force) else None
+
+abbrev pub join_asked : (force : Bool) → List (List ℕ) → Option Asked
+join_asked force words = let p = form_apart words in if are_names p.0 then pieces_asked p.1 force (last_apart p.0) else None
 
 abbrev pub anyone_behind : List (List ℕ) → Option (List (List ℕ) × List ℕ) → List (List ℕ) × Bool
 anyone_behind words None = (words, false)
@@ -159,53 +188,95 @@ station_named anyone words = None
 abbrev pub station_asked : List (List ℕ) → Option Asked
 station_asked words = let p = anyone_apart words in if has_option p.0 then None else station_named p.1 p.0
 
-abbrev pub spelling_behind : List (List ℕ) → Option (List (List ℕ) × List ℕ) → List (List ℕ) × Spelling
-spelling_behind words None = (words, Text)
-spelling_behind words (Some p) = if bytes_eq p.1 (codes "--json") then (p.0, Json) else (words, Text)
+-- `--json` stands so often: how lines are told
+abbrev pub spelling_by : (json : ℕ) → Spelling
+spelling_by json = if json == 0 then Text else Json
 
--- the words before `--json`, where it stands last, and how the lines are spelled then
-abbrev pub spelling_apart : List (List ℕ) → List (List ℕ) × Spelling
-spelling_apart words = spelling_behind words (last_apart words)
+-- A VIEW IS ASKED FOR of a recording; behind its name stand the words that choose
+abbrev pub view_asked : ViewWord → Spelling → List (List ℕ) → Option Asked
+view_asked view spelling [] = None
+view_asked view spelling (recording ∷ filters) =
+    if is_option recording || has_option filters then None else Some (View view recording filters spelling)
 
--- A VIEW IS ASKED FOR of a recording; behind its name stand the words that choose, and `--json` nowhere but at the end
-abbrev pub view_asked : ViewWord → List (List ℕ) → Option Asked
-view_asked view [] = None
-view_asked view (recording ∷ words) =
-    let p = spelling_apart words in
-    if is_option recording || has_option p.0 then None else Some (View view recording p.0 p.1)
-
--- the question why, of a recording or of one with a certificate
-abbrev pub named_why : Spelling → List (List ℕ) → Option Asked
-named_why spelling (recording ∷ []) = if is_option recording then None else Some (Why recording None spelling)
-named_why spelling (recording ∷ certificate ∷ []) =
+-- WHY IS ASKED of a recording, or of one with a certificate
+abbrev pub why_asked : Spelling → List (List ℕ) → Option Asked
+why_asked spelling (recording ∷ []) = if is_option recording then None else Some (Why recording None spelling)
+why_asked spelling (recording ∷ certificate ∷ []) =
     if is_option recording || is_option certificate then None else Some (Why recording (Some certificate) spelling)
-named_why spelling words = None
-
--- WHY IS ASKED of one file or two, and `--json` stands nowhere but at the end
-abbrev pub why_asked : List (List ℕ) → Option Asked
-why_asked words = let p = spelling_apart words in named_why p.1 p.0
+why_asked spelling words = None
 
 -- A PICTURE IS ASKED FOR of a recording and its certificate; behind the file that is to be made stand the words that say which steps are shown
-abbrev pub chart_asked : List (List ℕ) → Option Asked
-chart_asked (recording ∷ certificate ∷ picture ∷ steps) =
-    if has_option (recording ∷ certificate ∷ picture ∷ steps) then None else Some (Chart recording certificate picture steps)
-chart_asked words = None
+abbrev pub chart_asked : (force : Bool) → List (List ℕ) → Option Asked
+chart_asked force (recording ∷ certificate ∷ picture ∷ steps) =
+    if has_option (recording ∷ certificate ∷ picture ∷ steps) then None else Some (Chart recording certificate picture steps force)
+chart_asked force words = None
 
-abbrev pub taken : Option Takes → List (List ℕ) → Option Asked
-taken None words = None
-taken (Some (shapes.Nothing command)) words = bare_asked command words
-taken (Some (shapes.One command)) words = one_asked command words
-taken (Some (shapes.Two command)) words = two_asked command words
-taken (Some shapes.Pieces) words = join_asked words
-taken (Some shapes.Station) words = station_asked words
-taken (Some (shapes.View view)) words = view_asked view words
-taken (Some shapes.PerhapsTwo) words = why_asked words
-taken (Some shapes.Picture) words = chart_asked words
+-- the commands whose lines are told in JSON where `--json` stands behind them
+abbrev pub takes_json : Takes → Bool
+takes_json (shapes.View view) = true
+takes_json shapes.PerhapsTwo = true
+takes_json takes = false
+
+-- those that make a file, which replaces one that stands where `--force` stands behind them
+abbrev pub makes_file : TwoWords → Bool
+makes_file Check = false
+makes_file Live = false
+makes_file command = true
+
+abbrev pub takes_force : Takes → Bool
+takes_force (shapes.Two command) = makes_file command
+takes_force shapes.Pieces = true
+takes_force shapes.Picture = true
+takes_force takes = false
+
+-- what may stand once, or not at all
+abbrev pub most : Bool → ℕ
+most true = 1
+most false = 0
+
+-- A WORD `-` IS STANDARD INPUT, which is read once; a station reads its lines there
+abbrev pub reads_lines : Takes → Bool
+reads_lines shapes.Station = true
+reads_lines takes = false
+
+-- each option stands once at most, where the command takes it, and standard input is read once
+abbrev pub are_taken : Takes → Behind → Bool
+are_taken takes b =
+    nat_le b.json (most (takes_json takes))
+    && (nat_le b.force (most (takes_force takes)) && nat_le (times (codes "-") b.names) (most (not (reads_lines takes))))
+
+abbrev pub taken : Takes → Spelling → (force : Bool) → List (List ℕ) → Option Asked
+taken (shapes.Nothing command) spelling force names = bare_asked command names
+taken (shapes.One command) spelling force names = one_asked command names
+taken (shapes.Two command) spelling force names = two_asked command force names
+taken shapes.Pieces spelling force names = join_asked force names
+taken shapes.Station spelling force names = station_asked names
+taken (shapes.View view) spelling force names = view_asked view spelling names
+taken shapes.PerhapsTwo spelling force names = why_asked spelling names
+taken shapes.Picture spelling force names = chart_asked force names
+
+-- what the words behind a command ask for
+abbrev pub asked_behind : Option Takes → Behind → Option Asked
+asked_behind None b = None
+asked_behind (Some takes) b = if are_taken takes b then taken takes (spelling_by b.json) (not (b.force == 0)) b.names else None
+
+-- a command line: the command that it names, if it names one, and the words behind that
+pub record CommandLine : Type 0 where
+  pub command : Option (List ℕ)
+  pub behind : Behind
+
+-- of words, the program's name first
+abbrev pub line_of : List (List ℕ) → CommandLine
+line_of (program ∷ name ∷ words) = record { command = Some name; behind = behind_of words }
+line_of words = record { command = None; behind = behind_of [] }
+
+abbrev pub asked_by_name : Option (List ℕ) → Behind → Option Asked
+asked_by_name None b = Some Trial
+asked_by_name (Some name) b = asked_behind (takes_named name) b
 
 -- WHAT WORDS ASK FOR, the program's name first; other words ask for help, or break the usage
 abbrev pub asked : List (List ℕ) → Option Asked
-asked (program ∷ name ∷ words) = taken (takes_named name) words
-asked words = Some Trial
+asked words = let line = line_of words in asked_by_name line.command line.behind
 
 -- `--help`, or `-h` and more; `--version`, or `-V` and more
 abbrev pub is_short : (letter : ℕ) → List ℕ → Bool
@@ -217,30 +288,36 @@ is_help word = bytes_eq word (codes "--help") || is_short 104 word
 abbrev pub is_version : List ℕ → Bool
 is_version word = bytes_eq word (codes "--version") || is_short 86 word
 
--- behind a command that takes so many words the help is asked for, before a word that it does not take
-abbrev pub helps_behind : (most : ℕ) → List (List ℕ) → Bool
-helps_behind most [] = false
-helps_behind most (word ∷ words) = is_help word || (if (most == 0) || is_option word then false else helps_behind (most - 1) words)
+-- of an option that may stand so often behind a command, how often it may stand behind this word
+abbrev pub left_of : (option word : List ℕ) → (left : ℕ) → ℕ
+left_of option word left = if bytes_eq word option then left - 1 else left
 
--- behind one that takes `--json` too, this may stand once before
-abbrev pub helps_within : (most : ℕ) → (json : Bool) → List (List ℕ) → Bool
-helps_within most json [] = false
-helps_within most json (word ∷ words) =
+-- a word is an option that may stand no more, or no option that the command takes, or one name too many
+abbrev pub is_refused : (names json force : ℕ) → List ℕ → Bool
+is_refused names json force word =
+    if bytes_eq word (codes "--json") then json == 0
+    else if bytes_eq word (codes "--force") then force == 0
+    else (names == 0) || is_option word
+
+-- behind a command that takes so many names, and its options so often, the help is asked for, before a word that it does not take
+abbrev pub helps_behind : (names json force : ℕ) → List (List ℕ) → Bool
+helps_behind names json force [] = false
+helps_behind names json force (word ∷ words) =
     is_help word
-    || (if bytes_eq word (codes "--json")
-    then (if json then false else helps_within most true words)
-    else if (most == 0) || is_option word then false else helps_within (most - 1) json words)
+    || (if is_refused names json force word then false
+    else helps_behind (if is_choice word then names else names - 1) (left_of (codes "--json") word json) (left_of (codes "--force") word force) words)
+
+-- how many names a command takes at most, of so many words
+abbrev pub most_names : Takes → (words : ℕ) → ℕ
+most_names (shapes.Nothing command) words = 0
+most_names (shapes.One command) words = 1
+most_names (shapes.Two command) words = 2
+most_names shapes.PerhapsTwo words = 2
+most_names takes words = words
 
 abbrev pub helps : Option Takes → List (List ℕ) → Bool
 helps None words = false
-helps (Some (shapes.Nothing command)) words = helps_behind 0 words
-helps (Some (shapes.One command)) words = helps_behind 1 words
-helps (Some (shapes.Two command)) words = helps_behind 2 words
-helps (Some shapes.Pieces) words = helps_behind (length words) words
-helps (Some shapes.Station) words = helps_behind (length words) words
-helps (Some (shapes.View view)) words = helps_within (length words) false words
-helps (Some shapes.PerhapsTwo) words = helps_within 2 false words
-helps (Some shapes.Picture) words = helps_behind (length words) words
+helps (Some takes) words = helps_behind (most_names takes (length words)) (most (takes_json takes)) (most (takes_force takes)) words
 
 -- `help` stands alone, or before the name of a command or itself
 abbrev pub is_topic : List (List ℕ) → Bool

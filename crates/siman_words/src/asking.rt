@@ -1,7 +1,7 @@
 //! Reading words by the table of commands: the task that they ask for.
 
-ghost use Rattle.std.specs.Prelude.{◌≡◌, map, option_map};
-ghost use Rattle.siman_words.specs.Words.{asked_by, is_option, takes_of, takes_named, bare_asked, one_asked, two_asked, taken, asked, last_apart, has_option, is_form_word, form_named, form_apart, are_names, pieces_asked, join_asked, anyone_apart, station_named, station_asked, spelling_apart, view_asked, named_why, why_asked, chart_asked};
+ghost use Rattle.std.specs.Prelude.{◌≡◌, ◌≤◌, length, map, option_map};
+ghost use Rattle.siman_words.specs.Words.{asked_by, is_option, takes_of, takes_named, bare_asked, one_asked, two_asked, taken, last_apart, has_option, is_form_word, form_named, form_apart, are_names, fewest_pieces, pieces_asked, join_asked, anyone_apart, station_named, station_asked, view_asked, why_asked, chart_asked};
 
 use crate::commands::{
     JoinForm, NoWord, OneWord, StationWords, Takes, Task, TwoWords, ViewWord, rows,
@@ -56,12 +56,12 @@ fn one_word<S: AsStr>(command: OneWord, words: &[S]) -> Option<Task<'_, S>>
     }
 }
 
-fn two_words<S: AsStr>(command: TwoWords, words: &[S]) -> Option<Task<'_, S>>
-    ensures { option_map (asked_by S.text) result ≡ two_asked command (map S.text words.now) }
+fn two_words<S: AsStr>(command: TwoWords, force: bool, words: &[S]) -> Option<Task<'_, S>>
+    ensures { option_map (asked_by S.text) result ≡ two_asked command force (map S.text words.now) }
 {
     match words {
         [first, second] if !is_option(first.as_str()) && !is_option(second.as_str()) => {
-            Some(Task::Two(command, first.as_str(), second.as_str()))
+            Some(Task::Two(command, first.as_str(), second.as_str(), force))
         }
         _ => None,
     }
@@ -140,22 +140,34 @@ fn are_names<S: AsStr>(words: &[S]) -> bool
     true
 }
 
-/// Pieces and the file to be made of them, at least one piece.
-fn pieces<S: AsStr>(form: Option<JoinForm>, words: &[S]) -> Option<Task<'_, S>>
-    ensures { option_map (asked_by S.text) result ≡ pieces_asked form (last_apart (map S.text words.now)) }
+/// How many pieces are joined at least in a form that words ask for, or in that of the pieces.
+fn fewest_pieces(form: Option<JoinForm>) -> usize
+    ensures { result ≡ fewest_pieces form }
+{
+    match form {
+        None => 2,
+        Some(_) => 1,
+    }
+}
+
+/// Pieces and the file to be made of them, where there are enough pieces.
+fn pieces<S: AsStr>(form: Option<JoinForm>, force: bool, words: &[S]) -> Option<Task<'_, S>>
+    ensures { option_map (asked_by S.text) result ≡ pieces_asked form force (last_apart (map S.text words.now)) }
 {
     match last_apart(words) {
-        Some((pieces, made)) if !pieces.is_empty() => Some(Task::Join(pieces, made, form)),
+        Some((pieces, made)) if pieces.len() >= fewest_pieces(form) => {
+            Some(Task::Join(pieces, made, form, force))
+        }
         _ => None,
     }
 }
 
-fn join_words<S: AsStr>(words: &[S]) -> Option<Task<'_, S>>
-    ensures { option_map (asked_by S.text) result ≡ join_asked (map S.text words.now) }
+fn join_words<S: AsStr>(force: bool, words: &[S]) -> Option<Task<'_, S>>
+    ensures { option_map (asked_by S.text) result ≡ join_asked force (map S.text words.now) }
 {
     let (names, form) = form_apart(words);
     if are_names(names) {
-        return pieces(form, names);
+        return pieces(form, force, names);
     }
     None
 }
@@ -199,34 +211,20 @@ fn station_words<S: AsStr>(words: &[S]) -> Option<Task<'_, S>>
     named_station(anyone, names)
 }
 
-/// The words before `--json`, where it stands last, and how the lines are spelled then.
-fn spelling_apart<S: AsStr>(words: &[S]) -> (&[S], Spelling)
-    ensures { (map S.text result.0.now, result.1) ≡ spelling_apart (map S.text words.now) }
-{
-    match last_apart(words) {
-        Some((before, last)) if last == "--json" => (before, Spelling::Json),
-        _ => (words, Spelling::Text),
-    }
-}
-
-fn view_words<S: AsStr>(view: ViewWord, words: &[S]) -> Option<Task<'_, S>>
-    ensures { option_map (asked_by S.text) result ≡ view_asked view (map S.text words.now) }
+fn view_words<S: AsStr>(view: ViewWord, spelling: Spelling, words: &[S]) -> Option<Task<'_, S>>
+    ensures { option_map (asked_by S.text) result ≡ view_asked view spelling (map S.text words.now) }
 {
     match words {
-        [] => None,
-        [recording, rest @ ..] => {
-            let (filters, spelling) = spelling_apart(rest);
-            if is_option(recording.as_str()) || has_option(filters) {
-                return None;
-            }
+        [recording, filters @ ..] if !is_option(recording.as_str()) && !has_option(filters) => {
             Some(Task::View(view, recording.as_str(), filters, spelling))
         }
+        _ => None,
     }
 }
 
 /// The question why, of a recording or of one with a certificate.
-fn named_why<S: AsStr>(spelling: Spelling, names: &[S]) -> Option<Task<'_, S>>
-    ensures { option_map (asked_by S.text) result ≡ named_why spelling (map S.text names.now) }
+fn why_words<S: AsStr>(spelling: Spelling, names: &[S]) -> Option<Task<'_, S>>
+    ensures { option_map (asked_by S.text) result ≡ why_asked spelling (map S.text names.now) }
 {
     match names {
         [recording] if !is_option(recording.as_str()) => {
@@ -241,17 +239,10 @@ fn named_why<S: AsStr>(spelling: Spelling, names: &[S]) -> Option<Task<'_, S>>
     }
 }
 
-fn why_words<S: AsStr>(words: &[S]) -> Option<Task<'_, S>>
-    ensures { option_map (asked_by S.text) result ≡ why_asked (map S.text words.now) }
-{
-    let (names, spelling) = spelling_apart(words);
-    named_why(spelling, names)
-}
-
 /// The picture of a recording in the order of a certificate, and the words that say which steps are
 /// shown.
-fn chart_words<S: AsStr>(words: &[S]) -> Option<Task<'_, S>>
-    ensures { option_map (asked_by S.text) result ≡ chart_asked (map S.text words.now) }
+fn chart_words<S: AsStr>(force: bool, words: &[S]) -> Option<Task<'_, S>>
+    ensures { option_map (asked_by S.text) result ≡ chart_asked force (map S.text words.now) }
 {
     match words {
         [recording, certificate, picture, steps @ ..] if !has_option(words) => {
@@ -260,35 +251,30 @@ fn chart_words<S: AsStr>(words: &[S]) -> Option<Task<'_, S>>
                 certificate.as_str(),
                 picture.as_str(),
                 steps,
+                force,
             ))
         }
         _ => None,
     }
 }
 
-/// The task of a command, where it takes just these words.
-fn taken<S: AsStr>(takes: Option<Takes>, words: &[S]) -> Option<Task<'_, S>>
-    ensures { option_map (asked_by S.text) result ≡ taken takes (map S.text words.now) }
+/// The task of a command that takes just these names.
+pub(crate) fn taken<S: AsStr>(
+    takes: Takes,
+    spelling: Spelling,
+    force: bool,
+    names: &[S],
+) -> Option<Task<'_, S>>
+    ensures { option_map (asked_by S.text) result ≡ taken takes spelling force (map S.text names.now) }
 {
     match takes {
-        None => None,
-        Some(Takes::Nothing(command)) => no_word(command, words),
-        Some(Takes::One(command)) => one_word(command, words),
-        Some(Takes::Two(command)) => two_words(command, words),
-        Some(Takes::Pieces) => join_words(words),
-        Some(Takes::Station) => station_words(words),
-        Some(Takes::View(view)) => view_words(view, words),
-        Some(Takes::PerhapsTwo) => why_words(words),
-        Some(Takes::Picture) => chart_words(words),
-    }
-}
-
-/// The task that words ask for by the table of commands, the program's name first.
-pub(crate) fn task_of<S: AsStr>(words: &[S]) -> Option<Task<'_, S>>
-    ensures { option_map (asked_by S.text) result ≡ asked (map S.text words.now) }
-{
-    match words {
-        [] | [_] => Some(Task::Trial),
-        [_, name, rest @ ..] => taken(takes_named(name.as_str()), rest),
+        Takes::Nothing(command) => no_word(command, names),
+        Takes::One(command) => one_word(command, names),
+        Takes::Two(command) => two_words(command, force, names),
+        Takes::Pieces => join_words(force, names),
+        Takes::Station => station_words(names),
+        Takes::View(view) => view_words(view, spelling, names),
+        Takes::PerhapsTwo => why_words(spelling, names),
+        Takes::Picture => chart_words(force, names),
     }
 }

@@ -1,7 +1,7 @@
 //! The table of commands, from which the reading of words, usage and help follow.
 
 ghost use Rattle.std.specs.Prelude.{ℕ, List, ◌≡◌, map};
-ghost use Rattle.siman_words.specs.Words.{takes_of, takes_named};
+ghost use Rattle.siman_words.specs.Words.{takes_of, takes_named, makes_file, takes_json, takes_force};
 
 use crate::rows::{Often, Row, Word};
 use siman_texts::Spelling;
@@ -86,11 +86,12 @@ pub enum Task<'a, S> {
     Bare(NoWord),
     /// A command and its word.
     One(OneWord, &'a str),
-    /// A command and its two words.
-    Two(TwoWords, &'a str, &'a str),
-    /// The pieces of an exercise are joined: their files, the file that is made of them, and the form
-    /// that it is to have, where the words say one.
-    Join(&'a [S], &'a str, Option<JoinForm>),
+    /// A command, its two words, and whether a file that stands under the second is replaced, where
+    /// one is made.
+    Two(TwoWords, &'a str, &'a str, bool),
+    /// The pieces of an exercise are joined: their files, the file that is made of them, the form that
+    /// it is to have, where the words say one, and whether a file that stands there is replaced.
+    Join(&'a [S], &'a str, Option<JoinForm>, bool),
     /// A station of a script is played over the network, by the lines of standard input.
     Station(StationWords<'a, S>),
     /// A view: the file of the recording, the words that choose among the lines, and how these are
@@ -100,8 +101,8 @@ pub enum Task<'a, S> {
     /// one, and how the lines are spelled.
     Why(&'a str, Option<&'a str>, Spelling),
     /// The picture of an exercise: the file of the recording, that of its certificate, the file that is
-    /// made, and the words that say which steps are shown.
-    Chart(&'a str, &'a str, &'a str, &'a [S]),
+    /// made, the words that say which steps are shown, and whether a file that stands there is replaced.
+    Chart(&'a str, &'a str, &'a str, &'a [S], bool),
 }
 
 /// What a command takes, and so what it is.
@@ -115,13 +116,46 @@ pub enum Takes {
     /// A file, an address, a file, where a socket is, where at least one peer is, and perhaps
     /// `from=any`.
     Station,
-    /// The file of a recording, words that choose, and perhaps `--json`.
+    /// The file of a recording, and words that choose.
     View(ViewWord),
-    /// The file of a recording, perhaps that of a certificate, and perhaps `--json`.
+    /// The file of a recording, and perhaps that of a certificate.
     PerhapsTwo,
     /// The file of a recording, that of a certificate, the file that is made, and words that say which
     /// steps are shown.
     Picture,
+}
+
+impl TwoWords {
+    /// Whether the command makes the file of its second word, in the place of one that stands there if
+    /// that is asked for.
+    fn makes_file(self) -> bool
+        ensures { result ≡ makes_file self }
+    {
+        match self {
+            TwoWords::Check | TwoWords::Live => false,
+            TwoWords::Audit | TwoWords::World | TwoWords::Convert | TwoWords::Mend => true,
+        }
+    }
+}
+
+impl Takes {
+    /// Whether `--json` may stand behind the command.
+    pub(crate) fn json(self) -> bool
+        ensures { result ≡ takes_json self }
+    {
+        matches!(self, Takes::View(_) | Takes::PerhapsTwo)
+    }
+
+    /// Whether `--force` may stand behind the command.
+    pub(crate) fn force(self) -> bool
+        ensures { result ≡ takes_force self }
+    {
+        match self {
+            Takes::Two(command) => command.makes_file(),
+            Takes::Pieces | Takes::Picture => true,
+            _ => false,
+        }
+    }
 }
 
 /// The table of the commands, in the order of the help.
@@ -187,7 +221,7 @@ pub(crate) const ROWS: [Row; 15] = [
             Word {
                 name: "CERT",
                 often: Often::Once,
-                about: "The file of the certificate, which is made anew where there is one",
+                about: "The file of the certificate; it must not be there yet, or be empty",
             },
         ],
     },
@@ -205,7 +239,7 @@ pub(crate) const ROWS: [Row; 15] = [
             Word {
                 name: "REC",
                 often: Often::Once,
-                about: "The file of the recording, which is made anew",
+                about: "The file of the recording; it must not be there yet, or be empty",
             },
         ],
     },
@@ -274,7 +308,7 @@ pub(crate) const ROWS: [Row; 15] = [
             Word {
                 name: "NEW",
                 often: Often::Once,
-                about: "The file of the same recording in the second format, which is made anew",
+                about: "The file of the same recording in the second format; it must not be there yet, or be empty",
             },
         ],
     },
@@ -292,7 +326,7 @@ pub(crate) const ROWS: [Row; 15] = [
             Word {
                 name: "NEW",
                 often: Often::Once,
-                about: "The file of what stands whole of it, which is made anew",
+                about: "The file of what stands whole of it; it must not be there yet, or be empty",
             },
         ],
     },
@@ -310,7 +344,7 @@ pub(crate) const ROWS: [Row; 15] = [
             Word {
                 name: "NEW",
                 often: Often::Once,
-                about: "The file of the joined recording, which is made anew. Behind it form=open or form=closed may stand: the form that it is to have",
+                about: "The file of the joined recording; it must not be there yet, or be empty. Behind it form=open or form=closed may stand: the form that it is to have. Of one piece a recording is made in such a form alone",
             },
         ],
     },
@@ -387,7 +421,7 @@ pub(crate) const ROWS: [Row; 15] = [
             Word {
                 name: "SVG",
                 often: Often::Once,
-                about: "The file of the picture, in SVG, which is made anew",
+                about: "The file of the picture, in SVG; it must not be there yet, or be empty",
             },
             Word {
                 name: "STEP",

@@ -1,9 +1,10 @@
 //! Whether words that ask for no task ask for help, by the table of commands.
 
-ghost use Rattle.std.specs.Prelude.{◌≡◌, false, length, map};
-ghost use Rattle.siman_words.specs.Words.{is_short, is_help, is_version, helps_behind, helps_within, is_topic, helps, asks_help};
+ghost use Rattle.std.specs.Prelude.{◌≡◌, length, map};
+ghost use Rattle.siman_words.specs.Words.{is_short, is_help, is_version, left_of, is_refused, helps_behind, most_names, is_topic, helps, asks_help};
 
 use crate::asking::{is_option, takes_named};
+use crate::behind::{is_choice, most};
 use crate::commands::Takes;
 use std::convert::AsStr;
 
@@ -27,54 +28,63 @@ fn is_version(word: &str) -> bool
     word == "--version" || is_short(b'V', word)
 }
 
-/// Whether words behind a command that takes so many ask for its help, before one that it does not
-/// take.
-fn helps_behind<S: AsStr>(most: usize, words: &[S]) -> bool
-    ensures { result ≡ helps_behind most (map S.text words.now) }
+/// How often an option may stand behind a word, which may be it.
+fn left_of(option: &str, word: &str, left: usize) -> usize
+    ensures { result ≡ left_of option.now word.now left }
 {
-    let mut left = most;
+    if word == option {
+        left.saturating_sub(1)
+    } else {
+        left
+    }
+}
+
+/// Whether a word is one that may stand no more: an option, or a name.
+fn is_refused(names: usize, json: usize, force: usize, word: &str) -> bool
+    ensures { result ≡ is_refused names json force word.now }
+{
+    match word {
+        "--json" => json == 0,
+        "--force" => force == 0,
+        _ => names == 0 || is_option(word),
+    }
+}
+
+/// Whether words behind a command that takes so many names, and its options so often, ask for its
+/// help, before a word that it does not take.
+fn helps_behind<S: AsStr>(names: usize, json: usize, force: usize, words: &[S]) -> bool
+    ensures { result ≡ helps_behind names json force (map S.text words.now) }
+{
+    let (mut names_left, mut json_left, mut force_left) = (names, json, force);
     let mut others = words;
     while let [word, rest @ ..] = others {
         let word = word.as_str();
         if is_help(word) {
             return true;
         }
-        if left == 0 || is_option(word) {
+        if is_refused(names_left, json_left, force_left, word) {
             return false;
         }
-        left -= 1;
+        if !is_choice(word) {
+            names_left = names_left.saturating_sub(1);
+        }
+        json_left = left_of("--json", word, json_left);
+        force_left = left_of("--force", word, force_left);
         others = rest;
     }
     false
 }
 
-/// Whether words behind a command that takes so many, and `--json`, ask for its help, before one that
-/// it does not take; `--json` may stand once before.
-fn helps_within<S: AsStr>(most: usize, words: &[S]) -> bool
-    ensures { result ≡ helps_within most false (map S.text words.now) }
+/// How many names a command takes at most, of so many words.
+fn most_names(takes: Takes, words: usize) -> usize
+    ensures { result ≡ most_names takes words }
 {
-    let mut left = most;
-    let mut json = false;
-    let mut others = words;
-    while let [word, rest @ ..] = others {
-        let word = word.as_str();
-        if is_help(word) {
-            return true;
-        }
-        if word == "--json" {
-            if json {
-                return false;
-            }
-            json = true;
-        } else {
-            if left == 0 || is_option(word) {
-                return false;
-            }
-            left -= 1;
-        }
-        others = rest;
+    match takes {
+        Takes::Nothing(_) => 0,
+        Takes::One(_) => 1,
+        Takes::Two(_) | Takes::PerhapsTwo => 2,
+        Takes::Pieces | Takes::Station | Takes::View(_) | Takes::Picture => words,
     }
-    false
 }
 
 fn helps<S: AsStr>(takes: Option<Takes>, words: &[S]) -> bool
@@ -82,12 +92,10 @@ fn helps<S: AsStr>(takes: Option<Takes>, words: &[S]) -> bool
 {
     match takes {
         None => false,
-        Some(Takes::Nothing(_)) => helps_behind(0, words),
-        Some(Takes::One(_)) => helps_behind(1, words),
-        Some(Takes::Two(_)) => helps_behind(2, words),
-        Some(Takes::Pieces | Takes::Station | Takes::Picture) => helps_behind(words.len(), words),
-        Some(Takes::View(_)) => helps_within(words.len(), words),
-        Some(Takes::PerhapsTwo) => helps_within(2, words),
+        Some(takes) => {
+            let names = most_names(takes, words.len());
+            helps_behind(names, most(takes.json()), most(takes.force()), words)
+        }
     }
 }
 

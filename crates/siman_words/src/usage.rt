@@ -1,6 +1,6 @@
 //! The usage of the program and its help, as `clap` tells them.
 
-use crate::commands::{Takes, ViewWord, rows};
+use crate::commands::{Takes, TwoWords, ViewWord, rows};
 use crate::rows::{Often, Row, Word};
 use clap::error::ErrorKind;
 use clap::{Arg, ArgAction, Command, Error};
@@ -13,6 +13,11 @@ const VERSION: &str = "0.1.0";
 /// What the program does, for the help.
 const ABOUT: &str =
     "Shows Simulation Management PDUs of DIS (IEEE 1278.1-2012), and runs, shows, searches and checks recorded exercises. With no command, a script is read from standard input, run, searched for an order and checked";
+
+/// What `--json` and `--force` do, for the help.
+const JSON: &str = "Tells the lines in JSON, one object a line";
+
+const FORCE: &str = "Replaces the file that stands under the name of the one that is made";
 
 /// What the exit statuses tell, for the help, and the example of no words; those of the table follow.
 const STATUSES: &str = "Exit status:
@@ -37,12 +42,12 @@ fn argument<'a>(alloc: Global, word: &'static Word) -> Arg<'a> {
     }
 }
 
-/// `--json`, which views take, and the question why.
-fn json<'a>(alloc: Global) -> Arg<'a> {
-    Arg::new(alloc, "json")
-        .long("json")
+/// An option that stands once at most.
+fn option<'a>(alloc: Global, name: &'static str, about: &'static str) -> Arg<'a> {
+    Arg::new(alloc, name)
+        .long(name)
         .action(ArgAction::SetTrue)
-        .help("As the last word: the lines are told in JSON, one object a line")
+        .help(about)
 }
 
 fn arguments<'a>(alloc: Global, row: &'static Row) -> Result<Vec<Arg<'a>>, AllocError> {
@@ -50,8 +55,11 @@ fn arguments<'a>(alloc: Global, row: &'static Row) -> Result<Vec<Arg<'a>>, Alloc
     for word in row.words {
         arguments.push(argument(alloc, word))?;
     }
-    if let Takes::View(_) | Takes::PerhapsTwo = row.takes {
-        arguments.push(json(alloc))?;
+    if row.takes.json() {
+        arguments.push(option(alloc, "json", JSON))?;
+    }
+    if row.takes.force() {
+        arguments.push(option(alloc, "force", FORCE))?;
     }
     Ok(arguments)
 }
@@ -59,15 +67,19 @@ fn arguments<'a>(alloc: Global, row: &'static Row) -> Result<Vec<Arg<'a>>, Alloc
 /// The usage of a command, where its words do not tell it as it is.
 fn usage_told(takes: Takes) -> Option<&'static str> {
     match takes {
-        Takes::Pieces => Some("siman join <PIECE>... <NEW> [form=open|form=closed]"),
+        Takes::Two(TwoWords::Audit) => Some("siman audit <REC> <CERT> [--force]"),
+        Takes::Two(TwoWords::World) => Some("siman world <SCRIPT> <REC> [--force]"),
+        Takes::Two(TwoWords::Convert) => Some("siman convert <OLD> <NEW> [--force]"),
+        Takes::Two(TwoWords::Mend) => Some("siman mend <OLD> <NEW> [--force]"),
+        Takes::Pieces => Some("siman join <PIECE>... <NEW> [form=open|form=closed] [--force]"),
         Takes::Station => {
             Some("siman station <SETUP> <ADDRESS> <REC> <BIND> <PEER>... [from=any]")
         }
         Takes::View(ViewWord::Review) => Some("siman review <REC> [FILTER]... [--json]"),
         Takes::View(ViewWord::Log) => Some("siman log <REC> [FILTER]... [--json]"),
         Takes::PerhapsTwo => Some("siman why <REC> [CERT] [--json]"),
-        Takes::Picture => Some("siman chart <REC> <CERT> <SVG> [from=STEP] [to=STEP]"),
-        Takes::Nothing(_) | Takes::One(_) | Takes::Two(_) => None,
+        Takes::Picture => { Some("siman chart <REC> <CERT> <SVG> [from=STEP] [to=STEP] [--force]") }
+        Takes::Two(TwoWords::Check | TwoWords::Live) | Takes::Nothing(_) | Takes::One(_) => None,
     }
 }
 
@@ -118,18 +130,33 @@ fn siman<'a>(alloc: Global, ending: &'a str) -> Result<Command<'a>, AllocError> 
 const AT_TERMINAL: &str =
     "no command is named, and standard input is a terminal: a script is read from a file or a pipe";
 
+/// What is wrong with words behind `join` that name enough files for the usage.
+fn join_complaint<S: AsStr>(words: &[S]) -> &'static str {
+    if words.iter().any(|word| word.as_str().starts_with("form=")) {
+        "the form is 'form=open' or 'form=closed', and stands behind <NEW>"
+    } else {
+        "one piece alone is no exercise to join: name another one, or 'form=open' or 'form=closed' behind <NEW>"
+    }
+}
+
 /// What is wrong with words that ask for no task, and that `clap` takes.
 fn complaint<S: AsStr>(words: &[S]) -> &'static str {
     if words.iter().any(|word| word.as_str() == "--") {
         // `--` ends the options elsewhere; here no word needs it.
         return "unexpected argument '--' found";
     }
+    let twice = words.iter().filter(|word| word.as_str() == "-").count() > 1;
     match words {
-        [_, name, ..] if name.as_str() == "join" => {
-            "the form is 'form=open' or 'form=closed', and stands as the last word"
+        _ if twice => "standard input, '-', can be read once",
+        [_, name, ..] if name.as_str() == "join" => join_complaint(words),
+        [_, name, rest @ ..] if name.as_str() == "station" => {
+            if rest.iter().any(|word| word.as_str() == "-") {
+                "standard input has the lines of the station: '-' names no file here"
+            } else {
+                "a peer stands before 'from=any'"
+            }
         }
-        [_, name, ..] if name.as_str() == "station" => "a peer stands before 'from=any'",
-        _ => "'--json' stands as the last word",
+        _ => "these words ask for nothing",
     }
 }
 
@@ -148,10 +175,44 @@ fn told<'a, S: AsStr>(
     }
 }
 
-/// The help that words ask for, or how they break the usage; with no words, how it is broken where
-/// standard input is a terminal.
-pub(crate) fn usage_of<S: AsStr>(alloc: Global, words: Option<&[S]>) -> Result<Error, AllocError> {
+/// Where a tip of `clap` begins that says how an option that it does not know is passed as a value,
+/// behind `--`, which no command takes.
+const WRONG_TIP: &str = "\n  tip: to pass '";
+
+/// A text without that tip, and the empty line before it where it is the only one.
+fn without_tip(alloc: Global, text: &str) -> Result<String, AllocError> {
+    let Some((before, tip)) = text.split_once(WRONG_TIP) else {
+        return String::from_str(alloc, text);
+    };
+    let behind = match tip.split_once('\n') {
+        Some((_, behind)) => behind,
+        None => "",
+    };
+    let before = before.strip_suffix('\n').unwrap_or(before);
+    format!(in alloc; "{before}\n{behind}")
+}
+
+/// What is told of words, or of none.
+fn text_of<S: AsStr>(alloc: Global, words: Option<&[S]>) -> Result<String, AllocError> {
     let ending = ending(alloc)?;
     let mut siman = siman(alloc, &ending)?;
-    told(&mut siman, words)
+    let error = told(&mut siman, words)?;
+    if error.kind() == ErrorKind::OutOfMemory {
+        return Err(AllocError);
+    }
+    let text = format!(in alloc; "{error}")?;
+    without_tip(alloc, &text)
+}
+
+/// The help that words ask for which ask for no task, the program's name first, or how they break
+/// the usage.
+pub fn usage_text<S: AsStr>(alloc: Global, words: &[S]) -> Result<String, AllocError> {
+    text_of(alloc, Some(words))
+}
+
+/// How no words break the usage where standard input is a terminal, on which nobody means to write
+/// a script. The layer above asks whether it is one; of [`read_words`](crate::read_words) no words are
+/// a task.
+pub fn terminal_text(alloc: Global) -> Result<String, AllocError> {
+    text_of::<&str>(alloc, None)
 }

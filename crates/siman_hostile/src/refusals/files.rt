@@ -5,7 +5,7 @@ use siman_refusals::{Call, RECORDING, Said, refused, usual};
 use std::alloc::Global;
 
 /// The certificate of the order in which [`RECORDING`] has its entries.
-const STEPS: [u8; 44] = [
+pub(crate) const STEPS: [u8; 44] = [
     68, 83, 67, 84, 48, 48, 48, 49, 0, 0, 0, 4, 0, 0, 0, 0, 255, 255, 255, 255, 0, 0, 0, 1, 0, 0,
     0, 0, 0, 0, 0, 2, 0, 0, 0, 1, 0, 0, 0, 3, 0, 0, 0, 2,
 ];

@@ -1,5 +1,5 @@
 -- A recording that is none, a certificate that could not be read, or both judged.
-use Rattle.std.proofs.Common.{map, string_bytes, inl, inr}
+use Rattle.std.proofs.Common.{map, inl, inr}
 use Rattle.exercise_check.specs.Certificate.{certificate_at}
 use Rattle.exercise_recording.specs.Reading.{recording_at}
 use Rattle.siman_answers.specs.declared.limits.TheConstants.{LARGEST_CERTIFICATE, LARGEST_RECORDING}
@@ -10,7 +10,7 @@ use Rattle.siman_charts.proofs.chart.chart_bytes.Goals as goal
 pub returns-in_err-log : goal.returns-in_err-log
 returns-in_err-log g c =
     let recorded = recording_at LARGEST_RECORDING c.args.bytes.now in
-    let words = map string_bytes c.args.asked.0.now in
+    let words = map (λ word. word.now) c.args.asked.0.now in
     of_any (λ text. Charts words c.args.asked.1 recorded (certificate_at LARGEST_CERTIFICATE text) c.from_residual.result) (g.C.Read.remaining c.args.certificate)
     (λ text. at_fault (Charts words c.args.asked.1 recorded (certificate_at LARGEST_CERTIFICATE text)) _ _ c.from_residual.ensures.1
     (inl (inl (unsearched recorded c.in_err-log.field-0.0 c.in_err-log.ensures.read))))
@@ -18,7 +18,7 @@ returns-in_err-log g c =
 pub returns-in_err-certificate : goal.returns-in_err-certificate
 returns-in_err-certificate g c =
     let recorded = recording_at LARGEST_RECORDING c.args.bytes.now in
-    let words = map string_bytes c.args.asked.0.now in
+    let words = map (λ word. word.now) c.args.asked.0.now in
     let read = c.in_err-certificate.ensures.read in
     let certified = certificate_at LARGEST_CERTIFICATE read.0 in (
       read.0,

@@ -1,5 +1,5 @@
 -- What is shown passes a limit, or a picture was drawn.
-use Rattle.std.proofs.Common.{Ok, Err, refl, map, string_bytes}
+use Rattle.std.proofs.Common.{Ok, Err, refl, map}
 use Rattle.siman_charts.specs.Chart.{IsCertified}
 use Rattle.siman_charts.proofs.Pictured.{uncharted}
 use Rattle.siman_charts.proofs.chart.shown.Goals as goal
@@ -9,7 +9,7 @@ returns-in-Err g c =
     let r = g.L.ExerciseLog.recording c.args.log.now in
     let steps = c.args.steps.now in
     let good : IsCertified (Ok r) (Ok steps) r steps = record { read = refl; certificate = refl; good = c.requires.good; holds = c.requires.holds } in
-    uncharted (map string_bytes c.args.asked.0.now) c.args.asked.1 r steps c.rows_in-rows.result c.in-Err.fault good c.requires.within c.rows_in-rows.ensures.shown
+    uncharted (map (λ word. word.now) c.args.asked.0.now) c.args.asked.1 r steps c.rows_in-rows.result c.in-Err.fault good c.requires.within c.rows_in-rows.ensures.shown
     c.in-Err.ensures.picture (Err c.of_chart.result) c.of_chart.ensures
 
 pub returns-in-Ok : goal.returns-in-Ok

@@ -19,7 +19,7 @@ returns-in_err-joined g c =
       opened.0 ++ read.0,
       adds_then _ _ _ opened.0 read.0 opened.1 read.1,
       All-append Held opened.0 read.0 opened.2 (read.2 (g.O.Outside.holds c.args.outside.now)),
-      at_fault (λ answered. JoinsPieces names c.args.new.now c.args.word (opened.0 ++ read.0) answered kept) fault c.from_residual-in_err-joined.result
+      at_fault (λ answered. JoinsPieces names c.args.force c.args.new.now c.args.word (opened.0 ++ read.0) answered kept) fault c.from_residual-in_err-joined.result
           c.from_residual-in_err-joined.ensures.1
           (inr (inl (pieces, opened.0, read.0, fault, opened.3, read.3, refl, refl, Keeps-refl (g.W.Write.contents c.args.out.now)))),
     )

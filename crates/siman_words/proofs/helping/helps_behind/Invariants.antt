@@ -4,7 +4,8 @@ use Rattle.siman_words.specs.Words.{helps_behind}
 use Rattle.siman_words.proofs.helping.helps_behind.Given as goal
 
 abbrev pub invariant-loop-others : goal.invariant-loop-others
-invariant-loop-others g l = helps_behind l.left (map g.S.AsStr.text l.others) ≡ helps_behind l.most (map g.S.AsStr.text l.words)
+invariant-loop-others g l =
+    helps_behind l.names_left l.json_left l.force_left (map g.S.AsStr.text l.others) ≡ helps_behind l.names l.json l.force (map g.S.AsStr.text l.words)
 
 abbrev pub decreases-loop-others : goal.decreases-loop-others
 decreases-loop-others g l = length l.others

@@ -1,6 +1,6 @@
 use Rattle.std.proofs.Common.{arith}
 use Rattle.std.proofs.lemmas.Grind.{common_steps}
-use Rattle.siman_words.proofs.asking.named_why.Goals as goal
+use Rattle.siman_words.proofs.asking.why_words.Goals as goal
 
 pub scale_in_slice-recording : goal.scale_in_slice-recording
 scale_in_slice-recording g c = grind (arith, common_steps)

@@ -1,2 +1,5 @@
 mod Texts
 pub mod Openings
+pub mod FormReasons
+pub mod Placed
+pub mod LineReasons

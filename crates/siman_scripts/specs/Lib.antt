@@ -4,3 +4,8 @@ pub mod Statement
 pub mod Draft
 pub mod Script
 pub mod Command
+pub mod Forms
+pub mod Nearest
+pub mod Words
+pub mod LineReason
+pub mod Reason

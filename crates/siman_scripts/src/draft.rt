@@ -4,6 +4,8 @@ ghost use Rattle.std.specs.Prelude.{◌≡◌, ◌<◌, ◌≤◌, length, posit
 ghost use Rattle.siman_scripts.specs.Draft.{DraftData, blank, is_at, index_of, last_address, after, wants_exercise, takes_outfits, takes_moves, Leaves, Finds};
 ghost use Rattle.siman_scripts.specs.Script.{is_whole, script_of};
 
+mod reasons;
+
 use crate::act::{Act, Move};
 use crate::line_fault::LineFault;
 use crate::part::{Part, takes_moves, takes_outfits, takes_stations, wants_exercise};

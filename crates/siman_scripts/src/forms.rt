@@ -35,14 +35,14 @@ pub fn address_of(word: &[u8]) -> Option<Address>
 }
 
 /// The value of a word `NAME=VALUE`.
-fn value_of<'a>(name: &[u8], word: &'a [u8]) -> Option<&'a [u8]>
+pub(crate) fn value_of<'a>(name: &[u8], word: &'a [u8]) -> Option<&'a [u8]>
     ensures { option_map (λ v. v.now) result ≡ value_of name.now word.now }
 {
     let (before, value) = split_once(word, b'=')?;
     if before == name { Some(value) } else { None }
 }
 
-fn state_of(word: &[u8]) -> Option<EntityState>
+pub(crate) fn state_of(word: &[u8]) -> Option<EntityState>
     ensures { result ≡ state_of word.now }
 {
     if word == b"stopped".as_slice() {
@@ -64,7 +64,7 @@ fn exercise(words: &[&[u8]]) -> Option<Statement>
 }
 
 /// The number of 32 bits in a word `NAME=NUMBER`.
-fn number_named(name: &[u8], word: &[u8]) -> Option<u32>
+pub(crate) fn number_named(name: &[u8], word: &[u8]) -> Option<u32>
     ensures { result ≡ number_named name.now word.now }
 {
     number_32(value_of(name, word)?)
@@ -220,7 +220,7 @@ fn form_of(alloc: Global, words: &[&[u8]]) -> Result<Option<Statement>, AllocErr
 }
 
 /// Whether a line is passed over: it is empty, or its first byte is `#`.
-fn is_passed_over(line: &[u8]) -> bool
+pub(crate) fn is_passed_over(line: &[u8]) -> bool
     ensures { result ≡ is_passed_over line.now }
 {
     match line {

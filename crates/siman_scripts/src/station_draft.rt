@@ -2,10 +2,12 @@
 
 ghost use Rattle.std.specs.Prelude.{◌≡◌, ◌++◌, ◌∷◌, [], Some, None, Ok, Err, true, OnOk};
 ghost use Rattle.exercise_model.specs.Station.{is_opening};
+ghost use Rattle.siman_scripts.specs.Reason.{opening_reason};
 ghost use Rattle.siman_scripts.specs.Draft.{new_station, is_at, last_number, opened_with, holding, knowing};
 
 use crate::line_fault::LineFault;
 use crate::statement::ManagerRules;
+use crate::why::Why;
 use crate::world_station::WorldStation;
 use dis_records::{Address, EntityState, FixedDatum};
 use exercise_model::{LARGEST_ENTITY, Station};
@@ -74,6 +76,17 @@ impl StationDraft {
         }
         self.opening.push((entity, state))?;
         Ok(())
+    }
+
+    /// Why it does not open with one more entity: the word of its line, from 0, and why.
+    pub fn opening_reason(&self, entity: u16, state: EntityState) -> Option<(usize, Why)>
+        ensures { result ≡ opening_reason entity state (Some self.now) }
+    {
+        if is_next(&self.opening, entity, state) {
+            None
+        } else {
+            Some((2, Why::EntityNotAbove(last_number(&self.opening))))
+        }
     }
 
     /// It holds one more fixed datum.

@@ -1,0 +1,16 @@
+-- The words of a line, each with its column (profile).
+use Rattle.std.specs.Prelude.{◌≡◌, ℕ, ◌+◌, ◌-◌, List, [], ◌∷◌, length, take, drop, map, All}
+use Rattle.siman_scripts.specs.Text.{words_of}
+
+-- words that stand in a row from this column on, each with the column of its first byte: one space stands between two of them
+abbrev pub placed_from : ℕ → List (List ℕ) → List (ℕ × List ℕ)
+placed_from column [] = []
+placed_from column (w ∷ ws) = (column, w) ∷ placed_from (column + length w + 1) ws
+
+-- THE WORDS OF A LINE WITH THEIR COLUMNS, which are counted in bytes from 1
+abbrev pub placed_words_of : List ℕ → List (ℕ × List ℕ)
+placed_words_of line = placed_from 1 (words_of line)
+
+-- the word stands at its column in the line
+abbrev pub StandsAt : List ℕ → ℕ × List ℕ → Type 0
+StandsAt line p = take (length p.1) (drop (p.0 - 1) line) ≡ p.1

@@ -1,23 +1,19 @@
 -- A line of a form has a reason exactly where it says nothing.
-use Rattle.std.proofs.Common.{◌≡◌, ℕ, ◌+◌, ◌≤◌, Bool, true, false, cond, nat_lt, nat_le, not, List, [], ◌∷◌, map, codes, Option, Some, None, refl, sym, ◌∙◌, ap, arith, suc, zero, lit≤}
+use Rattle.std.proofs.Common.{◌≡◌, ℕ, ◌+◌, ◌≤◌, Bool, true, false, cond, nat_le, List, [], ◌∷◌, map, codes, Option, Some, None, refl, sym, ◌∙◌, arith, suc, zero, lit≤}
 use Rattle.std.specs.List.{find}
-use Rattle.std.specs.Option.{option_map, option_or, option_and_then, is_some, is_none}
+use Rattle.std.specs.Option.{option_or, option_and_then, is_some, is_none}
 use Rattle.std.specs.Str.{bytes_eq}
 use Rattle.std.proofs.lemmas.Slice.Eq.{bytes_eq-Decides}
-use Rattle.std.proofs.lemmas.Grind.{common_steps}
 use Rattle.std.proofs.lemmas.Bool.Decides.{nat_tests}
 use Rattle.dis_records.specs.Address.{Pair}
 use Rattle.dis_records.specs.declared.datum.FixedDatum.{FixedDatum}
-use Rattle.dis_records.specs.declared.entity.EntityId.{EntityId}
 use Rattle.dis_records.specs.declared.entity_state.EntityState.{EntityState}
 use Rattle.siman_pdus.specs.declared.pdu.Body.{Body}
 use Rattle.siman_pdus.specs.declared.pdu.Body.TheVariants as bodies
 use Rattle.exercise_model.specs.Station.{is_entity}
-use Rattle.siman_scripts.specs.declared.act.Act.{Act}
-use Rattle.siman_scripts.specs.declared.act.Act.TheVariants.{Command, Deliver, Tick, Tell}
+use Rattle.siman_scripts.specs.declared.act.Act.TheVariants.{Command, Deliver, Tell}
 use Rattle.siman_scripts.specs.declared.form.Form.{Form}
 use Rattle.siman_scripts.specs.declared.form.Form.TheVariants as forms
-use Rattle.siman_scripts.specs.declared.form.Next.{Next}
 use Rattle.siman_scripts.specs.declared.form.Next.TheVariants.{Optional}
 use Rattle.siman_scripts.specs.declared.statement.ManagerRules.{ManagerRules}
 use Rattle.siman_scripts.specs.declared.statement.Statement.{Statement}

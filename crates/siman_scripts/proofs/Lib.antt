@@ -3,3 +3,4 @@ pub mod Openings
 pub mod FormReasons
 pub mod Placed
 pub mod LineReasons
+pub mod ScriptReasons

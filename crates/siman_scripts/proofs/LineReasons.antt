@@ -1,5 +1,5 @@
 -- A line by itself has a reason to be refused exactly where it says nothing.
-use Rattle.std.proofs.Common.{◌≡◌, ℕ, ◌+◌, Bool, true, false, cond, nat_lt, nat_le, not, ◌&&◌, suc, drop, List, [], ◌∷◌, length, map, Option, Some, None, refl, sym, ◌∙◌, arith}
+use Rattle.std.proofs.Common.{◌≡◌, ℕ, ◌+◌, Bool, true, false, cond, nat_lt, nat_le, not, ◌&&◌, suc, drop, List, [], ◌∷◌, length, Option, Some, None, refl, ◌∙◌, arith}
 use Rattle.std.specs.List.{position_or_len}
 use Rattle.std.specs.Option.{option_map, option_or, is_some, is_none}
 use Rattle.std.proofs.lemmas.Bool.Decides.{nat_tests}

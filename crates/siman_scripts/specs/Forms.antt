@@ -1,6 +1,5 @@
 -- The forms of lines as a table: the name of each, and what stands at the places behind it (profile).
-use Rattle.std.specs.Prelude.{ℕ, ◌+◌, Bool, true, ◌==◌, nat_lt, nat_le, List, [], ◌∷◌, codes, find, slice_index_or, Option, Some, None, is_some, if◌then◌else◌}
-use Rattle.std.specs.Option.{option_and_then}
+use Rattle.std.specs.Prelude.{ℕ, Bool, nat_lt, nat_le, List, [], ◌∷◌, codes, find, slice_index_or, Option, Some, None, is_some, if◌then◌else◌}
 use Rattle.std.specs.Str.{bytes_eq}
 use Rattle.exercise_model.specs.Station.{is_entity}
 use Rattle.siman_scripts.specs.declared.form.Form.{Form}

@@ -9,3 +9,4 @@ pub mod Nearest
 pub mod Words
 pub mod LineReason
 pub mod Reason
+pub mod MoveLine

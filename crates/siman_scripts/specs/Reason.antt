@@ -1,5 +1,5 @@
 -- Why a text is no script, and a line no order for a station (profile).
-use Rattle.std.specs.Prelude.{◌≡◌, ℕ, ◌+◌, Bool, true, false, not, nat_lt, List, [], ◌∷◌, length, slice_get, Option, Some, None, Result, Ok, Err, is_some, unwrap_or, if◌then◌else◌}
+use Rattle.std.specs.Prelude.{◌≡◌, ℕ, ◌+◌, Bool, true, false, nat_lt, List, [], ◌∷◌, length, slice_get, Option, Some, None, Result, Ok, Err, is_some, unwrap_or, if◌then◌else◌}
 use Rattle.std.specs.Option.{option_map, option_or}
 use Rattle.std.specs.Result.{result_err}
 use Rattle.dis_records.specs.Address.{Pair}
@@ -26,7 +26,7 @@ use Rattle.siman_scripts.specs.Text.{lines_of, cut_at}
 use Rattle.siman_scripts.specs.Stations.{WorldStationData}
 use Rattle.siman_scripts.specs.Statement.{statement_of}
 use Rattle.siman_scripts.specs.Draft.{DraftData, blank, wants_exercise, takes_stations, takes_outfits, takes_moves, last_address, index_of, last_number, opened_with}
-use Rattle.siman_scripts.specs.Script.{ScriptData, fault_at, line_after, script_at}
+use Rattle.siman_scripts.specs.Script.{fault_at, line_after, script_at}
 use Rattle.siman_scripts.specs.Words.{placed_words_of}
 use Rattle.siman_scripts.specs.Forms.{form_named}
 use Rattle.siman_scripts.specs.LineReason.{line_reason}
@@ -139,20 +139,45 @@ is_setup _ = false
 abbrev pub first_word : List ℕ → List ℕ
 first_word line = unwrap_or (option_map (λ p. p.0) (cut_at 32 line)) line
 
-abbrev pub setup_reason_if : Form → Bool → Option CommandReason
-setup_reason_if form test = if test then Some (record { column = 1; why = commands.NotForStation form }) else None
+abbrev pub not_for_station : Form → CommandReason
+not_for_station form = record { column = 1; why = commands.NotForStation form }
 
-abbrev pub form_setup_reason : Option Form → Option CommandReason
-form_setup_reason None = None
-form_setup_reason (Some form) = setup_reason_if form (is_setup form)
+abbrev pub named_setup : Option Form → Option CommandReason
+named_setup None = None
+named_setup (Some form) = if is_setup form then Some (not_for_station form) else None
 
 -- of a line whose first word names a form that is no order
 abbrev pub setup_reason : List ℕ → Option CommandReason
-setup_reason line = form_setup_reason (form_named (first_word line))
+setup_reason line = named_setup (form_named (first_word line))
 
--- WHY A LINE IS NO ORDER FOR A STATION: it is of another form, or it is refused by itself
+-- the form of a statement that is no order
+abbrev pub delivery_form : Act → Option Form
+delivery_form (acts.Deliver place) = Some forms.Deliver
+delivery_form (acts.Command order) = None
+delivery_form acts.Tick = None
+delivery_form (acts.Tell e) = None
+
+abbrev pub setup_form : Statement → Option Form
+setup_form says.Nothing = None
+setup_form (says.Exercise x) = Some forms.Exercise
+setup_form (says.Station a rules) = Some forms.Station
+setup_form (says.Opening a e y) = Some forms.Opening
+setup_form (says.Fixed a datum) = Some forms.Fixed
+setup_form (says.Action a id) = Some forms.Action
+setup_form (says.At now) = None
+setup_form (says.Does a act) = delivery_form act
+
+-- of a line by itself
+abbrev pub by_line : Option (ℕ × LineWhy) → Option CommandReason
+by_line told = option_map (λ r. record { column = r.0; why = commands.Line r.1 }) told
+
+abbrev pub unsaid_reason : List ℕ → Option Statement → Option CommandReason
+unsaid_reason line None = option_or (setup_reason line) (by_line (line_reason line))
+unsaid_reason line (Some s) = option_map not_for_station (setup_form s)
+
+-- WHY A LINE IS NO ORDER FOR A STATION: it is of a form that is none, or it is refused by itself
 abbrev pub command_reason : List ℕ → Option CommandReason
-command_reason line = option_or (setup_reason line) (option_map (λ r. record { column = r.0; why = commands.Line r.1 }) (line_reason line))
+command_reason line = unsaid_reason line (statement_of line)
 
 -- the fault that a reason explains
 abbrev pub why_fault : Why → LineFault

@@ -1,5 +1,5 @@
 -- The words of a line, each with its column (profile).
-use Rattle.std.specs.Prelude.{◌≡◌, ℕ, ◌+◌, ◌-◌, List, [], ◌∷◌, length, take, drop, map, All}
+use Rattle.std.specs.Prelude.{◌≡◌, ℕ, ◌+◌, ◌-◌, List, [], ◌∷◌, length, take, drop}
 use Rattle.siman_scripts.specs.Text.{words_of}
 
 -- words that stand in a row from this column on, each with the column of its first byte: one space stands between two of them

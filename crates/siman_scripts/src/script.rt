@@ -38,7 +38,7 @@ impl Model for Script {
 }
 
 /// Takes one more line.
-fn take_line(alloc: Global, draft: &mut Draft, line: &[u8]) -> Result<(), LineFault>
+pub(crate) fn take_line(alloc: Global, draft: &mut Draft, line: &[u8]) -> Result<(), LineFault>
     ensures { Leaves result draft.new (line_after draft.old line.now) }
 {
     match statement_of(alloc, line)? {

@@ -4,3 +4,4 @@ pub mod FormReasons
 pub mod Placed
 pub mod LineReasons
 pub mod ScriptReasons
+pub mod Holding

@@ -10,3 +10,5 @@ pub mod Words
 pub mod LineReason
 pub mod Reason
 pub mod MoveLine
+pub mod ReasonText
+pub mod Holds

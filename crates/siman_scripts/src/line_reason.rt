@@ -2,6 +2,7 @@
 
 ghost use Rattle.std.specs.Prelude.{◌≡◌, ◌<◌, map, length, position, nat_le, IfOk, IfSome, is_some, is_none};
 ghost use Rattle.siman_scripts.specs.Statement.{statement_of};
+ghost use Rattle.siman_scripts.specs.Holds.{Holds};
 ghost use Rattle.siman_scripts.specs.LineReason.{foreign_why, foreign_reason, blank_why, byte_why, spacing_reason, is_comment, extra_why, optional_why, word_reason, end_reason, words_reason, form_reason, ascii_reason, line_reason};
 
 use crate::form::{Form, Next, form_named, next_word};
@@ -200,8 +201,11 @@ pub(crate) fn line_reason(
     }
 }
 
-/// A law of lines: one by itself has a reason to be refused, or says something. The call does
-/// nothing when it runs.
+/// Laws of lines: one by itself has a reason to be refused, or says something; and what a reason
+/// says is so: the byte or the word that it speaks of stands in its column, a word that it calls
+/// wrong is not of its kind, and a name that it calls unknown is none. The call does nothing when
+/// it runs.
 pub fn a_line_is_refused_for_a_reason(line: &[u8])
-    ensures { is_none (line_reason line.now) ≡ is_some (statement_of line.now) }
+    ensures reason { is_none (line_reason line.now) ≡ is_some (statement_of line.now) }
+    ensures holds { IfSome (line_reason line.now) (Holds line.now) }
 {}

@@ -1,0 +1,368 @@
+//! The text of a reason, in pieces.
+
+ghost use Rattle.std.specs.Prelude.{◌≡◌, ◌++◌, decimal, Some};
+ghost use Rattle.byte_files.specs.Writing.{Writes};
+ghost use Rattle.siman_scripts.specs.ReasonText.{piece_text, pieces_text, form_text, kind_words, kind_largest, plain_line_text, unknown_name_text, line_text, plain_text, why_text, place_text, reason_text, command_why_text, column_text, command_text};
+
+use self::Piece::{Nothing, Number, Words};
+use crate::form::{Form, form_name};
+use crate::why::{CommandReason, CommandWhy, LineReason, LineWhy, Why};
+use crate::word_kind::WordKind;
+use byte_files::{WriteFailed, put};
+use itoa::Buffer;
+use std::fmt;
+use std::io::Write;
+
+/// A piece of a text.
+#[derive(Clone, Copy)]
+enum Piece {
+    Words(&'static str),
+    Number(u64),
+    Nothing,
+}
+
+/// A text in five pieces, one after the other.
+#[derive(Clone, Copy)]
+struct Pieces {
+    first: Piece,
+    second: Piece,
+    third: Piece,
+    fourth: Piece,
+    fifth: Piece,
+}
+
+/// A line of a form.
+fn form_text(form: Form) -> &'static str
+    ensures { result.now ≡ form_text form }
+{
+    match form {
+        Form::Exercise => "exercise X",
+        Form::Station => "station S:A, or station S:A first=F tries=T wait=W",
+        Form::At => "at N",
+        Form::Opening => "opening S:A E stopped|running",
+        Form::Fixed => "fixed S:A ID VALUE",
+        Form::Action => "action S:A ID",
+        Form::Deliver => "deliver K S:A",
+        Form::Tick => "tick S:A",
+        Form::Tell => "tell S:A E",
+        Form::Do => "do S:A S:A:E ACTION",
+        Form::Query => "query S:A S:A:E ID ..",
+        Form::Set => "set S:A S:A:E ID VALUE",
+        Form::Create => "create S:A S:A:E",
+        Form::Remove => "remove S:A S:A:E",
+        Form::Start => "start S:A S:A:E",
+        Form::Stop => "stop S:A S:A:E",
+    }
+}
+
+/// What is expected where a word of a kind is; a number goes on with the largest.
+fn kind_words(kind: WordKind) -> &'static str
+    ensures { result.now ≡ kind_words kind }
+{
+    match kind {
+        WordKind::Number(_) => "a number is expected, from 0 to ",
+        WordKind::Address => "a station address S:A is expected, each from 1 to 65534",
+        WordKind::Receiver => "an entity S:A:E is expected, each from 0 to 65535",
+        WordKind::Entity => "an entity number is expected, from 1 to 65533",
+        WordKind::State => "stopped or running is expected",
+        WordKind::FirstId => "first=F is expected, F from 0 to 4294967295",
+        WordKind::Tries => "tries=T is expected, T from 1 to 4294967295",
+        WordKind::Wait => "wait=W is expected, W from 0 to 18446744073709551615",
+    }
+}
+
+fn kind_largest(kind: WordKind) -> Piece
+    ensures { piece_text result ≡ kind_largest kind }
+{
+    match kind {
+        WordKind::Number(largest) => Number(largest),
+        _ => Nothing,
+    }
+}
+
+/// Three pieces.
+fn three(first: Piece, second: Piece, third: Piece) -> Pieces
+    ensures { result ≡ record { first = first; second = second; third = third; fourth = Piece.Nothing; fifth = Piece.Nothing } }
+{
+    Pieces {
+        first,
+        second,
+        third,
+        fourth: Nothing,
+        fifth: Nothing,
+    }
+}
+
+/// Why a line by itself is refused, where it is said in the same words each time.
+fn plain_line_text(why: LineWhy) -> &'static str
+    ensures { result.now ≡ plain_line_text why }
+{
+    match why {
+        LineWhy::ByteOrderMark => "a byte order mark: save the file as plain ASCII, without one",
+        LineWhy::NotAscii => "a character that is not ASCII: write plain letters, digits and signs",
+        LineWhy::Tab => "a tab: write one blank between two words",
+        LineWhy::CarriageReturn => "a carriage return inside the line: remove it",
+        LineWhy::CarriageReturnAtEnd => {
+            "the line ends with a carriage return: save the file with Unix line ends"
+        }
+        LineWhy::BlankAtBegin => "the line begins with a blank: remove it",
+        LineWhy::BlankAtEnd => "the line ends with a blank: remove it",
+        LineWhy::TwoBlanks => "two blanks in a row: write one",
+        LineWhy::Comment(_) => "a comment behind a line: put it on a line of its own",
+        LineWhy::UnknownName(_) => "no line begins with this word",
+        LineWhy::Missing(..) | LineWhy::TooMany(_) | LineWhy::Wrong(..) => "",
+    }
+}
+
+/// Why a line by itself is refused.
+fn line_pieces(why: LineWhy) -> Pieces
+    ensures { pieces_text result ≡ line_text why }
+{
+    match why {
+        LineWhy::UnknownName(Some(form)) => three(
+            Words("no line begins with this word: is "),
+            Words(form_name(form)),
+            Words(" meant?"),
+        ),
+        LineWhy::Missing(form, kind) => Pieces {
+            first: Words("the line ends, and "),
+            second: Words(kind_words(kind)),
+            third: kind_largest(kind),
+            fourth: Words(": "),
+            fifth: Words(form_text(form)),
+        },
+        LineWhy::TooMany(form) => three(
+            Words("a word too many: the line is "),
+            Words(form_text(form)),
+            Nothing,
+        ),
+        LineWhy::Wrong(_, kind) => three(Words(kind_words(kind)), kind_largest(kind), Nothing),
+        _ => three(Words(plain_line_text(why)), Nothing, Nothing),
+    }
+}
+
+/// Why a line of a script is refused, where it is said in the same words each time.
+fn plain_text(why: Why) -> &'static str
+    ensures { result.now ≡ plain_text why }
+{
+    match why {
+        Why::SecondExercise => "a second exercise line: a script has one, the first",
+        Why::BeforeExercise => "the exercise line has to come before this one",
+        Why::LateStation => {
+            "a station line has to come before all lines of other kinds but the exercise line"
+        }
+        Why::LateOutfit => {
+            "opening, fixed and action lines have to come before all at lines and moves"
+        }
+        Why::TooManyStations => "a script has at most 256 stations",
+        Why::NoExercise => "the script ends without an exercise line",
+        Why::NoStation => "the script ends without a station line",
+        Why::TooLong => "the script has more than 1048576 bytes",
+        Why::Line(_)
+        | Why::StationNotAbove(..)
+        | Why::EntityNotAbove(_)
+        | Why::UnknownStation(..) => "",
+    }
+}
+
+/// Why a line of a script is refused.
+fn why_pieces(why: Why) -> Pieces
+    ensures { pieces_text result ≡ why_text why }
+{
+    match why {
+        Why::Line(line_why) => line_pieces(line_why),
+        Why::StationNotAbove(site, application) => Pieces {
+            first: Words("the address has to be above "),
+            second: Number(site as u64),
+            third: Words(":"),
+            fourth: Number(application as u64),
+            fifth: Words(", that of the station before: sort the station lines"),
+        },
+        Why::EntityNotAbove(number) => three(
+            Words("the entity has to be above "),
+            Number(number as u64),
+            Words(", the one before at this station: sort the opening lines"),
+        ),
+        Why::UnknownStation(site, application) => Pieces {
+            first: Words("no line says station "),
+            second: Number(site as u64),
+            third: Words(":"),
+            fourth: Number(application as u64),
+            fifth: Words(": add one"),
+        },
+        _ => three(Words(plain_text(why)), Nothing, Nothing),
+    }
+}
+
+/// Where it is; nothing where the whole text is meant.
+fn place_pieces(line: usize, column: usize) -> Pieces
+    ensures { pieces_text result ≡ place_text line column }
+{
+    if column == 0 {
+        return three(Nothing, Nothing, Nothing);
+    }
+    Pieces {
+        first: Words("line "),
+        second: Number(line as u64),
+        third: Words(", column "),
+        fourth: Number(column as u64),
+        fifth: Words(": "),
+    }
+}
+
+/// Why a line that was typed for a station is refused.
+fn command_pieces(why: CommandWhy) -> Pieces
+    ensures { pieces_text result ≡ command_why_text why }
+{
+    match why {
+        CommandWhy::Line(line_why) => line_pieces(line_why),
+        CommandWhy::NotForStation(form) => three(
+            Words(form_name(form)),
+            Words(" is no order for a station"),
+            Nothing,
+        ),
+    }
+}
+
+fn column_pieces(column: usize) -> Pieces
+    ensures { pieces_text result ≡ column_text column }
+{
+    three(Words("column "), Number(column as u64), Words(": "))
+}
+
+impl fmt::Display for Piece {
+    ghost output = { λ piece. Some (piece_text piece) };
+
+    fn fmt<W: fmt::Write>(&self, f: &mut fmt::Formatter<W>) -> fmt::Result {
+        match self {
+            Words(words) => write!(f, "{words}"),
+            Number(number) => write!(f, "{number}"),
+            Nothing => Ok(()),
+        }
+    }
+}
+
+impl fmt::Display for Pieces {
+    ghost output = { λ pieces. Some (pieces_text pieces) };
+
+    fn fmt<W: fmt::Write>(&self, f: &mut fmt::Formatter<W>) -> fmt::Result {
+        let Pieces {
+            first,
+            second,
+            third,
+            fourth,
+            fifth,
+        } = self;
+        write!(f, "{first}{second}{third}{fourth}{fifth}")
+    }
+}
+
+/// The line, the column and why, without a line end; only why, where the whole text is meant.
+impl fmt::Display for LineReason {
+    ghost output = { λ reason. Some (reason_text reason) };
+
+    fn fmt<W: fmt::Write>(&self, f: &mut fmt::Formatter<W>) -> fmt::Result {
+        let place = place_pieces(self.line, self.column);
+        let why = why_pieces(self.why);
+        write!(f, "{place}{why}")
+    }
+}
+
+/// The column and why, without a line end.
+impl fmt::Display for CommandReason {
+    ghost output = { λ reason. Some (command_text reason) };
+
+    fn fmt<W: fmt::Write>(&self, f: &mut fmt::Formatter<W>) -> fmt::Result {
+        let place = column_pieces(self.column);
+        let why = command_pieces(self.why);
+        write!(f, "{place}{why}")
+    }
+}
+
+fn put_piece<W: Write>(writer: &mut W, piece: Piece) -> Result<(), WriteFailed>
+    ensures { Writes result (W.contents writer.old) (W.contents writer.new) (piece_text piece) }
+{
+    match piece {
+        Words(words) => put(writer, words.as_bytes()),
+        Number(number) => {
+            let mut buffer = Buffer::new();
+            put(writer, buffer.format(number).as_bytes())
+        }
+        Nothing => put(writer, b""),
+    }
+}
+
+/// Writes two pieces.
+fn put_two<W: Write>(writer: &mut W, first: Piece, second: Piece) -> Result<(), WriteFailed>
+    ensures { Writes result (W.contents writer.old) (W.contents writer.new) (piece_text first ++ piece_text second) }
+{
+    put_piece(writer, first)?;
+    put_piece(writer, second)
+}
+
+/// Writes three pieces.
+fn put_three<W: Write>(
+    writer: &mut W,
+    first: Piece,
+    second: Piece,
+    third: Piece,
+) -> Result<(), WriteFailed>
+    ensures { Writes result (W.contents writer.old) (W.contents writer.new) (piece_text first ++ (piece_text second ++ piece_text third)) }
+{
+    put_piece(writer, first)?;
+    put_two(writer, second, third)
+}
+
+/// Writes four pieces.
+fn put_four<W: Write>(
+    writer: &mut W,
+    first: Piece,
+    second: Piece,
+    third: Piece,
+    fourth: Piece,
+) -> Result<(), WriteFailed>
+    ensures { Writes result (W.contents writer.old) (W.contents writer.new) (piece_text first ++ (piece_text second ++ (piece_text third ++ piece_text fourth))) }
+{
+    put_piece(writer, first)?;
+    put_three(writer, second, third, fourth)
+}
+
+fn put_pieces<W: Write>(writer: &mut W, pieces: Pieces) -> Result<(), WriteFailed>
+    ensures { Writes result (W.contents writer.old) (W.contents writer.new) (pieces_text pieces) }
+{
+    put_piece(writer, pieces.first)?;
+    put_four(
+        writer,
+        pieces.second,
+        pieces.third,
+        pieces.fourth,
+        pieces.fifth,
+    )
+}
+
+/// Writes two texts in pieces.
+fn put_texts<W: Write>(writer: &mut W, first: Pieces, second: Pieces) -> Result<(), WriteFailed>
+    ensures { Writes result (W.contents writer.old) (W.contents writer.new) (pieces_text first ++ pieces_text second) }
+{
+    put_pieces(writer, first)?;
+    put_pieces(writer, second)
+}
+
+/// Writes a reason as it displays, without a line end.
+pub fn put_reason<W: Write>(writer: &mut W, reason: LineReason) -> Result<(), WriteFailed>
+    ensures { Writes result (W.contents writer.old) (W.contents writer.new) (reason_text reason) }
+{
+    let place = place_pieces(reason.line, reason.column);
+    put_texts(writer, place, why_pieces(reason.why))
+}
+
+/// Writes why a line is no order as it displays, without a line end.
+pub fn put_command_reason<W: Write>(
+    writer: &mut W,
+    reason: CommandReason,
+) -> Result<(), WriteFailed>
+    ensures { Writes result (W.contents writer.old) (W.contents writer.new) (command_text reason) }
+{
+    let place = column_pieces(reason.column);
+    put_texts(writer, place, command_pieces(reason.why))
+}

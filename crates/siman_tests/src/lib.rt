@@ -28,6 +28,8 @@ mod mending;
 #[cfg(test)]
 mod pdus;
 #[cfg(test)]
+mod reasons;
+#[cfg(test)]
 mod recordings;
 #[cfg(test)]
 mod records;

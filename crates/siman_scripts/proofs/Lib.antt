@@ -5,3 +5,4 @@ pub mod Placed
 pub mod LineReasons
 pub mod ScriptReasons
 pub mod Holding
+pub mod HoldingAfter

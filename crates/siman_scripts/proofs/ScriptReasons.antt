@@ -72,7 +72,7 @@ station_there a ws i d e =
     slice_get-get_or ws i d p.0
 
 -- a station is there, as far as one is needed to say so
-found_station : (a : Pair) (ws : List WorldStationData) (i : ℕ) → index_of a ws ≡ Some i → (w : WorldStationData) × (slice_get ws i ≡ Some w)
+pub found_station : (a : Pair) (ws : List WorldStationData) (i : ℕ) → index_of a ws ≡ Some i → (w : WorldStationData) × (slice_get ws i ≡ Some w)
 found_station a [] i e = cc
 found_station a (w ∷ ws) i e = (get_or (w ∷ ws) i w, station_there a (w ∷ ws) i w e)
 

@@ -12,3 +12,4 @@ pub mod Reason
 pub mod MoveLine
 pub mod ReasonText
 pub mod Holds
+pub mod HoldsAfter

@@ -45,7 +45,9 @@ pub use placed_word::{PlacedWord, placed_words, words_stand_at_their_columns};
 pub use reason_text::{put_command_reason, put_reason};
 pub use script::{LARGEST_SCRIPT, Script, read_script};
 pub use script_fault::ScriptFault;
-pub use script_reason::{a_text_has_a_reason_or_is_a_script, reason_of_script};
+pub use script_reason::{
+    a_text_has_a_reason_or_is_a_script, reason_of_script, reasons_hold_of_the_lines_before,
+};
 pub use text::split_once;
 pub use why::{CommandReason, CommandWhy, LineReason, LineWhy, Why};
 pub use word_kind::WordKind;

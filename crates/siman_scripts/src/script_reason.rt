@@ -3,7 +3,9 @@
 ghost use Rattle.std.specs.Prelude.{◌≡◌, ◌≤◌, length, IfOk, Ok, None};
 ghost use Rattle.siman_scripts.specs.declared.script.TheConstants.{LARGEST_SCRIPT};
 ghost use Rattle.siman_scripts.specs.Text.{lines_of};
-ghost use Rattle.siman_scripts.specs.Draft.{blank};
+ghost use Rattle.siman_scripts.specs.declared.statement.Statement.{Statement as StatementSaid};
+ghost use Rattle.siman_scripts.specs.Draft.{DraftData, blank};
+ghost use Rattle.siman_scripts.specs.HoldsAfter.{HoldsAfter};
 ghost use Rattle.siman_scripts.specs.Script.{line_after};
 ghost use Rattle.siman_scripts.specs.Reason.{column_of, by_itself, refusal_of, lines_reason, reason_at, Explains};
 
@@ -113,4 +115,11 @@ pub fn reason_of_script(alloc: Global, text: &[u8]) -> Result<Option<LineReason>
 /// when it runs.
 pub fn a_text_has_a_reason_or_is_a_script(text: &[u8])
     ensures { Explains text.now }
+{}
+
+/// A law of lines that read well: what a reason says of the lines before is so. An exercise line
+/// stood before or did not, an address that it calls unknown has no station, the station or the
+/// entity before is the one that it names, and not below. The call does nothing when it runs.
+pub fn reasons_hold_of_the_lines_before()
+    ensures { (d : DraftData) (s : StatementSaid) → HoldsAfter d s }
 {}

@@ -1,7 +1,7 @@
 //! Stations of a script that is being read.
 
-ghost use Rattle.std.specs.Prelude.{◌≡◌, ◌++◌, ◌∷◌, [], Some, None, Ok, Err, true, OnOk};
-ghost use Rattle.exercise_model.specs.Station.{is_opening};
+ghost use Rattle.std.specs.Prelude.{◌≡◌, ◌++◌, ◌∷◌, [], Some, None, Ok, Err, true, false, ◌≤◌, IsSome, OnOk};
+ghost use Rattle.exercise_model.specs.Station.{is_opening, is_entity, is_absent};
 ghost use Rattle.siman_scripts.specs.Reason.{opening_reason};
 ghost use Rattle.siman_scripts.specs.Draft.{new_station, is_at, last_number, opened_with, holding, knowing};
 
@@ -78,9 +78,12 @@ impl StationDraft {
         Ok(())
     }
 
-    /// Why it does not open with one more entity: the word of its line, from 0, and why.
+    /// Why it does not open with one more entity: the word of its line, from 0, and why. An entity
+    /// and a state that a line can say are refused only by the number before.
+    #[tactic(auto, using(crate::proofs::Openings::opens_next))]
     pub fn opening_reason(&self, entity: u16, state: EntityState) -> Option<(usize, Why)>
-        ensures { result ≡ opening_reason entity state (Some self.now) }
+        ensures reason { result ≡ opening_reason entity state (Some self.now) }
+        ensures below { is_entity entity ≡ true → is_absent state ≡ false → IsSome result → entity ≤ last_number 0 self.now.station.opening }
     {
         if is_next(&self.opening, entity, state) {
             None

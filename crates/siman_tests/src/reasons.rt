@@ -8,7 +8,10 @@ use std::alloc::Global;
 /// A text that is no script, and what is told of it.
 const REFUSED: [(&str, &str); 42] = [
     ("", "the script ends without an exercise line"),
-    ("exercise 1\n# none\n", "the script ends without a station line"),
+    (
+        "exercise 1\n# none\n",
+        "the script ends without a station line",
+    ),
     (
         "\u{feff}exercise 1\n",
         "line 1, column 1: a byte order mark: save the file as plain ASCII, without one",
@@ -173,14 +176,8 @@ const REFUSED: [(&str, &str); 42] = [
 
 /// A line that is no order for a station, and what is told of it.
 const NO_ORDERS: [(&str, &str); 4] = [
-    (
-        "station 1:1",
-        "column 1: station is no order for a station",
-    ),
-    (
-        "deliver x",
-        "column 1: deliver is no order for a station",
-    ),
+    ("station 1:1", "column 1: station is no order for a station"),
+    ("deliver x", "column 1: deliver is no order for a station"),
     (
         "tell 1:1 x",
         "column 10: a number is expected, from 0 to 65535",

@@ -1,2 +1,3 @@
 mod Keyed
+pub mod Reasons
 pub mod Texts

@@ -8,7 +8,8 @@
 //! gives the text to the byte, by the definitions of the pages `Head`, `Records`, `EntryLines` and
 //! `Report`. The law [`keys_come_once`] says that no line has a key twice. What is told of orders and
 //! of logs stands above, over lines that are made in place: what there may be is a field of one by
-//! [`add_entry_option`] and those like it.
+//! [`add_entry_option`] and those like it. Why a datagram means nothing in an exercise is told by
+//! [`why_other`], which gives a reason exactly where it means nothing ([`others_have_reasons`]).
 #![tactic(auto)]
 
 mod count_line;
@@ -18,6 +19,7 @@ mod entry_lines;
 mod head;
 mod keys;
 mod options;
+mod reason;
 mod records;
 mod report;
 
@@ -27,5 +29,9 @@ pub use entry_lines::{put_entry, put_entry_text, put_station};
 pub use head::{kind_of, put_head};
 pub use keys::keys_come_once;
 pub use options::{add_clock_option, add_entry_option, add_number_option};
+pub use reason::{
+    OtherReason, add_reason_name, add_reason_option, others_have_reasons, reasons_are_refusals,
+    why_other,
+};
 pub use records::pdu_lines;
 pub use report::{no_line, report_text};

@@ -9,7 +9,7 @@ from .datagrams import (
 )  # fmt: skip
 from .files import (
     ABSENT, ENTITIES, FIRST, OPEN, PARTS_OF_ADDRESSES, RECEIVED, RUNNING, SENT, STATES, STOPPED, TOLD, Fault,
-    meaning_of, read_recording,
+    meaning_of, read_recording, why_other, why_text,
 )  # fmt: skip
 from .histories import answers, is_answer, is_open, key_of, request_of, response_of, same_order, scope_of, search
 
@@ -333,6 +333,22 @@ def review_line(logs, explained, orders):
     ])  # fmt: skip
 
 
+# Reasons of which a review tells the name alone.
+UNNUMBERED = ("length-field", "body-short", "body-long")
+
+
+def other_lines(logs):
+    """A line for each reason for which datagrams mean nothing, in the order of its first entry."""
+    counts = {}
+    for entry in logs.entries:
+        why = None if entry.kind == TOLD else why_other(logs.exercise, entry.datagram)
+        if why:
+            name, found = why
+            told = name if name in UNNUMBERED else why_text(name, found)
+            counts[told] = counts.get(told, 0) + 1
+    return [Line("others", [(True, "why", why), (True, "entries", count)]) for why, count in counts.items()]
+
+
 # Filters.
 
 def filter_of(word):
@@ -419,5 +435,6 @@ def answer_to_review(text, words=(), spelled=text_of):
         return fault("view: over-limit")
     filters = [filter_of(asked) for asked in words]
     explained = search(recording).status == 0
-    shown = [review_line(logs, explained, orders), *(line for line in lines if keeps(filters, line))]
+    kept = (line for line in lines if keeps(filters, line))
+    shown = [review_line(logs, explained, orders), *other_lines(logs), *kept]
     return Outcome(0, "".join(spelled(line) + "\n" for line in shown).encode(), b"")

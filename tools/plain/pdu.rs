@@ -7,7 +7,7 @@ pub const NAMES: [&str; 12] = [
     "data-query", "set-data", "data", "event-report", "comment",
 ];
 /// The size of the fixed part of each kind, and where its request identifier stands.
-const SIZES: [u8; 12] = [28, 28, 44, 40, 32, 40, 40, 40, 40, 40, 40, 32];
+pub const SIZES: [u8; 12] = [28, 28, 44, 40, 32, 40, 40, 40, 40, 40, 40, 32];
 const REQUESTS: [u8; 12] = [24, 24, 40, 36, 28, 24, 24, 24, 24, 24, 0, 0];
 pub const CREATE: u8 = 11;
 pub const START: u8 = 13;

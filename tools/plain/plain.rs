@@ -22,6 +22,7 @@ mod log;
 mod made;
 mod order;
 mod orders;
+mod others;
 mod pdu;
 mod recording;
 mod review;

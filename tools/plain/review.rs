@@ -4,6 +4,7 @@ use crate::check::STATES;
 use crate::lives::{Lives, Stretch};
 use crate::order::{Answers, Order, Orders, NOBODY};
 use crate::orders;
+use crate::others;
 use crate::pdu::{self, Pdu};
 use crate::recording::{u64_at, Recording, NONE};
 use crate::text::Text;
@@ -69,6 +70,9 @@ pub fn review(log: &Recording<'_>, out: &mut Text) -> io::Result<u8> {
         return Err(io::Error::other("view: over-limit"));
     }
     review.heading(is_explained, &totals, out)?;
+    if review.found.others > 0 {
+        others::lines(log, out)?;
+    }
     for (station, counts) in log.stations.iter().zip(&totals.stations) {
         out.word("station ")?.address(station.address)?.pair(" records=", u64::from(station.count))?;
         out.pair(" made=", counts.made)?;

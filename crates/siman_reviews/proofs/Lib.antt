@@ -3,3 +3,4 @@ mod LineParts
 mod Keyed
 mod CarriedLines
 mod HeldLines
+mod OtherCounts

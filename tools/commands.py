@@ -19,7 +19,7 @@ BEHIND = {
     "Picture": ["[from=STEP]", "[to=STEP]", "[--force]"],  # in the place of the word STEP
     **dict.fromkeys(("Audit", "World", "Convert", "Mend"), ["[--force]"]),
 }  # fmt: skip
-TABLE = TOP / "crates" / "siman_words" / "src" / "commands.rt"
+TABLE = TOP / "crates" / "siman_words" / "src" / "table.rt"
 
 
 def rows_of_program():

@@ -164,15 +164,13 @@ pub fn run<O: Outside, R: Read + Drop, W: Write, E: Write>(
         Ok(words) => words,
         Err(error) => return end(Err(of_error(&error, Fault::Words)), errors),
     };
-    let line = match read_words(alloc, words.as_slice()) {
+    let texts = words.as_slice();
+    let line = match read_words(alloc, texts) {
         Ok(line) => line,
         Err(AllocError) => return end(Err(Fault::Memory), errors),
     };
     match line.task() {
         Some(task) => end_task(alloc, task, outside, input, out, errors),
-        None => {
-            let text = usage_text(alloc, words.as_slice());
-            end_usage(asks_help(words.as_slice()), text, out, errors)
-        }
+        None => end_usage(asks_help(texts), usage_text(alloc, texts), out, errors),
     }
 }

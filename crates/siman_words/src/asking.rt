@@ -3,10 +3,9 @@
 ghost use Rattle.std.specs.Prelude.{◌≡◌, ◌≤◌, length, map, option_map};
 ghost use Rattle.siman_words.specs.Words.{asked_by, is_option, takes_of, takes_named, bare_asked, one_asked, two_asked, taken, last_apart, has_option, is_form_word, form_named, form_apart, are_names, fewest_pieces, pieces_asked, join_asked, anyone_apart, station_named, station_asked, view_asked, why_asked, chart_asked};
 
-use crate::commands::{
-    JoinForm, NoWord, OneWord, StationWords, Takes, Task, TwoWords, ViewWord, rows,
-};
+use crate::commands::{JoinForm, NoWord, OneWord, StationWords, Takes, Task, TwoWords, ViewWord};
 use crate::rows::Row;
+use crate::table::rows;
 use siman_texts::Spelling;
 use std::convert::AsStr;
 

@@ -11,6 +11,7 @@ mod behind;
 mod commands;
 mod helping;
 mod rows;
+mod table;
 mod usage;
 
 pub use behind::{CommandLine, read_words};

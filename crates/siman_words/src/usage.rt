@@ -1,7 +1,8 @@
 //! The usage of the program and its help, as `clap` tells them.
 
-use crate::commands::{Takes, TwoWords, ViewWord, rows};
+use crate::commands::{Takes, TwoWords, ViewWord};
 use crate::rows::{Often, Row, Word};
+use crate::table::rows;
 use clap::error::ErrorKind;
 use clap::{Arg, ArgAction, Command, Error};
 use std::alloc::{AllocError, Global};

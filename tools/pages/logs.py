@@ -5,7 +5,7 @@ from .datagrams import (
     BODIES, FLAGS, REQUESTS, Outcome, fault, identifier_text, number,
 )  # fmt: skip
 from .files import (
-    KINDS_OF_ENTRIES, RECEIVED, SENT, STATES, STOPPED, TOLD, Fault, read_recording,
+    KINDS_OF_ENTRIES, RECEIVED, SENT, STATES, STOPPED, TOLD, Fault, read_recording, why_other, why_text,
 )  # fmt: skip
 from .histories import is_answer, is_open, request_of, same_order
 from .reviews import (
@@ -91,7 +91,9 @@ def entry_line(story, index):
         return Line("entry", [*fields, (True, "entity", entity), (True, "state", STATES[entry.state])])
     fields.append((True, "clock", Clock(entry.stamp)))
     if not pdu:
-        return Line("entry", [*fields, (False, "kind", "other"), (True, "bytes", len(entry.datagram))])
+        why = why_text(*why_other(story.exercise, entry.datagram))
+        other = [(False, "kind", "other"), (True, "bytes", len(entry.datagram)), (True, "why", why)]
+        return Line("entry", fields + other)
     fields += pdu_fields(pdu)
     if entry.kind == RECEIVED:
         return Line("entry", [*fields, (True, "source", story.sources[index])])

@@ -3,6 +3,7 @@
 
 use crate::check::{Happened, STATES};
 use crate::facts::Facts;
+use crate::others;
 use crate::pdu::{self, meaning, Pdu, ABLE, UNABLE};
 use crate::recording::{u16_at, u32_at, u64_at, Head, Recording, What, NONE};
 use crate::tables::Table;
@@ -196,7 +197,9 @@ fn datagram(log: &Recording<'_>, ties: &Ties, number: usize, place: &Place, out:
     let head = log.heads[number];
     out.number(u64_at(log.file, log.places[number] as usize - 10))?;
     let Some(p) = meaning(log.exercise, log.datagram(number)) else {
-        out.pair(" other bytes=", head.length() as u64)?.word("\n")?;
+        out.pair(" other bytes=", head.length() as u64)?;
+        others::put(" why=", others::why(log.exercise, log.datagram(number)), out)?;
+        out.word("\n")?;
         return Ok(());
     };
     header(&p, place, out)?;

@@ -44,6 +44,8 @@ def words_of(program, command, folder, name):
 
 def measured(words, out, given):
     """The status, and the seconds and MiB of one run."""
+    if words[1] in MAKING:
+        Path(words[-1]).unlink(missing_ok=True)  # no program replaces what an earlier run made
     status, _, memory, seconds = run(words, out, given.seconds)
     return status, (seconds, memory)
 

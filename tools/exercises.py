@@ -89,7 +89,7 @@ def made_recording(program, exercise, folder):
         return recording, [("its recorder", b"", run(sys.executable, exercise / "recorder.py", recording))]
     compared, names = [], pieces_of(program, exercise, folder)
     for name in names:
-        order = run(program, "audit", name, folder / "piece.dsct")
+        order = run(program, "audit", name, folder / "piece.dsct", "--force")
         compared.append((f"audit of {name.name}", pages.answer_to_audit(name.read_bytes()).out, order))
     line, text = pages.answer_to_join([(name.name, name.read_bytes()) for name in names], "closed")
     compared.append(("join", line.out, run(program, "join", *names, recording, "form=closed")))

@@ -144,7 +144,7 @@ def commands_of(plain, folder, given):
     found = {"check": str(folder / "found.dsct"), "plain check": str(folder / "plain.dsct")}
     commands = {
         "check": [str(given.program), "check", *files],
-        "audit": [str(given.program), "audit", files[0], found["check"]],
+        "audit": [str(given.program), "audit", files[0], found["check"], "--force"],
         "review": [str(given.program), "review", files[0]],
     }
     if plain:

@@ -80,9 +80,9 @@ def main():
     with tempfile.TemporaryDirectory() as name:
         folder = Path(name)
         whole = made(folder, 1)[0]
-        ways = {"convert": ["convert", whole, "converted"]}
+        ways = {"convert": ["convert", whole, "converted", "--force"]}
         for count in (2, 256):
-            ways[f"join of {count}"] = ["join", *made(folder, count), f"joined.{count}"]
+            ways[f"join of {count}"] = ["join", *made(folder, count), f"joined.{count}", "--force"]
         best = {}
         for _ in range(given.rounds):
             for way, words in ways.items():

@@ -273,7 +273,7 @@ def windows(chance, count):
 
 
 def draw(program, folder, window, count):
-    words = [program, "chart", folder / "made.dsrc", folder / "made.dsct", folder / "made.svg"]
+    words = [program, "chart", folder / "made.dsrc", folder / "made.dsct", folder / "made.svg", "--force"]
     if window != (0, count):
         words += [f"from={window[0]}", f"to={window[1] - 1}"]
     done = subprocess.run(words, capture_output=True, text=True, timeout=60)

@@ -137,7 +137,7 @@ class Program:
     def audit(self, recording):
         """Whether the search finds an order, which the checker then takes."""
         self.path.write_bytes(recording_text(recording))
-        explained = self.run("audit", self.path, self.made).startswith("explained ")
+        explained = self.run("audit", self.path, self.made, "--force").startswith("explained ")
         if explained and not self.run("check", self.path, self.made).startswith("yes "):
             return None
         return explained

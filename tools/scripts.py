@@ -71,7 +71,7 @@ def run(program, text, folder):
     least = None
     for _ in range(3):
         begun = time.perf_counter()
-        done = subprocess.run([program, "world", name, os.path.join(folder, "rec")], capture_output=True, check=False)
+        done = subprocess.run([program, "world", name, os.path.join(folder, "rec"), "--force"], capture_output=True, check=False)
         took = time.perf_counter() - begun
         if done.returncode != 0:
             sys.exit(f"status {done.returncode}: {done.stderr.decode().strip()}")

@@ -25,7 +25,7 @@ def try_audit(trials, recording):
 
     found = answer.status == 0
     after(trials, ["audit", name, new], (answer,), new, explains if found else lambda left: left is None)
-    after(trials, ["audit", name, stands], (answer,), stands, explains if found else lambda left: left == b"stays")
+    after(trials, ["audit", name, stands, "--force"], (answer,), stands, explains if found else lambda left: left == b"stays")
 
 
 def mixed(chance, recording):

@@ -32,7 +32,7 @@ def try_text(trials, text):
     stands = trials.file(b"stays" * 20_000)
     for name, left in [(f"{old}.new", None), (stands, b"stays" * 20_000)]:
         wanted = left if new is None else new
-        after(trials, ["convert", old, name], (answer,), name, lambda came, wanted=wanted: came == wanted)
+        after(trials, ["convert", old, name, *(["--force"] if left else [])], (answer,), name, lambda came, wanted=wanted: came == wanted)
 
 
 def try_examples(trials, examples):

@@ -35,7 +35,7 @@ def try_stands(trials, text):
         stands = trials.file(b"stays" * 20_000)
         answer, new = pages.answer_to_mend(text[:size])
         wanted = b"stays" * 20_000 if new is None else new
-        after(trials, ["mend", trials.file(text[:size]), stands], (answer,), stands, lambda came, wanted=wanted: came == wanted)
+        after(trials, ["mend", trials.file(text[:size]), stands, "--force"], (answer,), stands, lambda came, wanted=wanted: came == wanted)
 
 
 def try_files(trials, examples):

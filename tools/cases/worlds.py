@@ -50,7 +50,7 @@ def try_refused(trials, text, fault, name=None):
     script, stands = name or trials.file(text), trials.file(b"stays")
     new = f"{stands}.new"
     after(trials, ["world", script, new], (pages.fault(fault),), new, lambda left: left is None)
-    after(trials, ["world", script, stands], (pages.fault(fault),), stands, lambda left: left == b"stays")
+    after(trials, ["world", script, stands, "--force"], (pages.fault(fault),), stands, lambda left: left == b"stays")
 
 
 def try_faults(trials):
@@ -164,7 +164,7 @@ def try_unwritable(trials):
         return
     shut = trials.file(b"stays")
     os.chmod(trials.folder / shut, 0o400)
-    after(trials, ["world", WORKED_SCRIPT, shut], (UNWRITTEN,), shut, lambda left: left == b"stays")
+    after(trials, ["world", WORKED_SCRIPT, shut, "--force"], (UNWRITTEN,), shut, lambda left: left == b"stays")
 
 
 def try_all(trials, _):

@@ -28,7 +28,7 @@ def try_chart(trials, text, steps, said=(), names=None):
     stands = trials.file(b"stays")
     wanted = None if drawn is None else drawn.encode()
     for name, before in ((f"{stands}.new", None), (stands, b"stays")):
-        words = ["chart", recording, certificate, name, *said]
+        words = ["chart", recording, certificate, name, *said, *(["--force"] if before else [])]
         after(trials, words, (answer,), name, lambda left, before=before: left == (before if wanted is None else wanted))
 
 

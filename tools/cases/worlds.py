@@ -37,7 +37,7 @@ def try_worked(trials):
     usual = (Outcome(0, WORKED_LINE, b""),)
     after(trials, ["world", WORKED_SCRIPT, "worked.dsrc"], usual, "worked.dsrc", is_worked)
     longer = trials.file(b"x" * 100_000)
-    after(trials, ["world", WORKED_SCRIPT, longer], usual, longer, is_worked)
+    after(trials, ["world", WORKED_SCRIPT, longer, "--force"], usual, longer, is_worked)
     for behind in [">/dev/full", ">&-"]:
         name = f"unheard.{len(behind)}.dsrc"
         after(trials, ["world", WORKED_SCRIPT, name], (UNWRITTEN,), name, lambda left: left is None, behind=behind)

@@ -269,13 +269,12 @@ def try_pieces(trials, pieces_of, form=None, most=None):
     """Pieces that are joined to a new name, and to one that stands there, which is kept without --force."""
     named = [(trials.file(text), text) for text in pieces_of]
     answer, left = pages.answer_to_join(named, form)
-    stands = trials.file(b"stays" * 20_000)
     words = [f"form={form or CLOSED}"] if form or len(named) == 1 else []
     files, kept = [file for file, _ in named], b"stays" * 20_000
-    for name, there, force in [(f"{stands}.new", None, []), (stands, kept, ["--force"])]:
+    stands, replaced = trials.file(kept), trials.file(kept)  # one for each run: runs go on at once
+    after(trials, ["join", *files, stands, *words], (pages.fault("output: exists"),), stands, lambda came: came == kept)
+    for name, there, force in [(f"{stands}.new", None, []), (replaced, kept, ["--force"])]:
         wanted = there if left is None else left
-        if force:
-            after(trials, ["join", *files, name, *words], (pages.fault("output: exists"),), name, lambda came: came == kept)
         after(trials, ["join", *files, name, *words, *force], (answer,), name, lambda came, wanted=wanted: came == wanted)
 
 

@@ -60,7 +60,7 @@ def try_made_up(trials):
 
 
 def try_words(trials):
-    for words in [[], JSON, [*JSON, LOSSES], [LOSSES, *JSON, "kind=told"], [LOSSES, *JSON, *JSON], [LOSSES, "-x"], ["-x"]]:
+    for words in [[], JSON, [*JSON, LOSSES, *JSON], [LOSSES, *JSON, *JSON], [LOSSES, *JSON, "kind=told", *JSON], [LOSSES, "-x"], ["-x"]]:
         trials.expect(["log", *words], Outcome(2, b"", Some()))
     for word in BAD_FILTERS:
         for name in (LOSSES, "none", "examples"):
@@ -69,7 +69,7 @@ def try_words(trials):
 
 
 def try_files(trials):
-    for name in ["none.dsrc", "", "-", "x" * 300]:
+    for name in ["none.dsrc", "", "x" * 300]:
         trials.expect(["log", name], pages.unopened(name))
     trials.expect(["log", "examples"], pages.unopened("examples", "is a directory"))
     for size in range(len(FORMATS_RECORDING) + 1):

@@ -14,8 +14,23 @@ MOST_ALLOCATIONS = 5000
 LATER = 1 << 40  # later than the last allocation of any run
 
 
-# Commands that make a file; `live` makes none where one stands.
+# Commands that make a file; `live` makes none where one stands, and takes no --force.
 MAKING = (["world"], ["live"], ["audit"], ["convert"], ["mend"], ["join"], ["chart"])
+BEHIND = ("form=", "from=", "to=", "--")  # how words begin that may stand behind the name of the new file
+
+
+def new_at(words):
+    """At which of the words of a command that makes a file the name of that file stands."""
+    return max(at for at, word in enumerate(words) if not word.startswith(BEHIND))
+
+
+def making(words, alone):
+    """Words of a command under a new name of their own: where none stands, or with --force where one stands."""
+    if words[:1] not in MAKING:
+        return words
+    at = new_at(words)
+    own = [*words[:at], f"{words[at]}.{alone}", *words[at + 1 :]]
+    return own if alone or words[0] == "live" else [*own, "--force"]
 
 
 def refusing_library(trials):
@@ -58,7 +73,7 @@ def try_answers(trials, rows):
     for words, given, usual in rows:
         out = Prefix(usual.out) if words[:1] == ["show"] else b""
         for alone in (True, False):
-            own = [*words[:-1], f"{words[-1]}.{alone}"] if words[:1] in MAKING else words
+            own = making(words, alone)
             errors = Wanting(own[2]) if own[:1] == ["live"] else b"memory\n"
             case = Case(own, (Outcome(3, out, errors), usual), given)
             trials.tasks.append(lambda case=case, alone=alone: refusals(trials, library, case, alone))
@@ -81,8 +96,8 @@ def refusals(trials, library, case, alone):
 
 def run_refused(trials, library, case, first, last):
     """The outcome of a run with these allocations refused, and whether there was one of them."""
-    if case.words[:1] == ["live"]:
-        (trials.folder / case.words[2]).unlink(missing_ok=True)
+    if case.words[:1] in MAKING and "--force" not in case.words:
+        (trials.folder / case.words[new_at(case.words)]).unlink(missing_ok=True)
     reader, writer = os.pipe()
     refuse = {"REFUSE_FIRST": str(first), "REFUSE_LAST": str(last), "REFUSE_MARK": str(writer)}
     environment = {**os.environ, "LD_PRELOAD": str(library), **refuse}

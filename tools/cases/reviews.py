@@ -79,7 +79,7 @@ def try_made_up(trials):
 def try_words(trials):
     usage = Outcome(2, b"", Some())
     for words in [
-        [], JSON, [*JSON, LOSSES], [LOSSES, *JSON, "fate=lost"], [LOSSES, *JSON, *JSON], [LOSSES, "-x"],
+        [], JSON, [*JSON, LOSSES, *JSON], [LOSSES, *JSON, *JSON], [LOSSES, *JSON, "fate=lost", *JSON], [LOSSES, "-x"],
         [LOSSES, "--json=1"], [LOSSES, "--jso"], [LOSSES, "fate=lost", "-fate=lost"], ["-x"], ["-x", "fate=lost"],
     ]:  # fmt: skip
         trials.expect(["review", *words], usage)
@@ -91,7 +91,7 @@ def try_words(trials):
 
 
 def try_files(trials):
-    for name in ["none.dsrc", "", "-", "x" * 300]:
+    for name in ["none.dsrc", "", "x" * 300]:
         trials.expect(["review", name], pages.unopened(name))
         trials.expect(["review", name, "fate=lost", *JSON], pages.unopened(name))
     trials.expect(["review", "examples"], pages.unopened("examples", "is a directory"))

@@ -97,7 +97,7 @@ def try_races(trials):
     words = ["world", "SCRIPT", "NEW"]
     raced(trials, "by a link", words, OLD, kept)
     raced(trials, "with --force", [*words, "--force"], OLD, replaced)
-    raced(trials, "that is empty", words, b"", kept)
+    raced(trials, "that is empty", words, b"", replaced)  # it holds nothing, and stands before the new file is begun
     raced(trials, "not at all", words, None, replaced)
     no_links = [sys.executable, str(FAILING), "link", "-", "EPERM"]
     raced(trials, "without links", words, OLD, kept, no_links)

@@ -16,7 +16,7 @@ def try_opening(trials, examples):
     good, certificate, _ = examples
     bad, bad_steps = trials.file(b"DSRC0003"), trials.file(b"DSCT0002")
     missing, also, folder, under = "none.dsrc", "none at all é.dsct", "examples", f"{good}/under"
-    for name in [missing, also, "", "-", "x" * 300, "a/" * 3000, under, folder]:
+    for name in [missing, also, "", "./-", "x" * 300, "a/" * 3000, under, folder]:
         reason = {under: "cannot be opened", folder: "is a directory"}.get(name)
         told = pages.unopened(name, reason)
         trials.expect(["show", name], told)

@@ -219,7 +219,7 @@ def try_scenes(trials, seen):
 def try_words(trials):
     usage = Outcome(2, b"", Some())
     for words in [
-        [], JSON, [*JSON, LOSSES], [LOSSES, *JSON, CERTIFICATE], [LOSSES, *JSON, *JSON], [LOSSES, CERTIFICATE, *JSON, *JSON],
+        [], JSON, [*JSON, LOSSES, *JSON], [LOSSES, *JSON, *JSON], [LOSSES, CERTIFICATE, *JSON, *JSON],
         [LOSSES, CERTIFICATE, CERTIFICATE], [LOSSES, CERTIFICATE, CERTIFICATE, *JSON], [LOSSES, "-x"], ["-x"],
         [LOSSES, CERTIFICATE, "-x"], [LOSSES, "--jso"], [LOSSES, "--json=1"], ["-x", CERTIFICATE],
     ]:  # fmt: skip
@@ -227,7 +227,7 @@ def try_words(trials):
 
 
 def try_files(trials, seen):
-    for name in ["none.dsrc", "", "-", "x" * 300]:
+    for name in ["none.dsrc", "", "x" * 300]:
         told = pages.unopened(name)
         for words in ([name], [name, *JSON], [name, CERTIFICATE], [LOSSES, name], [LOSSES, name, *JSON], [name, "none"]):
             trials.expect(["why", *words], told)

@@ -39,10 +39,11 @@ def try_words(trials):
     trials.expect(["show", "-"], shown, behind=f"<{recording}")
     trials.expect(["show", "-"], pages.fault("file: -: is a directory"), behind="<&-")
     trials.expect(["show", "./-"], pages.fault("file: ./-: no such file"), given=FORMATS_RECORDING)
-    for words in (["check", "-", certificate], ["check", recording, "-"]):
-        given = FORMATS_RECORDING if words[1] == "-" else FORMATS_CERTIFICATE
-        same = trials.run(Case(["check", recording, certificate], ()))
-        trials.expect(words, same, given=given)
+    for words in (["check", recording, certificate], ["review", recording], ["why", recording], ["why", recording, certificate]):
+        same = trials.run(Case(words, ()))
+        trials.expect([words[0], "-", *words[2:]], same, given=FORMATS_RECORDING)
+        if words[2:]:
+            trials.expect([*words[:2], "-"], same, given=FORMATS_CERTIFICATE)
     log = trials.run(Case(["log", recording, "--json"], ()))
     for words in (["log", "--json", recording], ["log", "--json", "-"], ["log", "-", "--json"]):
         trials.expect(words, log, given=FORMATS_RECORDING)

@@ -8,4 +8,5 @@ pub mod AtLine
 pub mod Steps
 pub mod AtLines
 pub mod Udp
+pub mod Trouble
 pub mod LeftOut

@@ -1,5 +1,8 @@
 -- What a line over UDP keeps, and what it passes over (profile). Which datagrams go through its socket, no contract of a socket says.
 use Rattle.std.specs.Prelude.{◌≡◌, ℕ, true, zero, suc, ◌+◌, ◌-◌, ◌^◌, ◌≤◌, ◌<◌, min, Option, Some, None, Result, Ok, Err}
+use Rattle.std.specs.declared.net.socket_addr.SocketAddrV4.{SocketAddrV4}
+use Rattle.std.specs.declared.net.socket_addr.SocketAddr.{SocketAddr}
+use Rattle.std.specs.declared.net.socket_addr.SocketAddr.TheVariants.{V4, V6}
 use Rattle.siman_lines.specs.declared.line.LineFault.{LineFault}
 use Rattle.siman_lines.specs.declared.udp.TheConstants.{MOST_STRANGERS}
 use Rattle.siman_lines.specs.declared.udp.UdpLine.{UdpLine}
@@ -29,3 +32,8 @@ pub record ReceivePasses (old new : UdpLine) (result : Result (Option ℕ) LineF
   pub within : Within passed result
   pub none : old.anyone ≡ true → passed ≡ 0
   pub strangers : new.strangers ≡ counted_on old.strangers passed
+
+-- the address of IP version 4 that this is
+abbrev pub v4_of : SocketAddr → Option SocketAddrV4
+v4_of (V4 a) = Some a
+v4_of (V6 a) = None

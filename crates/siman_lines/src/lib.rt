@@ -12,6 +12,7 @@ mod served;
 mod serving;
 mod station_at_line;
 mod telling;
+mod trouble;
 mod udp;
 
 pub use fault::{AtLineFault, IssueFault, ServeFault};
@@ -27,4 +28,5 @@ pub use station_at_line::{
     StationAtLine, order_at, repeat_at, serve_rounds, stations_at_lines, tell_at,
 };
 pub use telling::tell;
+pub use trouble::{LineCall, LineTrouble, put_line_trouble, system_words};
 pub use udp::UdpLine;

@@ -3,6 +3,7 @@
 ghost use Rattle.std.specs.Prelude.{◌≡◌, ℕ, ◌<◌, List, Option, None, Result, ⊤, IfOk, OnOk, OnErr, MatchOption};
 ghost use Rattle.siman_lines.specs.LineDatagrams.{Grows, Hands, MayGrow, Same};
 
+use crate::trouble::LineTrouble;
 use thiserror::Error;
 
 /// A call of a line that failed.
@@ -65,4 +66,9 @@ pub trait Line {
     /// count is at its most, it stays there.
     fn strangers(&self) -> u64
         ensures { result ≡ strangers self.now };
+
+    /// The last call that failed, if one did and the line tells it.
+    fn trouble(&self) -> Option<LineTrouble> {
+        None
+    }
 }

@@ -1,9 +1,13 @@
 //! A line over UDP.
 
+ghost use Rattle.std.specs.Prelude.{◌≡◌, None, IfSome};
+ghost use Rattle.siman_lines.specs.Udp.{v4_of};
+
 use crate::line::{Line, LineFault};
+use crate::trouble::{LineCall, LineTrouble};
 use http_server::Log;
 use std::io::ErrorKind;
-use std::net::{SocketAddr, UdpSocket};
+use std::net::{SocketAddr, SocketAddrV4, UdpSocket};
 
 /// How many datagrams from elsewhere one receive passes over at most.
 const MOST_STRANGERS: u32 = 64;
@@ -17,10 +21,11 @@ pub struct UdpLine {
     anyone: bool,
     strangers: u64,
     failures: Log<(), ()>,
+    trouble: Option<LineTrouble>,
 }
 
 impl UdpLine {
-    ghost use Rattle.std.specs.Prelude.{◌≡◌, ◌+◌, length, true, false, IfOk};
+    ghost use Rattle.std.specs.Prelude.{◌≡◌, ◌+◌, length, true, false, IfOk, Some};
 
     /// A line over the socket, which is set so that a receive does not wait. It sends to each of
     /// these peers, in their order, and hands on what comes from them alone. One receive passes over
@@ -57,17 +62,62 @@ impl UdpLine {
             anyone,
             strangers: 0,
             failures: Log::new(),
+            trouble: None,
         })
     }
 
-    fn fail(&mut self) -> LineFault
+    /// Counts a call that failed, and keeps what it was.
+    fn fail(&mut self, trouble: LineTrouble) -> LineFault
         ensures counted { length self.new.failures.items ≡ length self.old.failures.items + 1 }
         ensures peers { self.new.peers ≡ self.old.peers }
         ensures anyone { self.new.anyone ≡ self.old.anyone }
         ensures strangers { self.new.strangers ≡ self.old.strangers }
+        ensures kept { self.new.trouble ≡ Some trouble }
     {
         self.failures = self.failures.and(&(), &());
+        self.trouble = Some(trouble);
         LineFault::Failed
+    }
+}
+
+/// The address of IP version 4 that this is, if it is one.
+fn v4_of(address: SocketAddr) -> Option<SocketAddrV4>
+    ensures { result ≡ v4_of address }
+{
+    match address {
+        SocketAddr::V4(address) => Some(address),
+        SocketAddr::V6(_) => None,
+    }
+}
+
+/// Sends a datagram to a peer; what failed, if that did.
+fn send_one(socket: &UdpSocket, datagram: &[u8], peer: SocketAddr) -> Option<LineTrouble>
+    ensures { IfSome result (λ t. (t.call ≡ LineCall.Send) × (t.peer ≡ v4_of peer)) }
+{
+    let kind = match socket.send_to(datagram, peer) {
+        Ok(count) => {
+            if count == datagram.len() {
+                return None;
+            }
+            ErrorKind::Other
+        }
+        Err(error) => error.kind(),
+    };
+    Some(LineTrouble {
+        call: LineCall::Send,
+        peer: v4_of(peer),
+        kind,
+    })
+}
+
+/// A receive that failed so.
+fn receive_trouble(kind: ErrorKind) -> LineTrouble
+    ensures { result ≡ record { call = LineCall.Receive; peer = None; kind = kind } }
+{
+    LineTrouble {
+        call: LineCall::Receive,
+        peer: None,
+        kind,
     }
 }
 
@@ -86,14 +136,17 @@ impl Line for UdpLine {
     ghost receives = { ReceivePasses };
 
     fn send(&mut self, datagram: &[u8]) -> Result<(), LineFault> {
-        let mut all_sent = true;
+        let mut first = None;
         for peer in &self.peers {
-            match self.socket.send_to(datagram, *peer) {
-                Ok(count) => all_sent = all_sent && count == datagram.len(),
-                Err(_) => all_sent = false,
+            let failed = send_one(&self.socket, datagram, *peer);
+            if first.is_none() {
+                first = failed;
             }
         }
-        if all_sent { Ok(()) } else { Err(self.fail()) }
+        match first {
+            None => Ok(()),
+            Some(trouble) => Err(self.fail(trouble)),
+        }
     }
 
     fn receive(&mut self, buffer: &mut [u8]) -> Result<Option<usize>, LineFault> {
@@ -106,10 +159,11 @@ impl Line for UdpLine {
                     self.strangers = self.strangers.saturating_add(1);
                 }
                 Err(e) => {
-                    if e.kind() == ErrorKind::WouldBlock {
+                    let kind = e.kind();
+                    if kind == ErrorKind::WouldBlock {
                         return Ok(None);
                     }
-                    return Err(self.fail());
+                    return Err(self.fail(receive_trouble(kind)));
                 }
             }
         }
@@ -118,5 +172,9 @@ impl Line for UdpLine {
 
     fn strangers(&self) -> u64 {
         self.strangers
+    }
+
+    fn trouble(&self) -> Option<LineTrouble> {
+        self.trouble
     }
 }

@@ -12,7 +12,7 @@ use crate::printing::{EntryPrinter, PrintFault};
 use crate::turns::{Trouble, take_turns};
 use dis_records::Address;
 use exercise_recording::RecordingWriter;
-use siman_lines::{Line, StationAtLine};
+use siman_lines::{Line, LineTrouble, StationAtLine};
 use siman_stations::Node;
 use std::alloc::{AllocError, Global};
 use std::io::Write;
@@ -147,6 +147,18 @@ impl<L: Line + Drop> Post<L> {
         ensures { result ≡ L.strangers self.now.station.line.line }
     {
         self.station.line.strangers()
+    }
+
+    /// The last call of its line that failed, if one did and the line tells it.
+    pub fn line_trouble(&self) -> Option<LineTrouble> {
+        self.station.line.trouble()
+    }
+
+    /// The address of its station.
+    pub fn address(&self) -> Address
+        ensures { result ≡ self.now.address }
+    {
+        self.address
     }
 
     /// Its line, with what went through it.

@@ -1,5 +1,6 @@
 pub mod LineReadings
 pub mod Lines
+pub mod Reasons
 pub mod Alone
 pub mod Played
 pub mod Ended

@@ -15,8 +15,10 @@ use Rattle.siman_sessions.specs.declared.playing.Stop.TheVariants as stops
 use Rattle.siman_sessions.specs.declared.told.Told.{Told}
 use Rattle.siman_sessions.specs.Came.{status_of, told_of}
 use Rattle.siman_sessions.specs.Reading.{ReadsLines, HoldsLine, said_by}
+use Rattle.siman_sessions.specs.Reason.{Reasons}
 use Rattle.siman_sessions.specs.Sessions.{silenced_by, AtRecorder, Taken, TakesOne, TakesAll, lines_in, told_from, worst_of, MayGoOn, PlaysLines}
 use Rattle.siman_sessions.specs.Told.{Wrote, TellsMore}
+use Rattle.siman_sessions.proofs.Reasons.{reasons_held}
 use Rattle.siman_sessions.proofs.Lines.{reads-none, reads-more, all_lines, first_lines, said_by-held}
 
 -- ---- one line more
@@ -157,8 +159,12 @@ over_played {a = a} {c = c} {came = came} before holds takes status tells over =
 pub takes_held : {L : Type 0} {told : Telling (NotingLine L)} {b c : Option (List ℕ)} {old new : AtRecorder L} {buffer : List ℕ} {held : ℕ} {came : Came}
     → length buffer ≡ LONGEST_LINE + 1 → (holds : HoldsLine b c buffer held)
     → TakesLine told (said_by (take held buffer)) old.post old.recorder new.post new.recorder came.line
-    → came.silenced ≡ silenced_by old.post.printer.fault new.post.printer.fault → TakesOne told (record { line = holds.line; came = came }) old new
-takes_held {told = told} {old = old} {new = new} {came = came} size holds takes silenced = record {
+    → came.silenced ≡ silenced_by old.post.printer.fault new.post.printer.fault → came.site ≡ old.post.address.site → came.application ≡ old.post.address.application
+    → Reasons (take held buffer) came.line.done came.reason → TakesOne told (record { line = holds.line; came = came }) old new
+takes_held {told = told} {old = old} {new = new} {came = came} size holds takes silenced site application reason = record {
   takes = subst (λ (said : Option Command). TakesLine told said old.post old.recorder new.post new.recorder came.line) (said_by-held size holds) takes;
   silenced = silenced;
+  site = site;
+  application = application;
+  reason = reasons_held came.line.done came.reason size holds reason;
 }

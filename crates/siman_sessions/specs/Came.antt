@@ -3,6 +3,7 @@ use Rattle.std.specs.Prelude.{ℕ, Bool, true, false, ◌||◌, List, [], ◌++�
 use Rattle.siman_manager.specs.declared.fault.OrderFault.TheVariants as orders
 use Rattle.siman_stations.specs.declared.station_fault.StationFault.{StationFault}
 use Rattle.siman_stations.specs.declared.station_fault.StationFault.TheVariants as stations
+use Rattle.siman_lines.specs.declared.trouble.LineTrouble.{LineTrouble}
 use Rattle.siman_reports.specs.Records.{line_end}
 use Rattle.siman_posts.specs.declared.obeying.Undone.{Undone}
 use Rattle.siman_posts.specs.declared.obeying.Undone.TheVariants as undone
@@ -10,6 +11,7 @@ use Rattle.siman_posts.specs.declared.printing.PrintFault.{PrintFault}
 use Rattle.siman_posts.specs.declared.printing.PrintFault.TheVariants as prints
 use Rattle.siman_posts.specs.Posts.{is_undone, is_unremembered, is_over}
 use Rattle.siman_sessions.specs.declared.came.Came.{Came}
+use Rattle.siman_sessions.specs.Explanation.{bad_text, alone_text, station_text, lost_text}
 
 -- What failed.
 
@@ -61,22 +63,25 @@ at_line number = codes "line " ++ decimal number
 abbrev pub named : (name : List ℕ) → List ℕ
 named name = (codes ": " ++ name) ++ line_end
 
--- why what a line asks for was not done; of what fails by itself nothing
-abbrev pub why_text : (number : ℕ) → Undone → List ℕ
-why_text number undone.BadLine = at_line number ++ named (codes "bad-line")
-why_text number undone.UnknownStation = at_line number ++ named (codes "unknown-station")
-why_text number (undone.Station fault) = at_line number ++ named (station_fault_name fault)
-why_text number undone.Line = []
-why_text number undone.Record = []
-why_text number undone.Memory = []
+abbrev pub told_line : (number : ℕ) → (name : List ℕ) → List ℕ
+told_line number name = at_line number ++ named name
 
-abbrev pub refused_text : (number : ℕ) → Result (Unit {0}) Undone → List ℕ
-refused_text number (Ok x) = []
-refused_text number (Err why) = why_text number why
+-- why what a line asks for was not done, and what explains it; of what fails by itself nothing
+abbrev pub why_text : (number : ℕ) → Came → Undone → List ℕ
+why_text number came undone.BadLine = told_line number (codes "bad-line") ++ bad_text came.reason
+why_text number came undone.UnknownStation = told_line number (codes "unknown-station") ++ alone_text came.site came.application
+why_text number came (undone.Station fault) = told_line number (station_fault_name fault) ++ station_text fault
+why_text number came undone.Line = []
+why_text number came undone.Record = []
+why_text number came undone.Memory = []
 
--- line N: live: line
-abbrev pub lost_text : (number : ℕ) → (lost : Bool) → List ℕ
-lost_text number lost = if lost then at_line number ++ named (codes "live: line") else []
+abbrev pub refused_text : (number : ℕ) → Came → Result (Unit {0}) Undone → List ℕ
+refused_text number came (Ok x) = []
+refused_text number came (Err why) = why_text number came why
+
+-- line N: live: line, and which call failed, if that is known
+abbrev pub line_text : (number : ℕ) → (lost : Bool) → Option LineTrouble → List ℕ
+line_text number lost trouble = if lost then told_line number (codes "live: line") ++ lost_text trouble else []
 
 abbrev pub memory_text : Bool → List ℕ
 memory_text memory = if memory then codes "memory" ++ line_end else []
@@ -88,8 +93,8 @@ abbrev pub wants_text : (memory failed : Bool) → List ℕ
 wants_text memory failed = memory_text memory ++ output_text failed
 
 abbrev pub undone_text : (number : ℕ) → Came → List ℕ
-undone_text number came = refused_text number came.line.done ++ lost_text number (is_lost came)
+undone_text number came = refused_text number came came.line.done ++ line_text number (is_lost came) came.trouble
 
--- WHAT IS TOLD OF THE LINE OF A NUMBER: why it was not done; that a call of the line of the station failed; that memory ran out; that an entry was not recorded or not printed
+-- WHAT IS TOLD OF THE LINE OF A NUMBER: why it was not done, and that a call of the line of the station failed, each with a second line that explains it; that memory ran out; that an entry was not recorded or not printed
 abbrev pub told_of : (number : ℕ) → Came → List ℕ
 told_of number came = undone_text number came ++ wants_text (wants_memory came) (is_unwritten came)

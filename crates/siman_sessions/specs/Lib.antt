@@ -1,4 +1,6 @@
 pub mod Reading
+pub mod Reason
+pub mod Explanation
 pub mod Came
 pub mod Told
 pub mod Sessions

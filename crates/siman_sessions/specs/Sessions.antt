@@ -18,6 +18,7 @@ use Rattle.siman_sessions.specs.declared.told.Told.{Told}
 use Rattle.siman_sessions.specs.Came.{status_of, told_of}
 use Rattle.siman_sessions.specs.Closing.{Closes}
 use Rattle.siman_sessions.specs.Reading.{said_by, AreLines, AreFirstLines}
+use Rattle.siman_sessions.specs.Reason.{Reasons}
 use Rattle.siman_sessions.specs.Told.{TellsMore, closed_status, closed_text, unread_text}
 use Rattle.std.specs.Prelude.{Result}
 
@@ -38,10 +39,13 @@ pub record Taken : Type 0 where
   pub line : List ℕ
   pub came : Came
 
--- A LINE IS TAKEN, as what it says
+-- A LINE IS TAKEN, as what it says, and of a bad one it is told why
 pub record TakesOne {L : Type 0} (told : Telling (NotingLine L)) (t : Taken) (old new : AtRecorder L) : Type 0 where
   pub takes : TakesLine told (said_by t.line) old.post old.recorder new.post new.recorder t.came.line
   pub silenced : t.came.silenced ≡ silenced_by old.post.printer.fault new.post.printer.fault
+  pub site : t.came.site ≡ old.post.address.site
+  pub application : t.came.application ≡ old.post.address.application
+  pub reason : Reasons t.line t.came.line.done t.came.reason
 
 -- LINES ARE TAKEN, one after the other
 abbrev pub TakesAll : {L : Type 0} → Telling (NotingLine L) → List Taken → (old new : AtRecorder L) → Type 0

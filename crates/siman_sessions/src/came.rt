@@ -2,10 +2,14 @@
 
 ghost use Rattle.std.specs.Prelude.{◌≡◌, ◌++◌, decimal};
 ghost use Rattle.byte_files.specs.Writing.{Writes};
-ghost use Rattle.siman_sessions.specs.Came.{station_fault_name, at_line, named, why_text, refused_text, lost_text, memory_text, output_text, wants_text, undone_text, told_of, is_lost, wants_memory, is_unwritten, status_of};
+ghost use Rattle.siman_sessions.specs.Explanation.{second_line};
+ghost use Rattle.siman_sessions.specs.Came.{station_fault_name, at_line, named, told_line, why_text, refused_text, line_text, memory_text, output_text, wants_text, undone_text, told_of, is_lost, wants_memory, is_unwritten, status_of};
 
+use crate::explanation::{Explanation, of_bad, of_lost, of_other, of_station, put_second};
+use crate::reason::BadReason;
 use byte_files::{WriteFailed, put, put_both};
 use itoa::Buffer;
+use siman_lines::LineTrouble;
 use siman_manager::OrderFault;
 use siman_posts::{LineCame, PrintFault, Undone};
 use siman_stations::StationFault;
@@ -18,6 +22,14 @@ pub struct Came {
     pub line: LineCame,
     /// Why no further entry is printed from this line on, if it is the first of which that is so.
     pub silenced: Option<PrintFault>,
+    /// The site of the station that the session plays.
+    pub site: u16,
+    /// The application of that station.
+    pub application: u16,
+    /// Why the line is bad, if it was refused as one and that is known.
+    pub reason: Option<BadReason>,
+    /// The last call of the line of the station that failed up to here, if one did and that is known.
+    pub trouble: Option<LineTrouble>,
 }
 
 impl Came {
@@ -91,44 +103,73 @@ fn put_name<E: Write>(errors: &mut E, name: &str) -> Result<(), WriteFailed>
 
 /// Writes the line that tells something of a line of text: `line N: NAME`.
 fn put_at_line<E: Write>(errors: &mut E, number: u64, name: &str) -> Result<(), WriteFailed>
-    ensures { Writes result (E.contents errors.old) (E.contents errors.new) (at_line number ++ named name.now) }
+    ensures { Writes result (E.contents errors.old) (E.contents errors.new) (told_line number name.now) }
 {
     put_number(errors, number)?;
     put_name(errors, name)
 }
 
-/// Tells why what a line asks for was not done, if that is told of the line alone.
-fn tell_why<E: Write>(errors: &mut E, number: u64, why: Undone) -> Result<(), WriteFailed>
-    ensures { Writes result (E.contents errors.old) (E.contents errors.new) (why_text number why) }
+/// Writes the line that tells something of a line of text, and the one that explains it, if one does.
+fn put_told<E: Write>(
+    errors: &mut E,
+    number: u64,
+    name: &str,
+    explanation: Option<Explanation>,
+) -> Result<(), WriteFailed>
+    ensures { Writes result (E.contents errors.old) (E.contents errors.new) (told_line number name.now ++ second_line explanation) }
 {
+    put_at_line(errors, number, name)?;
+    put_second(errors, explanation)
+}
+
+/// Tells why what a line asks for was not done, if that is told of the line alone.
+fn tell_why<E: Write>(
+    errors: &mut E,
+    number: u64,
+    came: Came,
+    why: Undone,
+) -> Result<(), WriteFailed>
+    ensures { Writes result (E.contents errors.old) (E.contents errors.new) (why_text number came why) }
+{
+    let (site, application) = (came.site, came.application);
     match why {
-        Undone::BadLine => put_at_line(errors, number, "bad-line"),
-        Undone::UnknownStation => put_at_line(errors, number, "unknown-station"),
-        Undone::Station(fault) => put_at_line(errors, number, station_fault_name(fault)),
+        Undone::BadLine => put_told(errors, number, "bad-line", of_bad(came.reason)),
+        Undone::UnknownStation => {
+            put_told(
+                errors,
+                number,
+                "unknown-station",
+                of_other(site, application),
+            )
+        }
+        Undone::Station(fault) => {
+            put_told(errors, number, station_fault_name(fault), of_station(fault))
+        }
         Undone::Line | Undone::Record | Undone::Memory => Ok(()),
     }
 }
 
 /// Tells that what a line asks for was not done, if it was not.
-fn tell_refused<E: Write>(
-    errors: &mut E,
-    number: u64,
-    done: Result<(), Undone>,
-) -> Result<(), WriteFailed>
-    ensures { Writes result (E.contents errors.old) (E.contents errors.new) (refused_text number done) }
+fn tell_refused<E: Write>(errors: &mut E, number: u64, came: Came) -> Result<(), WriteFailed>
+    ensures { Writes result (E.contents errors.old) (E.contents errors.new) (refused_text number came came.line.done) }
 {
-    match done {
+    match came.line.done {
         Ok(()) => Ok(()),
-        Err(why) => tell_why(errors, number, why),
+        Err(why) => tell_why(errors, number, came, why),
     }
 }
 
 /// Tells that a send or a receive failed at a line of text, if one did.
-fn tell_lost<E: Write>(errors: &mut E, number: u64, lost: bool) -> Result<(), WriteFailed>
-    ensures { Writes result (E.contents errors.old) (E.contents errors.new) (lost_text number lost) }
+fn tell_lost<E: Write>(
+    errors: &mut E,
+    number: u64,
+    lost: bool,
+    trouble: Option<LineTrouble>,
+) -> Result<(), WriteFailed>
+    ensures { Writes result (E.contents errors.old) (E.contents errors.new) (line_text number lost trouble) }
 {
     if lost {
-        return put_at_line(errors, number, "live: line");
+        return put_told(errors, number, "live: line", of_lost(trouble));
     }
     Ok(())
 }
@@ -165,8 +206,8 @@ fn tell_wants<E: Write>(errors: &mut E, memory: bool, failed: bool) -> Result<()
 fn tell_undone<E: Write>(errors: &mut E, number: u64, came: Came) -> Result<(), WriteFailed>
     ensures { Writes result (E.contents errors.old) (E.contents errors.new) (undone_text number came) }
 {
-    tell_refused(errors, number, came.line.done)?;
-    tell_lost(errors, number, came.is_lost())
+    tell_refused(errors, number, came)?;
+    tell_lost(errors, number, came.is_lost(), came.trouble)
 }
 
 /// Tells what of a line of text was not done, and what failed.

@@ -6,13 +6,15 @@
 //! above hands in the post, its recorder, the text and both writers.
 //!
 //! The layers above rest on its contract: which lines were taken, what came of each, what was told, and
-//! the status (`specs/Sessions.antt`, `Came.antt`, `Reading.antt`).
+//! the status (`specs/Sessions.antt`, `Came.antt`, `Explanation.antt`, `Reason.antt`, `Reading.antt`).
 #![tactic(auto)]
 
 mod came;
 mod closing;
+mod explanation;
 mod playing;
 mod reading;
+mod reason;
 mod recorded;
 mod scripted;
 mod session;
@@ -21,6 +23,7 @@ mod told;
 pub use came::Came;
 pub use playing::Stop;
 pub use reading::{LONGEST_LINE, read_line};
+pub use reason::BadReason;
 pub use recorded::{Ready, Recorded, record_session, stand};
 pub use scripted::{SetUp, SetUpFault, set_up};
 pub use session::play;

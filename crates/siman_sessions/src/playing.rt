@@ -6,10 +6,12 @@ ghost use Rattle.siman_posts.specs.Noting.{telling};
 ghost use Rattle.siman_posts.specs.Posts.{TakesLine};
 ghost use Rattle.siman_sessions.specs.declared.reading.TheConstants.{LONGEST_LINE};
 ghost use Rattle.siman_sessions.specs.Reading.{said_by};
+ghost use Rattle.siman_sessions.specs.Reason.{Reasons};
 ghost use Rattle.siman_sessions.specs.Sessions.{silenced_by, AtRecorder, PlaysLines};
 
 use crate::came::Came;
 use crate::reading::{LONGEST_LINE, handed, read_line};
+use crate::reason::reason_of;
 use crate::told::Told;
 use exercise_recording::RecordingWriter;
 use siman_lines::Line;
@@ -52,15 +54,23 @@ fn take_held<L: Line + Drop, W: Write, O: Write>(
 ) -> Came
     ensures takes { TakesLine (telling L.strangers) (said_by held.now) post.old recorder.old post.new recorder.new result.line }
     ensures silenced { result.silenced ≡ silenced_by post.old.printer.fault post.new.printer.fault }
+    ensures site { result.site ≡ post.old.address.site }
+    ensures application { result.application ≡ post.old.address.application }
+    ensures reason { Reasons held.now result.line.done result.reason }
     ensures goes { let old : PostState L = record { station = post.old.station; recorder = recorder.old; exercise = post.old.printer.exercise; printing = record { out = O.contents out.old; fault = post.old.printer.fault } } in
         let new : PostState L = record { station = post.new.station; recorder = recorder.new; exercise = post.new.printer.exercise; printing = record { out = O.contents out.new; fault = post.new.printer.fault } } in
         GoesOn old new }
 {
     let before = post.print_fault();
+    let own = post.address();
     let line = post.take_line(alloc, recorder, out, handed(held));
     Came {
         line,
         silenced: silenced_by(before, post.print_fault()),
+        site: own.site(),
+        application: own.application(),
+        reason: reason_of(alloc, held, line.done),
+        trouble: post.line_trouble(),
     }
 }
 

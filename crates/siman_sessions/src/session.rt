@@ -55,8 +55,9 @@ fn end_session<L: Line + Drop, W: Write, O: Write, E: Write>(
 /// Plays a post by the lines of a reader, to the end: each line is read into the buffer, which has
 /// 65,537 bytes, and taken ([`Post::take_line`]); a line of more than 65,536 bytes is one of no form. A
 /// line that was not done is told with its number, from 1, and so is one at which a send or a receive
-/// failed; want of memory is told, and that an entry was not printed. After all these it goes on. Where
-/// an entry was not recorded it ends at once: that is told, and no further line is read.
+/// failed, each with a second line that explains it; want of memory is told, and that an entry was not
+/// printed. After all these it goes on. Where an entry was not recorded it ends at once: that is told,
+/// and no further line is read.
 ///
 /// At the end of the text the recording is ended, and its counts are printed:
 /// `station records=N dropped=N strangers=N`. A failed read is told (`file: -`), and is an end, too.

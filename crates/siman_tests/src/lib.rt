@@ -38,4 +38,6 @@ mod reviews;
 #[cfg(test)]
 mod scripts;
 #[cfg(test)]
+mod troubles;
+#[cfg(test)]
 mod worlds;

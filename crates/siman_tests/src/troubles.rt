@@ -1,0 +1,144 @@
+//! What is told of calls of a line that failed, and of lines of a session that were not done, with
+//! literal texts, and by writers that fail at each of their calls.
+
+use dis_records::Address;
+use siman_fixtures::{Calls, WELL, read_from, write_to};
+use siman_lines::{LineCall, LineTrouble, MemoryLine, put_line_trouble};
+use siman_scripts::read_script;
+use siman_sessions::{LONGEST_LINE, record_session, set_up, stand};
+use std::alloc::Global;
+use std::io::ErrorKind;
+use std::net::{Ipv4Addr, SocketAddrV4};
+
+/// A call of a line that failed, whether its peer is known, and what is told of it.
+const TROUBLES: [(LineCall, bool, ErrorKind, &str); 6] = [
+    (
+        LineCall::Send,
+        true,
+        ErrorKind::NetworkUnreachable,
+        "sending to 10.0.255.2:3000: no route",
+    ),
+    (
+        LineCall::Send,
+        true,
+        ErrorKind::PermissionDenied,
+        "sending to 10.0.255.2:3000: permission denied",
+    ),
+    (LineCall::Send, false, ErrorKind::Other, "sending: failed"),
+    (
+        LineCall::Receive,
+        false,
+        ErrorKind::NetworkDown,
+        "receiving: the network is down",
+    ),
+    (
+        LineCall::Receive,
+        false,
+        ErrorKind::ConnectionRefused,
+        "receiving: refused by the other side",
+    ),
+    (
+        LineCall::Receive,
+        true,
+        ErrorKind::Uncategorized,
+        "receiving from 10.0.255.2:3000: failed",
+    ),
+];
+
+/// A writer that takes a byte with each call, of which the one of this number fails.
+fn failing_at(call: usize) -> Calls {
+    Calls {
+        most: 1,
+        fails_at: call as u64,
+        kind: Some(ErrorKind::Other),
+    }
+}
+
+/// Whether a failed call is told by this text, and by what stands before it where a write fails.
+fn is_told(alloc: Global, trouble: LineTrouble, text: &[u8]) -> bool {
+    for call in 1..=text.len() {
+        let mut writer = write_to(alloc, failing_at(call));
+        let is_put = put_line_trouble(&mut writer, trouble).is_ok();
+        if is_put || writer.bytes.as_slice() != &text[..call - 1] {
+            return false;
+        }
+    }
+    let mut writer = write_to(alloc, WELL);
+    put_line_trouble(&mut writer, trouble).is_ok() && writer.bytes.as_slice() == text
+}
+
+#[test]
+fn calls_that_failed_are_told(rt: HostRuntime) {
+    let address = SocketAddrV4::new(Ipv4Addr::new(10, 0, 255, 2), 3000);
+    for (call, has_peer, kind, text) in TROUBLES {
+        let peer = if has_peer { Some(address) } else { None };
+        let trouble = LineTrouble { call, peer, kind };
+        assert!(rt; is_told(rt.alloc(), trouble, text.as_bytes()), "{text}");
+    }
+}
+
+/// The script of a session, its lines, and what is told of them.
+const SCRIPT: &str = "exercise 1\nstation 1:1 first=4294967295 tries=1 wait=0\n";
+
+const LINES: &str =
+    "tel 1:1 7\ntick 2:3\ntell 1:1 0\n# none\ncreate 1:1 2:3:7\ncreate 1:1 2:3:8\nat  5\nstation 1:1\ntell 1:1 7\n";
+
+const TOLD: &str = concat!(
+    "line 1: bad-line\n",
+    "  column 1: no line begins with this word: is tell meant?\n",
+    "line 2: unknown-station\n",
+    "  this session plays station 1:1 alone\n",
+    "line 3: no-such-entity\n",
+    "  the number of an entity is from 1 to 65533\n",
+    "line 6: ids-spent\n",
+    "  no request identifier is left after 4294967295: begin a new exercise with a lower first=F\n",
+    "line 7: bad-line\n",
+    "  column 4: two blanks in a row: write one\n",
+    "line 8: bad-line\n",
+    "  column 1: station is no order for a station\n",
+);
+
+/// What a session of these lines tells by a writer of such calls.
+fn told_by(alloc: Global, calls: Calls) -> Option<Vec<u8>> {
+    let address = Address::new(1, 1)?;
+    let script = read_script(alloc, SCRIPT.as_bytes()).ok()?;
+    let station = set_up(alloc, script, address).ok()?;
+    let line = MemoryLine::new(alloc, Vec::new(alloc), None);
+    let ready = stand(alloc, station, address, line).ok()?;
+    let mut room = vec![in alloc; 0u8; LONGEST_LINE + 1].ok()?;
+    let mut input = read_from(LINES.as_bytes(), WELL);
+    let mut out = Vec::new(alloc);
+    let mut errors = write_to(alloc, calls);
+    let file = Vec::new(alloc);
+    let recorded = record_session(
+        alloc,
+        ready,
+        file,
+        &mut input,
+        &mut room,
+        &mut out,
+        &mut errors,
+    );
+    drop(recorded);
+    Some(errors.bytes)
+}
+
+/// Whether a session tells this by a writer of such calls.
+fn tells(alloc: Global, calls: Calls, told: &[u8]) -> bool {
+    match told_by(alloc, calls) {
+        Some(bytes) => bytes.as_slice() == told,
+        None => false,
+    }
+}
+
+#[test]
+fn lines_that_are_not_done_are_explained(rt: HostRuntime) {
+    let told = TOLD.as_bytes();
+    assert!(rt; tells(rt.alloc(), WELL, told));
+    for call in 1..=told.len() {
+        assert!(rt;
+            tells(rt.alloc(), failing_at(call), &told[..call - 1]),
+            "{call}"
+        );
+    }
+}

@@ -2,8 +2,8 @@
 
 FORMATS.md says which datagrams spell a PDU, and which files are recordings and certificates; READING.md when a
 certificate explains a recording, what became of its orders, what each entry says and what goes with it, what
-contradicts what, and how each answer is written; SCRIPTS.md which texts are scripts and, with NETWORK.md, what their
-worlds record and what a station on a network does. Nothing here looks at the program.
+contradicts what, and how each answer is written; SCRIPTS.md which texts are scripts, and why the others are none, and,
+with NETWORK.md, what their worlds record and what a station on a network does. Nothing here looks at the program.
 """
 from .clashes import *
 from .conflicts import *
@@ -12,6 +12,7 @@ from .files import *
 from .histories import *
 from .joins import *
 from .logs import *
+from .reasons import *
 from .reviews import *
 from .scripts import *
 from .stations import *

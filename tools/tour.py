@@ -26,6 +26,10 @@ import tempfile
 from pathlib import Path
 from typing import NamedTuple
 
+sys.dont_write_bytecode = True
+
+from cases.trials import first_lines
+
 TOP = Path(__file__).resolve().parent.parent
 PROGRAM = Path("crates", "siman", "out", "siman")
 EXAMPLES_OF_LAWS = Path("crates", "siman_examples", "src")
@@ -172,15 +176,20 @@ def run(text, folder):
     return done.stdout.decode("utf-8", "backslashreplace").splitlines()
 
 
+def without_second_lines(came):
+    """The lines that came, without the second line of each fault."""
+    return first_lines("\n".join(came).encode()).decode().split("\n")
+
+
 def wrong_commands(name, commands, folder):
-    """Those commands of a page that do not print what the page says."""
+    """Those commands of a page that do not print what the page says. It may leave out the second lines of faults."""
     for command in commands:
         try:
             came = run(command.text, folder)
         except subprocess.TimeoutExpired:
             yield Wrong(name, command.line, f"`{command.text}`: it has not ended after {LONGEST} seconds")
             continue
-        if not agree(command.lines, came):
+        if not agree(command.lines, came) and not agree(command.lines, without_second_lines(came)):
             yield Wrong(name, command.line, f"`{command.text}`: {first_difference(command.lines, came)}")
 
 

@@ -20,6 +20,7 @@ from pathlib import Path
 
 sys.dont_write_bytecode = True
 
+from cases.trials import first_lines
 from cases.wrapper_real import REAL
 from cases.wrapper_situations import SITUATIONS, TOP, Clone, of_program
 
@@ -44,7 +45,7 @@ def real_answer(clone, words, script):
         given = (clone / script).read_bytes() if script.startswith("examples/") else script.encode()
     started = time.monotonic()
     done = subprocess.run([clone / "siman", *words], cwd=clone, input=given, capture_output=True, check=False)
-    wrote, said = done.stdout.decode(), of_program(done.stderr.decode())
+    wrote, said = done.stdout.decode(), of_program(first_lines(done.stderr).decode())
     return done.returncode, wrote, said, time.monotonic() - started
 
 

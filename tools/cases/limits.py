@@ -7,7 +7,7 @@ import time
 
 import pages
 from cases import texts
-from cases.trials import Verdict
+from cases.trials import Verdict, first_lines
 from pages import ABSENT, NO_LINK, STOPPED, Outcome, Recording, Station
 
 MOST_ENTRIES, LARGEST, MOST_SCRIPT = 1_048_576, 268_435_456, 1_048_576
@@ -102,7 +102,7 @@ class Measured:
             _, ended, used = os.wait4(done.pid, 0)
             done.returncode = os.waitstatus_to_exitcode(ended)
         seconds = time.monotonic() - started
-        came = Outcome(done.returncode, out.read_bytes()[:200], errors.read_bytes()[:200])
+        came = Outcome(done.returncode, out.read_bytes()[:200], first_lines(errors.read_bytes())[:200])
         self.verdicts.append(Verdict(f"{limit}, {where}: siman {words[0] if words else 'trial'}", (expected,), came))
         self.lines.append(
             f"{limit} | {where} | {words[0] if words else 'no words'} | {came.status} | "

@@ -9,7 +9,7 @@ import time
 
 import pages
 from cases.examples import TOP, WORKED_LINE, WORKED_SCRIPT
-from cases.trials import UNWRITTEN, Case, Verdict
+from cases.trials import UNWRITTEN, Case, Verdict, first_lines
 from cases.worlds import after
 from pages import Outcome
 
@@ -83,7 +83,7 @@ def raced(trials, what, words, stands, wanted, before=()):
                 writer.write(text)
             out, errors = running.communicate()
         left = new.read_bytes() if new.exists() else None
-        come = [running.returncode, out, errors, left == stands, sorted(os.listdir(folder))]
+        come = [running.returncode, out, first_lines(errors), left == stands, sorted(os.listdir(folder))]
         return [Verdict(f"{what}: a file that appears under the new name", (wanted,), come)]
 
     trials.tasks.append(tried)
@@ -194,7 +194,7 @@ def try_nobody(trials):
     def tried():
         words = ["setpriv", "--reuid", "65534", "--regid", "65534", "--clear-groups", str(program), "world", str(script), "shut/there", "--force"]
         done = subprocess.run(words, cwd=trials.folder, capture_output=True, check=False)
-        came = [done.returncode, done.stdout, done.stderr, path.read_bytes()]
+        came = [done.returncode, done.stdout, first_lines(done.stderr), path.read_bytes()]
         return [Verdict("a folder that may not be written", ([2, b"", b"output: write\n", OLD],), came)]
 
     trials.tasks.append(tried)

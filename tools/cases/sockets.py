@@ -13,7 +13,7 @@ from cases import texts
 from cases.examples import TOP, WORKED_SCRIPT
 from cases.lived import Create, Exchanges, script_of, station_at
 from cases.lives import torn
-from cases.trials import PATIENCE, Verdict
+from cases.trials import PATIENCE, Verdict, first_lines
 from pages import Outcome, Recording, Station
 
 LOOPBACK = "0100007F"  # 127.0.0.1, as /proc/net/udp writes it
@@ -119,7 +119,7 @@ def look(trials, script, name, sees=bound):
         process.communicate()
         status, out, errors = f"none in {PATIENCE} seconds", b"", b""
     reads.join(PATIENCE)
-    return seen, Outcome(status, out, errors), b"".join(wrote)
+    return seen, Outcome(status, out, first_lines(errors)), b"".join(wrote)
 
 
 def try_bound(trials):
@@ -213,7 +213,7 @@ def try_call(trials, call, left, accepted=None):
             trials.skipped.append(f"calls of sockets that fail ({' '.join(call)}): no filter of calls")
             return []
         path, told = trials.folder / name, f"live where {' '.join(call)}"
-        came = Outcome(done.returncode, done.stdout, done.stderr)
+        came = Outcome(done.returncode, done.stdout, first_lines(done.stderr))
         same = path.exists() and path.read_bytes() == left
         return [Verdict(told, (accepted,), came), Verdict(f"{told}, what it left", (True,), same)]
 

@@ -11,7 +11,7 @@ from cases import texts
 from cases.memory import LATER, refusing_library
 from cases.played import Player, bound, free_address, word_of
 from cases.sockets import FAILING, NO_FILTER
-from cases.trials import Case, Some, Verdict
+from cases.trials import Case, Some, Verdict, first_lines
 from pages import (
     ACTION_REQUEST, CREATE, DATA_QUERY, MOST_ENTRIES, REMOVE, SENT, SET_DATA, START, STOP, TOLD, Outcome, Post, read_recording,
 )  # fmt: skip
@@ -281,7 +281,7 @@ def try_full(trials):
         left, size = (trials.folder / "station.full.dsrc").read_bytes(), len(head) + MOST_ENTRIES * len(entry)
         mended = f"mended records={MOST_ENTRIES} kept={size} truncated at {size}\n".encode()
         return [
-            Verdict("a station whose recording is full", ((2, b"output: write\n"),), (done.returncode, done.stderr)),
+            Verdict("a station whose recording is full", ((2, b"output: write\n"),), (done.returncode, first_lines(done.stderr))),
             Verdict("what it printed", (True,), done.stdout == b"".join(b"%d told 0 7 stopped\n" % n for n in range(MOST_ENTRIES))),
             Verdict("what it recorded", (True,), left == head + MOST_ENTRIES * entry),
             trials.verdict(Case(["mend", "station.full.dsrc", "station.full.mended.dsrc"], (Outcome(0, mended, b""),))),

@@ -1,5 +1,6 @@
 """Cases, how they are run, and what is told of them."""
 import os
+import re
 import shlex
 import subprocess
 from collections import namedtuple
@@ -9,10 +10,28 @@ from pages import Outcome
 
 PATIENCE = 20  # seconds for one run
 UNWRITTEN = Outcome(2, b"", b"output: write\n")
+# The first line of each fault: what it is about, and what there is to say.
+SUBJECTS = rb"hex|file|recording|certificate|join|script|world|live|station|line \d+|filter|view|chart|output|words"
+FAULT = re.compile(rb"(" + SUBJECTS + rb"): .*|memory")
 # How the program is called: its words, what it is given on standard input, and what stands before and behind it in a
 # line of the shell; then the outcomes that the pages allow.
 Case = namedtuple("Case", "words accepted given before behind", defaults=(b"", "", ""))
 Verdict = namedtuple("Verdict", "told expected came")
+
+
+def first_lines(errors):
+    """What is told on standard error, without the second lines of faults: of each fault the first line alone.
+
+    A second line begins with two blanks and stands right behind a fault, one behind each. Whatever else begins so stays,
+    and is found where the text is compared; a tip of the usage stands behind an empty line, and is none.
+    """
+    lines = errors.split(b"\n")
+    before = [b"", *lines]
+    return b"\n".join(line for above, line in zip(before, lines) if not (line.startswith(b"  ") and FAULT.fullmatch(above)))
+
+
+def has_second_lines(outcome):
+    return isinstance(outcome, Outcome) and isinstance(outcome.errors, bytes) and first_lines(outcome.errors) != outcome.errors
 
 
 class Some:
@@ -65,6 +84,7 @@ class Trials:
         return in_shell + words if case.before or case.behind else words
 
     def run(self, case, stdout=subprocess.PIPE, **more):
+        """How a case ends: with the second lines of its faults where an accepted outcome has some, else without them."""
         try:
             done = subprocess.run(
                 self.command(case), input=case.given, stdout=stdout, stderr=subprocess.PIPE,
@@ -72,7 +92,8 @@ class Trials:
             )  # fmt: skip
         except subprocess.TimeoutExpired:
             return Outcome(f"none in {PATIENCE} seconds", b"", b"")
-        return Outcome(done.returncode, done.stdout or b"", done.stderr)
+        is_whole = any(map(has_second_lines, case.accepted))
+        return Outcome(done.returncode, done.stdout or b"", done.stderr if is_whole else first_lines(done.stderr))
 
     def verdict(self, case):
         return Verdict(told(case), case.accepted, self.run(case))

@@ -20,6 +20,26 @@ _siman_files() {
     fi
 }
 
+# Files that end so and stand nowhere on the line so far, and folders; all files where none of their folder ends so.
+_siman_others() {
+    local file quoted word files named
+    if ! compgen -f -X "!*.$1" -- "${current%"${current##*/}"}" >/dev/null; then
+        _siman_files "$1"
+        return
+    fi
+    mapfile -t files < <(compgen -f -X "!*.$1" -- "$current")
+    named=("${words[@]:2:${#words[@]}-3}" "${COMP_WORDS[@]:2:COMP_CWORD-2}" "${COMP_WORDS[@]:COMP_CWORD+1}")
+    for file in "${files[@]}"; do
+        printf -v quoted %q "$file"
+        for word in "${named[@]}"; do
+            if [[ $word == "$file" || $word == "$quoted" ]]; then continue 2; fi
+        done
+        COMPREPLY+=("$file")
+    done
+    _siman_folders
+    compopt -o filenames
+}
+
 # Folders: in one of them a file is to be made.
 _siman_folders() {
     local folders
@@ -61,7 +81,7 @@ _siman() {
         mend:0) _siman_files dsrc ;;
         mend:1) _siman_folders ;;
         mend:*) _siman_words '--force' ;;
-        join:*) _siman_files dsrc; _siman_words 'form=open form=closed --force' ;;
+        join:*) _siman_others dsrc; _siman_words 'form=open form=closed --force' ;;
         review:0) _siman_files dsrc ;;
         review:*) _siman_words 'station= entity= request= fate=done fate=answered fate=refused fate=pending fate=unheard fate=unanswered fate=lost fate=unknown fate=nobody --json' ;;
         log:0) _siman_files dsrc ;;

@@ -26,6 +26,22 @@ function __siman_files
     end
 end
 
+# Files that end so and stand nowhere on the line so far, and folders; all files where none of their folder ends so.
+function __siman_others
+    set -l current (commandline -ct)
+    set -l all (string replace -r '[^/]*$' '' -- $current)*.$argv[1]
+    if test (count $all) -eq 0
+        __siman_files $argv[1]
+    else
+        set -l named (commandline -opc)
+        set -l offered $current*/
+        for file in $current*.$argv[1]
+            contains -- $file $named; or set -a offered $file
+        end
+        test (count $offered) -eq 0; or printf '%s\n' $offered
+    end
+end
+
 # Folders: in one of them a file is to be made.
 function __siman_folders
     __fish_complete_directories (commandline -ct) ''
@@ -67,7 +83,7 @@ complete -c siman -n '__siman_at 2 mend' -a '(__siman_files dsrc)'
 complete -c siman -n '__siman_at 3 mend' -a '(__siman_folders)'
 complete -c siman -n '__siman_behind 4 mend' -a '--force'
 complete -c siman -n '__siman_at 1' -a join -d 'Joins the recordings of one exercise that several recorders made'
-complete -c siman -n '__siman_behind 2 join' -a '(__siman_files dsrc)'
+complete -c siman -n '__siman_behind 2 join' -a '(__siman_others dsrc)'
 complete -c siman -n '__siman_behind 2 join' -a 'form=open form=closed --force'
 complete -c siman -n '__siman_at 1' -a review -d 'Tells what became of each order of a recording, and how each entity lived'
 complete -c siman -n '__siman_at 2 review' -a '(__siman_files dsrc)'

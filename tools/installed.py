@@ -40,17 +40,20 @@ IN_PACKAGE = {
     "share/doc/siman/changelog.gz",
     "share/doc/siman/copyright",
 }
-FILES = ("exercise.dsrc", "exercise.dsct", "exercise.script", "notes.txt")
+FILES = (
+    "exercise.dsrc", "exercise.dsct", "exercise.script", "notes.txt", "one.dsrc", "two words.dsrc", "later/1.dsrc", "later/2.dsrc",
+    "later/notes.txt",
+)  # fmt: skip
 # What is typed before the tab, and the words of the line behind it.
 TYPED = {
     "siman che": "siman check",
     "siman pd": "siman pdu",
     "siman --ver": "siman --version",
     "siman help men": "siman help mend",
-    "siman show ": "siman show exercise.dsrc",
-    "siman check exercise.dsrc ": "siman check exercise.dsrc exercise.dsct",
+    "siman show e": "siman show exercise.dsrc",
+    "siman check exercise.dsrc e": "siman check exercise.dsrc exercise.dsct",
     "siman world ex": "siman world exercise.script",
-    "siman live exercise.script ": "siman live exercise.script",
+    "siman live exercise.script ": "siman live exercise.script later/",
     "siman audit exercise.dsrc exer": "siman audit exercise.dsrc exer",
     "siman mend exercise.dsrc new.dsrc --f": "siman mend exercise.dsrc new.dsrc --force",
     "siman review exercise.dsrc fate=unh": "siman review exercise.dsrc fate=unheard",
@@ -59,7 +62,18 @@ TYPED = {
     "siman log exercise.dsrc --j": "siman log exercise.dsrc --json",
     "siman why exercise.dsrc exer": "siman why exercise.dsrc exercise.dsct",
     "siman why exercise.dsrc --j": "siman why exercise.dsrc --json",
-    "siman join exercise.dsrc exer": "siman join exercise.dsrc exercise.dsrc",
+    "siman join exer": "siman join exercise.dsrc",
+    "siman join exercise.dsrc exer": "siman join exercise.dsrc exer",
+    "siman join exercise.dsrc o": "siman join exercise.dsrc one.dsrc",
+    "siman join exercise.dsrc one.dsrc t": "siman join exercise.dsrc one.dsrc two words.dsrc",
+    r"siman join two\ words.dsrc t": "siman join two words.dsrc t",
+    r"siman join two\ words.dsrc exercise.dsrc one.dsrc no": "siman join two words.dsrc exercise.dsrc one.dsrc no",
+    r"siman join two\ words.dsrc exercise.dsrc one.dsrc l": "siman join two words.dsrc exercise.dsrc one.dsrc later/",
+    "siman join exercise.dsrc later/1": "siman join exercise.dsrc later/1.dsrc",
+    "siman join later/1.dsrc later/": "siman join later/1.dsrc later/2.dsrc",
+    "siman join later/2.dsrc 1": "siman join later/2.dsrc 1",
+    "siman join later/2.dsrc later/1.dsrc later/": "siman join later/2.dsrc later/1.dsrc later/",
+    "siman join later/2.dsrc later/1.dsrc later/n": "siman join later/2.dsrc later/1.dsrc later/n",
     "siman join a.dsrc b.dsrc form=o": "siman join a.dsrc b.dsrc form=open",
     "siman pdu ": "siman pdu",
 }
@@ -68,7 +82,7 @@ SHELLS = {
     "bash": (["bash", "--norc", "--noprofile", "-i"], [f"source {COMPLETIONS}/siman.bash"]),
     "zsh": (
         ["zsh", "-f", "-i"],
-        [f"fpath=({COMPLETIONS} $fpath); autoload -Uz compinit; compinit -u -D; bindkey -e; setopt NO_BEEP"],
+        [f"fpath=({COMPLETIONS} $fpath); autoload -Uz compinit; compinit -u -D; bindkey -e; setopt NO_BEEP NO_AUTO_REMOVE_SLASH"],
     ),
     "fish": (
         ["fish", "--no-config", "-i"],
@@ -141,6 +155,7 @@ def completed(shell, folder):
 
 def try_completions(tries, folder):
     for name in FILES:
+        (folder / name).parent.mkdir(exist_ok=True)
         (folder / name).touch()
     for shell in SHELLS:
         if not shutil.which(shell):

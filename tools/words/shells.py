@@ -32,6 +32,26 @@ _siman_files() {
     fi
 }
 
+# Files that end so and stand nowhere on the line so far, and folders; all files where none of their folder ends so.
+_siman_others() {
+    local file quoted word files named
+    if ! compgen -f -X "!*.$1" -- "${current%"${current##*/}"}" >/dev/null; then
+        _siman_files "$1"
+        return
+    fi
+    mapfile -t files < <(compgen -f -X "!*.$1" -- "$current")
+    named=("${words[@]:2:${#words[@]}-3}" "${COMP_WORDS[@]:2:COMP_CWORD-2}" "${COMP_WORDS[@]:COMP_CWORD+1}")
+    for file in "${files[@]}"; do
+        printf -v quoted %q "$file"
+        for word in "${named[@]}"; do
+            if [[ $word == "$file" || $word == "$quoted" ]]; then continue 2; fi
+        done
+        COMPREPLY+=("$file")
+    done
+    _siman_folders
+    compopt -o filenames
+}
+
 # Folders: in one of them a file is to be made.
 _siman_folders() {
     local folders
@@ -63,6 +83,21 @@ complete -F _siman siman
 ZSH = """\
 #compdef siman
 # Completion of siman's words for zsh. @MADE@
+
+# Files that end so and stand nowhere on the line so far, and folders; all files where none of their folder is on the line.
+_siman_others() {
+    local folder=${(Q)${(M)PREFIX##*/}} word except
+    for word in ${(Q)words[3,CURRENT-1]} ${(Q)words[CURRENT+1,-1]}; do
+        # blanks part patterns here, with a backslash too
+        if [[ ${(M)word##*/} == "$folder" && $word == *.$1 ]]; then except+="~${${(b)word##*/}//\\\\ /?}"; fi
+    done
+    if [[ -z $except ]]; then
+        _files -g "*.$1"
+    else
+        _path_files -g "(*.$1$except)"
+        _path_files -/
+    fi
+}
 
 _siman() {
     local -a commands options
@@ -112,6 +147,22 @@ function __siman_files
     end
 end
 
+# Files that end so and stand nowhere on the line so far, and folders; all files where none of their folder ends so.
+function __siman_others
+    set -l current (commandline -ct)
+    set -l all (string replace -r '[^/]*$' '' -- $current)*.$argv[1]
+    if test (count $all) -eq 0
+        __siman_files $argv[1]
+    else
+        set -l named (commandline -opc)
+        set -l offered $current*/
+        for file in $current*.$argv[1]
+            contains -- $file $named; or set -a offered $file
+        end
+        test (count $offered) -eq 0; or printf '%s\\n' $offered
+    end
+end
+
 # Folders: in one of them a file is to be made.
 function __siman_folders
     __fish_complete_directories (commandline -ct) ''
@@ -144,6 +195,11 @@ def ends_of(words):
     return list(dict.fromkeys(ends)) if len(words) == 1 else list(dict.fromkeys(filter(None, ends)))
 
 
+def are_others(words):
+    """Whether a file that one of these words names stands once on the line, and the next word is for another."""
+    return any(word.is_many and word.name in ENDS for word in words)
+
+
 def offered(command, values_of):
     """The words that are offered behind those that have their places: whole ones, and keys that a value follows."""
     found = []
@@ -164,13 +220,14 @@ def names_of(program):
     return [*(command.name for command in program.commands), "help"]
 
 
-def cases_of(program, values_of, files, words):
-    """The cases of a shell: `files` is how it offers those that end so, and `words` how it offers words, if any."""
+def cases_of(program, values_of, files, others, words):
+    """The cases of a shell: `files` is how it offers those that end so, `others` those that are not on the line so far,
+    and `words` how it offers words, if any."""
     cases = []
     for command in program.commands:
         fixed, behind = places_of(command)
         cases += [f"{command.name}:{k}) {files(end)} ;;" for k, word in enumerate(fixed) for end in ends_of([word])]
-        rest = [*map(files, ends_of(behind)), *words(offered(command, values_of))]
+        rest = [*map(others if are_others(behind) else files, ends_of(behind)), *words(offered(command, values_of))]
         if rest:
             cases.append(f"{command.name}:*) {'; '.join(rest)} ;;")
     return "\n        ".join(cases)
@@ -183,7 +240,7 @@ def bash(program, values_of):
     def files(end):
         return f"_siman_files {end}" if end else "_siman_folders"
 
-    cases = cases_of(program, values_of, files, words)
+    cases = cases_of(program, values_of, files, "_siman_others {}".format, words)
     return filled(BASH, {"NAMES": " ".join(names_of(program)), "OPTIONS": " ".join(OPTIONS), "CASES": cases})
 
 
@@ -198,9 +255,9 @@ def zsh(program, values_of):
     described = [quoted(f"{name}:{about}") for name, about in told.items()]
     options = [quoted(f"{name}:{about}") for name, about in OPTIONS.items()]
     def files(end):
-        return f"_files -g '*.{end}'" if end else "_files -/"
+        return f"_files -g '*.{end}'" if end else "_path_files -/"
 
-    cases = cases_of(program, values_of, files, words)
+    cases = cases_of(program, values_of, files, "_siman_others {}".format, words)
     parts = {"COMMANDS": "\n        ".join(described), "OPTIONS": " ".join(options), "CASES": cases}
     return filled(ZSH, parts)
 
@@ -215,7 +272,8 @@ def fish_lines(command, values_of):
             files = f"__siman_files {end}" if end else "__siman_folders"
             yield f"{at} '__siman_at {place} {name}' -a '({files})'"
     for end in ends_of(behind):
-        yield f"{at} '__siman_behind {len(fixed) + 2} {name}' -a '(__siman_files {end})'"
+        files = f"__siman_others {end}" if are_others(behind) else f"__siman_files {end}"
+        yield f"{at} '__siman_behind {len(fixed) + 2} {name}' -a '({files})'"
     if offered(command, values_of):
         words = " ".join(offered(command, values_of))
         yield f"{at} '__siman_behind {len(fixed) + 2} {name}' -a '{words}'"

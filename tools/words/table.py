@@ -16,12 +16,13 @@ NAMED = {
 
 
 class Word(NamedTuple):
-    """A word that a command takes: its name, whether it may be left out or stand more than once, and what
-    it is."""
+    """A word that a command takes: its name, whether it may be left out or stand more than once, what it is, and whether
+    it may stand more than once, each time for another thing."""
 
     name: str
     is_repeated: bool
     about: str
+    is_many: bool = False
 
     @property
     def is_made(self):
@@ -94,7 +95,8 @@ def program():
         keys = ("name", "about", "example")
         name, about, example = (string(re.search(rf"{key}: ({STRING})", head)[1]) for key in keys)
         parts = re.findall(rf"name: ({STRING}),\s*often: Often::(\w+),\s*about: ({STRING})", tail)
-        words = [Word(string(word), often != "Once", string(what)) for word, often, what in parts]
+        many = ("OnceOrMore", "AnyTimes")
+        words = [Word(string(word), often != "Once", string(what), often in many) for word, often, what in parts]
         example = example.removeprefix("Example:").strip()
         found.append(Command(name, usage, about, answer[name], example, words, choices_of(usage, words)))
     texts = (commands.TABLE.parent / "usage.rt").read_text(encoding="utf-8")

@@ -32,7 +32,7 @@ _siman_others() {
     for file in "${files[@]}"; do
         printf -v quoted %q "$file"
         for word in "${named[@]}"; do
-            if [[ $word == "$file" || $word == "$quoted" ]]; then continue 2; fi
+            if [[ $word == "$file" || $word == "$quoted" || $word == [\"\']"$file"[\"\'] ]]; then continue 2; fi
         done
         COMPREPLY+=("$file")
     done

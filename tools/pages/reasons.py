@@ -1,5 +1,7 @@
-"""Why a text is no script, and a line no order for a station, by SCRIPTS.md: the first reason, with its line, its column
-and its text.
+"""Why a text is no script, and a line no order for a station: the first reason, with its line, its column and its text.
+
+SCRIPTS.md says which reasons there are and in which order they come; their texts to the byte, and which name is near, say
+the definitions in crates/siman_scripts/specs (ReasonText.antt, Nearest.antt).
 """
 import re
 from typing import NamedTuple

@@ -1,12 +1,15 @@
 //! What is told of calls of a line that failed, and of lines of a session that were not done, with
 //! literal texts, and by writers that fail at each of their calls.
 
+ghost use Rattle.std.specs.Prelude.{◌≡◌, ◌+◌, length, IfOk};
+ghost use Rattle.siman_sessions.specs.declared.reading.TheConstants.{LONGEST_LINE};
+
 use dis_records::Address;
 use siman_fixtures::{Calls, WELL, read_from, write_to};
 use siman_lines::{LineCall, LineTrouble, MemoryLine, put_line_trouble};
 use siman_scripts::read_script;
 use siman_sessions::{LONGEST_LINE, record_session, set_up, stand};
-use std::alloc::Global;
+use std::alloc::{AllocError, Global};
 use std::io::ErrorKind;
 use std::net::{Ipv4Addr, SocketAddrV4};
 
@@ -98,6 +101,13 @@ const TOLD: &str = concat!(
     "  column 1: station is no order for a station\n",
 );
 
+/// Room for a line of a session.
+fn room_of(alloc: Global) -> Result<Vec<u8>, AllocError>
+    ensures { IfOk result (λ room. length room.items ≡ LONGEST_LINE + 1) }
+{
+    vec![in alloc; 0u8; LONGEST_LINE + 1]
+}
+
 /// What a session of these lines tells by a writer of such calls.
 fn told_by(alloc: Global, calls: Calls) -> Option<Vec<u8>> {
     let address = Address::new(1, 1)?;
@@ -105,7 +115,10 @@ fn told_by(alloc: Global, calls: Calls) -> Option<Vec<u8>> {
     let station = set_up(alloc, script, address).ok()?;
     let line = MemoryLine::new(alloc, Vec::new(alloc), None);
     let ready = stand(alloc, station, address, line).ok()?;
-    let mut room = vec![in alloc; 0u8; LONGEST_LINE + 1].ok()?;
+    let Ok(mut room) = room_of(alloc) else {
+        drop(ready);
+        return None;
+    };
     let mut input = read_from(LINES.as_bytes(), WELL);
     let mut out = Vec::new(alloc);
     let mut errors = write_to(alloc, calls);

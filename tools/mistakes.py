@@ -37,7 +37,7 @@ sys.dont_write_bytecode = True
 from cases.made_scripts import spoilt_script
 from cases.mended_scripts import mended
 from cases.trials import described, short
-from pages import Outcome, Stopped, World, all_reasons, answer_to_world, line_of_move, reason_of_script, script_fault
+from pages import Outcome, Stopped, World, all_reasons, answer_to_world, line_of_move, reason_of_script, script_fault, warning_of_script
 
 TOP = Path(__file__).resolve().parent.parent
 PATIENCE = 20  # seconds for one run
@@ -89,14 +89,17 @@ def is_right_stop(text, expected, came):
     move, sent = sends_before_stop(text)
     begin = expected.errors + f"  line {line_of_move(text, move)}: ".encode()
     is_told = came.errors.startswith(begin) and came.errors.count(b"\n") == 2 and came.errors.endswith(b"\n")
-    if b"no-such-send" in expected.errors and sent > 1:
-        is_told = is_told and f"only the datagrams 0 to {sent - 1} were sent".encode() in came.errors
+    if b"no-such-send" in expected.errors:
+        known = f"only the datagrams 0 to {sent - 1} were sent before it\n" if sent else "no datagram was sent before it\n"
+        is_told = came.errors == begin + known.encode()
     return is_told and came._replace(errors=b"") == expected._replace(errors=b"")
 
 
 def fault_of_taken(text, came, made):
     """What is wrong with an answer to a script that is taken, or None."""
     expected, recording = answer_to_world(text)
+    if expected.status == 0:
+        expected = expected._replace(errors=warning_of_script(text).encode())
     is_right = is_right_stop(text, expected, came) if b" at move " in expected.errors else came == expected
     if is_right and made == recording:
         return None

@@ -8,7 +8,7 @@ from typing import NamedTuple
 
 from .scripts import LARGEST_SCRIPT
 
-__all__ = ["SCRIPT_FORMS", "all_reasons", "line_of_move", "reason_of_command", "reason_of_script"]
+__all__ = ["SCRIPT_FORMS", "all_reasons", "line_of_move", "reason_of_command", "reason_of_script", "warning_of_script"]
 
 MOST_STATIONS = 256
 
@@ -292,6 +292,23 @@ def reason_of_command(line):
         return f"column 1: {name} is no order for a station"
     found = line_reason(line)
     return f"column {found[0]}: {found[1]}" if found else None
+
+
+ORDERS = ("do", "query", "set", "create", "remove", "start", "stop")
+EVERY = 65535  # every site, or every application of one
+
+
+def warning_of_script(text):
+    """The warning of the first order of a script, which is read well, for a station that it has not; or nothing."""
+    lines = [line.split(" ") for line in lines_of(text)]
+    stations = {tuple(map(int, words[1].split(":"))) for words in lines if words[0] == "station"}
+    for at, words in enumerate(lines, 1):
+        if words[0] in ORDERS:
+            site, application, _ = map(int, words[2].split(":"))
+            meant = {one for one in stations if one[0] == site and application in (one[1], EVERY)}
+            if site != EVERY and not meant:
+                return f"warning: line {at}: the script has no station {site}:{application}, so nobody gets this order\n"
+    return ""
 
 
 def line_of_move(text, place):

@@ -36,7 +36,7 @@ fn main(rt: HostRuntime) -> ExitCode {
     let _held = (held(&rt), held(&rt), held(&rt));
     let alloc = rt.alloc();
     let words = words(&rt, alloc);
-    let (mut out, mut errors) = (rt.stdout(), rt.stderr());
+    let (mut out, mut errors, mut reasons) = (rt.stdout(), rt.stderr(), rt.stderr());
     if is_at_terminal(&rt, &words) {
         let ended = end_at_terminal(alloc, &mut out, &mut errors);
         return ExitCode::from(ended.status);
@@ -48,6 +48,7 @@ fn main(rt: HostRuntime) -> ExitCode {
         rt.stdin(),
         &mut out,
         &mut errors,
+        &mut reasons,
     );
     ExitCode::from(ended.status)
 }

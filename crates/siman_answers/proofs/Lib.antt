@@ -1,3 +1,4 @@
+mod Counted
 mod Inputs
 mod Openings
 mod Passings

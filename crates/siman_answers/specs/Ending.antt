@@ -1,6 +1,7 @@
 -- Why a command gave no answer, and how a command ends (profile).
 use Rattle.std.specs.Prelude.{◌≡◌, ◌≢◌, ◌⊎◌, ℕ, List, [], ◌++◌, codes, decimal, Option, Some, None, Result, Ok, Err}
 use Rattle.std.specs.Io.KnownBytes.{Keeps}
+use Rattle.std.specs.Result.{result_err}
 use Rattle.std.specs.declared.io.ErrorKind.{ErrorKind}
 use Rattle.std.specs.declared.io.ErrorKind.TheVariants.{OutOfMemory, NotFound, PermissionDenied, IsADirectory}
 use Rattle.byte_files.specs.Writing.{Writes}
@@ -33,7 +34,7 @@ use Rattle.siman_answers.specs.declared.join_limit.JoinLimit.{JoinLimit}
 use Rattle.siman_answers.specs.declared.join_limit.JoinLimit.TheVariants as limits
 use Rattle.siman_answers.specs.declared.fault.Fault.{Fault}
 use Rattle.siman_answers.specs.declared.fault.Ended.{Ended}
-use Rattle.siman_answers.specs.declared.fault.Fault.TheVariants.{NotBytePairs, HexLine, Input, File, Words, Recording, Already, Piece, OtherExercise, StationTwice, Joined, Certificate, Script, ScriptRead, World, LineFailed, StationWord, NotInSetup, Filter, OverLimit, ChartOverLimit, Output, SameAs, Exists, Memory}
+use Rattle.siman_answers.specs.declared.fault.Fault.TheVariants.{NotBytePairs, HexLine, Input, File, Words, Recording, Already, Piece, OtherExercise, StationTwice, Joined, Certificate, Script, ScriptRead, World, LineFailed, StationWord, NotInSetup, Filter, Step, OverLimit, ChartOverLimit, Output, SameAs, Exists, Memory}
 use Rattle.siman_answers.specs.declared.files_fault.FilesFault.{FilesFault}
 use Rattle.siman_answers.specs.declared.files_fault.FilesFault.TheVariants as files
 use Rattle.siman_answers.specs.declared.input.InputFault.{InputFault}
@@ -92,17 +93,18 @@ told_as (Joined limit) = (codes "join: ", limit_name limit, None)
 told_as (Certificate (certificates.Format f)) = (codes "certificate: ", certificate_texts.name_of f, Some (Offset (certificate_texts.place_of f)))
 told_as (Certificate certificates.Read) = (codes "certificate: ", codes "read", None)
 told_as (Certificate certificates.Memory) = (codes "certificate: ", codes "memory", None)
-told_as (Script (scripts.BadLine line)) = (codes "script: ", codes "bad-line", Some (Line line))
-told_as (Script (scripts.UnknownStation line)) = (codes "script: ", codes "unknown-station", Some (Line line))
-told_as (Script scripts.Memory) = (codes "script: ", codes "memory", None)
+told_as (Script (scripts.BadLine line) why) = (codes "script: ", codes "bad-line", Some (Line line))
+told_as (Script (scripts.UnknownStation line) why) = (codes "script: ", codes "unknown-station", Some (Line line))
+told_as (Script scripts.Memory why) = (codes "script: ", codes "memory", None)
 told_as (ScriptRead failed) = (codes "script: ", codes "read", None)
-told_as (World worlds.Stations) = (codes "world: ", codes "stations", None)
-told_as (World (worlds.Move number fault)) = (codes "world: ", move_fault_name fault, Some (Move number))
-told_as (World worlds.Memory) = (codes "world: ", codes "memory", None)
+told_as (World worlds.Stations there) = (codes "world: ", codes "stations", None)
+told_as (World (worlds.Move number fault) there) = (codes "world: ", move_fault_name fault, Some (Move number))
+told_as (World worlds.Memory there) = (codes "world: ", codes "memory", None)
 told_as LineFailed = (codes "live: ", codes "line", None)
 told_as (StationWord word) = (codes "station: address ", word.now, None)
 told_as NotInSetup = (codes "station: ", codes "not-in-setup", None)
 told_as (Filter word) = (codes "filter: ", word.now, None)
+told_as (Step word steps) = (codes "filter: ", word.now, None)
 told_as OverLimit = (codes "view: ", codes "over-limit", None)
 told_as ChartOverLimit = (codes "chart: ", codes "over-limit", None)
 told_as Output = (codes "output: ", codes "write", None)
@@ -177,7 +179,7 @@ of_review reviews.Memory = Memory
 -- how the fault of a script, and that of its world, is told
 abbrev pub of_script : ScriptFault → Fault
 of_script scripts.Memory = Memory
-of_script fault = Script fault
+of_script fault = Script fault None
 
 -- how it is told that a script was not read whole
 abbrev pub of_unread_script : InputFault → Fault
@@ -186,7 +188,7 @@ of_unread_script inputs.Memory = Memory
 
 abbrev pub of_world : WorldFault → Fault
 of_world worlds.Memory = Memory
-of_world fault = World fault
+of_world fault = World fault None
 
 abbrev pub of_files : FilesFault → Fault
 of_files (files.Recording fault) = Recording fault
@@ -197,8 +199,8 @@ of_files files.Memory = Memory
 -- how the fault of a trial is told
 abbrev pub of_trial : TrialFault → Fault
 of_trial (trials.Read failed) = ScriptRead failed
-of_trial (trials.Script fault) = Script fault
-of_trial (trials.World fault) = World fault
+of_trial (trials.Script fault) = Script fault None
+of_trial (trials.World fault) = World fault None
 of_trial trials.Write = Output
 of_trial trials.Memory = Memory
 
@@ -220,6 +222,10 @@ Tells (Err fault) wrote old new = Writes wrote old new (fault_line fault)
 pub record Ends (answered : Result ℕ Fault) (ended : Ended) (old new : Option (List ℕ)) : Type 0 where
   pub status_is : ended.status ≡ status_of answered
   pub tells : Tells answered ended.written old new
+
+-- the fault that was met, if one was
+abbrev pub fault_in : Result ℕ Fault → Option Fault
+fault_in answered = result_err answered
 
 -- the same of a call that answers the status alone
 abbrev pub EndsWith : Result ℕ Fault → (status : ℕ) → (old new : Option (List ℕ)) → Type 0

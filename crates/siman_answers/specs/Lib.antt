@@ -8,3 +8,5 @@ pub mod Opening
 pub mod Saying
 pub mod Passing
 pub mod Recorded
+pub mod FileKinds
+pub mod Notes

@@ -7,6 +7,7 @@ use Rattle.std.specs.declared.io.ErrorKind.{ErrorKind}
 use Rattle.std.specs.declared.io.ErrorKind.TheVariants.{OutOfMemory}
 use Rattle.siman_answers.specs.declared.endpoint.Endpoint.{Endpoint}
 use Rattle.siman_answers.specs.declared.fault.Ended.{Ended}
+use Rattle.siman_answers.specs.declared.fault.Fault.{Fault}
 
 -- A reader has these bytes; where it is not known which it has, these may be any.
 abbrev pub Has : (known : Option (List ℕ)) → (bytes : List ℕ) → Type 0
@@ -17,9 +18,10 @@ pub record Stream : Type 0 where
   pub old : Option (List ℕ)
   pub new : Option (List ℕ)
 
--- how a command ended, and what it left on the writer of answers and on the writer of faults
+-- how a command ended, the fault that is explained of it, and what it left on the writer of answers and on the writer of faults
 pub record Outcome : Type 0 where
   pub ended : Ended
+  pub fault : Option Fault
   pub out : Stream
   pub errors : Stream
 

@@ -4,11 +4,12 @@ ghost use Rattle.std.specs.Prelude.{◌≡◌, Some};
 ghost use Rattle.std.specs.IoError.{error_kind};
 ghost use Rattle.byte_files.specs.Writing.{Writes};
 ghost use Rattle.siman_answers.specs.declared.fault.Fault.TheVariants.{Memory};
-ghost use Rattle.siman_answers.specs.Ending.{move_fault_name, told_as, place_text, fault_text, fault_line, fault_status, IsToldAs, of_recording, of_convert, of_mend, of_review, of_files, of_script, of_world, of_trial, of_unread_script, of_certificate, Ends};
+ghost use Rattle.siman_answers.specs.Ending.{told_as, place_text, fault_text, fault_line, fault_status, IsToldAs, of_recording, of_convert, of_mend, of_review, of_files, of_script, of_world, of_trial, of_unread_script, of_certificate, Ends};
 
 use crate::files_fault::FilesFault;
 use crate::input::{InputFault, Unread};
 use crate::join_limit::JoinLimit;
+use crate::move_place::{MovePlace, move_fault_name};
 use crate::place::{Place, put_place};
 use crate::reason::Reason;
 use crate::trial_fault::TrialFault;
@@ -16,9 +17,8 @@ use byte_files::{WriteFailed, put, put_both};
 use exercise_check::CertificateFault;
 use exercise_recording::{ConvertFault, MendFault, RecordingFault};
 use exercise_review::ReviewFault;
-use siman_manager::OrderFault;
-use siman_scripts::ScriptFault;
-use siman_worlds::{MoveFault, WorldFault};
+use siman_scripts::{LineReason, ScriptFault};
+use siman_worlds::WorldFault;
 use std::alloc::{AllocError, AllocFailed};
 use std::io::{ErrorKind, Write};
 use std::{fmt, io};
@@ -51,12 +51,13 @@ pub enum Fault<'a> {
     Joined(JoinLimit),
     /// The certificate could not be read; never for want of memory.
     Certificate(CertificateFault),
-    /// The text is no script; never for want of memory.
-    Script(ScriptFault),
+    /// The text is no script, and why, where that is told; never for want of memory.
+    Script(ScriptFault, Option<LineReason>),
     /// The script could not be read.
     ScriptRead(Unread),
-    /// The world of the script does not run; never for want of memory.
-    World(WorldFault),
+    /// The world of the script does not run, and where its move stands that cannot be made, where that
+    /// is told; never for want of memory.
+    World(WorldFault, Option<MovePlace>),
     /// A line of a station could not be had, or a call of it failed.
     LineFailed,
     /// This word is no address of a station, or says of no socket where it is.
@@ -65,6 +66,8 @@ pub enum Fault<'a> {
     NotInSetup,
     /// This word asks for no filter.
     Filter(&'a str),
+    /// This word says a step past the last one of so many.
+    Step(&'a str, usize),
     /// The view would have more than 4,194,304 lines.
     OverLimit,
     /// The picture would have more than 2,000 rows, or the entities of a station have more than
@@ -127,23 +130,23 @@ impl<'a> Fault<'a> {
             ),
             Fault::Certificate(CertificateFault::Read) => ("certificate: ", "read", None),
             Fault::Certificate(CertificateFault::Memory) => ("certificate: ", "memory", None),
-            Fault::Script(ScriptFault::BadLine(line)) => {
+            Fault::Script(ScriptFault::BadLine(line), _) => {
                 ("script: ", "bad-line", Some(Place::Line(line)))
             }
-            Fault::Script(ScriptFault::UnknownStation(line)) => {
+            Fault::Script(ScriptFault::UnknownStation(line), _) => {
                 ("script: ", "unknown-station", Some(Place::Line(line)))
             }
-            Fault::Script(ScriptFault::Memory) => ("script: ", "memory", None),
+            Fault::Script(ScriptFault::Memory, _) => ("script: ", "memory", None),
             Fault::ScriptRead(_) => ("script: ", "read", None),
-            Fault::World(WorldFault::Stations) => ("world: ", "stations", None),
-            Fault::World(WorldFault::Move(number, fault)) => {
+            Fault::World(WorldFault::Stations, _) => ("world: ", "stations", None),
+            Fault::World(WorldFault::Move(number, fault), _) => {
                 ("world: ", move_fault_name(fault), Some(Place::Move(number)))
             }
-            Fault::World(WorldFault::Memory) => ("world: ", "memory", None),
+            Fault::World(WorldFault::Memory, _) => ("world: ", "memory", None),
             Fault::LineFailed => ("live: ", "line", None),
             Fault::StationWord(word) => ("station: address ", word, None),
             Fault::NotInSetup => ("station: ", "not-in-setup", None),
-            Fault::Filter(word) => ("filter: ", word, None),
+            Fault::Filter(word) | Fault::Step(word, _) => ("filter: ", word, None),
             Fault::OverLimit => ("view: ", "over-limit", None),
             Fault::ChartOverLimit => ("chart: ", "over-limit", None),
             Fault::Output => ("output: ", "write", None),
@@ -161,22 +164,6 @@ impl<'a> Fault<'a> {
             Fault::Memory => 3,
             _ => 2,
         }
-    }
-}
-
-/// The name of a fault of a move.
-fn move_fault_name(fault: MoveFault) -> &'static str
-    ensures { result.now ≡ move_fault_name fault }
-{
-    match fault {
-        MoveFault::Records => "records",
-        MoveFault::NoSuchStation => "no-such-station",
-        MoveFault::NoSuchSend => "no-such-send",
-        MoveFault::NoSuchEntity => "no-such-entity",
-        MoveFault::NotARequest => "not-a-request",
-        MoveFault::Order(OrderFault::IdsSpent) => "ids-spent",
-        MoveFault::Order(OrderFault::TooLong) => "too-long",
-        MoveFault::Order(OrderFault::Memory) => "memory",
     }
 }
 
@@ -299,7 +286,7 @@ impl From<ScriptFault> for Fault<'_> {
     fn from(fault: ScriptFault) -> Self {
         match fault {
             ScriptFault::Memory => Fault::Memory,
-            ScriptFault::BadLine(_) | ScriptFault::UnknownStation(_) => Fault::Script(fault),
+            ScriptFault::BadLine(_) | ScriptFault::UnknownStation(_) => Fault::Script(fault, None),
         }
     }
 }
@@ -310,7 +297,7 @@ impl From<WorldFault> for Fault<'_> {
     fn from(fault: WorldFault) -> Self {
         match fault {
             WorldFault::Memory => Fault::Memory,
-            WorldFault::Stations | WorldFault::Move(..) => Fault::World(fault),
+            WorldFault::Stations | WorldFault::Move(..) => Fault::World(fault, None),
         }
     }
 }
@@ -321,8 +308,8 @@ impl From<TrialFault> for Fault<'_> {
     fn from(fault: TrialFault) -> Self {
         match fault {
             TrialFault::Read(failed) => Fault::ScriptRead(failed),
-            TrialFault::Script(fault) => Fault::Script(fault),
-            TrialFault::World(fault) => Fault::World(fault),
+            TrialFault::Script(fault) => Fault::Script(fault, None),
+            TrialFault::World(fault) => Fault::World(fault, None),
             TrialFault::Write => Fault::Output,
             TrialFault::Memory => Fault::Memory,
         }

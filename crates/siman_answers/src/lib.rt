@@ -9,13 +9,18 @@
 //! commands say what is made of what is read.
 #![tactic(auto)]
 
+mod ending;
 mod endpoint;
 mod fault;
+mod file_kind;
 mod files_fault;
 mod input;
 mod join_limit;
+mod known;
 mod limits;
 mod making;
+mod move_place;
+mod notes;
 mod opening;
 mod outside;
 mod passing;
@@ -25,13 +30,18 @@ mod reason;
 mod saying;
 mod trial_fault;
 
+pub use ending::{Ending, conclude};
 pub use endpoint::{Endpoint, endpoint_of};
 pub use fault::{Ended, Fault, end, of_error, tell};
+pub use file_kind::{FileKind, file_kind_of};
 pub use files_fault::FilesFault;
 pub use input::{InputFault, Unread, read_text};
 pub use join_limit::JoinLimit;
+pub use known::{Known, SystemCall, SystemFault};
 pub use limits::{LARGEST_CERTIFICATE, LARGEST_RECORDING};
 pub use making::{Making, make_file, put_stuck, settle_and_say};
+pub use move_place::MovePlace;
+pub use notes::{Notes, Warning};
 pub use opening::{open_apart, open_both_spared, open_spared, spare, unopened};
 pub use outside::Outside;
 pub use passing::{HELD, pass_on, status_of};

@@ -1,6 +1,7 @@
 //! What a program may do outside.
 
 use crate::endpoint::Endpoint;
+use crate::known::Known;
 use siman_lines::Line;
 use std::alloc::Global;
 use std::io;
@@ -104,4 +105,8 @@ pub trait Outside {
         anyone: bool,
     ) -> io::Result<Self::Line>
         ensures done { Adds (deeds self.old) (deeds self.new) (Binds bind peers.now anyone (had_by result) ∷ []) };
+
+    /// What is known of what was done so far, by which a fault is explained. No contract speaks of it:
+    /// it is what the system said.
+    fn known(&self) -> Known;
 }

@@ -7,6 +7,7 @@ ghost use Rattle.siman_answers.specs.Outside.{Deed, Found, Adds, WasHeld, Stream
 ghost use Rattle.siman_answers.specs.Opening.{WorksSparing};
 
 use crate::fault::Fault;
+use crate::notes::Notes;
 use crate::opening::open_spared;
 use crate::outside::Outside;
 use std::alloc::Global;
@@ -21,8 +22,12 @@ pub trait Product: Sized {
     /// not, and the status or the fault that is answered.
     ghost makes: { Self → (force : Bool) → (name : List ℕ) → List Deed → Result ℕ Fault → (out : Stream) → Type 0 };
 
-    /// Makes it of what a reader has.
-    fn read<R: Read + Drop>(alloc: Global, file: R) -> Result<Self, Fault<'static>>
+    /// Makes it of what a reader has, and notes what there is to warn of.
+    fn read<R: Read + Drop>(
+        alloc: Global,
+        file: R,
+        notes: &mut Notes,
+    ) -> Result<Self, Fault<'static>>
         ensures { reads (R.remaining file) result };
 
     /// Makes the file of a name, says what there is to say, and gives the status.
@@ -46,12 +51,13 @@ pub fn make_of_file<'a, P: Product, O: Outside, W: Write>(
     force: bool,
     outside: &mut O,
     out: &mut W,
+    notes: &mut Notes,
 ) -> Result<u8, Fault<'a>>
     ensures { let out : Stream = record { old = W.contents out.old; new = W.contents out.new } in
         (deeds : List Deed) × Adds (O.deeds outside.old) (O.deeds outside.new) deeds × All (WasHeld (O.holds outside.old)) deeds × WorksSparing P.reads P.makes force names.entry.0.now names.entry.1.now deeds result out }
 {
     match open_spared(names, force, outside) {
-        Ok(opened) => match P::read(alloc, outside.read(opened)) {
+        Ok(opened) => match P::read(alloc, outside.read(opened), notes) {
             Ok(product) => product.make(alloc, names.1, force, outside, out),
             Err(fault) => Err(fault),
         },

@@ -7,6 +7,7 @@ ghost use Rattle.siman_answers.specs.Outside.{Deed, Adds, WasHeld, Stream};
 ghost use Rattle.siman_answers.specs.Saying.{SaysOfFile, SaysOfFiles};
 
 use crate::fault::Fault;
+use crate::notes::Notes;
 use crate::opening::unopened;
 use crate::outside::Outside;
 use std::alloc::Global;
@@ -18,12 +19,14 @@ pub trait OfFile {
     /// fault that is answered.
     ghost says: { Self → (known : Option (List ℕ)) → Result ℕ Fault → (out : Stream) → Type 0 };
 
-    /// Says what there is to say of what a reader has, and gives the status.
+    /// Says what there is to say of what a reader has, notes what there is to warn of, and gives the
+    /// status.
     fn say<R: Read + Drop, W: Write>(
         &self,
         alloc: Global,
         file: R,
         out: &mut W,
+        notes: &mut Notes,
     ) -> Result<u8, Fault<'static>>
         ensures { let out : Stream = record { old = W.contents out.old; new = W.contents out.new } in
             says self.now (R.remaining file) result out };
@@ -34,13 +37,15 @@ pub trait OfFiles {
     /// What is said of files that have these bytes, as of one.
     ghost says: { Self → (first second : Option (List ℕ)) → Result ℕ Fault → (out : Stream) → Type 0 };
 
-    /// Says what there is to say of what two readers have, and gives the status.
+    /// Says what there is to say of what two readers have, notes what there is to warn of, and gives
+    /// the status.
     fn say<R: Read + Drop, S: Read + Drop, W: Write>(
         &self,
         alloc: Global,
         first: R,
         second: S,
         out: &mut W,
+        notes: &mut Notes,
     ) -> Result<u8, Fault<'static>>
         ensures { let out : Stream = record { old = W.contents out.old; new = W.contents out.new } in
             says self.now (R.remaining first) (S.remaining second) result out };
@@ -53,6 +58,7 @@ pub fn say_of_file<'a, C: OfFile, O: Outside, W: Write>(
     name: &'a str,
     outside: &mut O,
     out: &mut W,
+    notes: &mut Notes,
 ) -> Result<u8, Fault<'a>>
     ensures { let out : Stream = record { old = W.contents out.old; new = W.contents out.new } in
         (deeds : List Deed) × Adds (O.deeds outside.old) (O.deeds outside.new) deeds × All (WasHeld (O.holds outside.old)) deeds × SaysOfFile (C.says command.now) name.now deeds result out }
@@ -60,7 +66,7 @@ pub fn say_of_file<'a, C: OfFile, O: Outside, W: Write>(
     match outside.open(name) {
         Ok(opened) => {
             let file = outside.read(opened);
-            command.say(alloc, file, out)
+            command.say(alloc, file, out, notes)
         }
         Err(error) => Err(unopened(name, &error)),
     }
@@ -74,6 +80,7 @@ pub fn say_of_files<'a, C: OfFiles, O: Outside, W: Write>(
     names: (&'a str, &'a str),
     outside: &mut O,
     out: &mut W,
+    notes: &mut Notes,
 ) -> Result<u8, Fault<'a>>
     ensures { let out : Stream = record { old = W.contents out.old; new = W.contents out.new } in
         (deeds : List Deed) × Adds (O.deeds outside.old) (O.deeds outside.new) deeds × All (WasHeld (O.holds outside.old)) deeds × SaysOfFiles (C.says command.now) names.entry.0.now names.entry.1.now deeds result out }
@@ -87,7 +94,7 @@ pub fn say_of_files<'a, C: OfFiles, O: Outside, W: Write>(
         Ok(second) => {
             let first = outside.read(first);
             let second = outside.read(second);
-            command.say(alloc, first, second, out)
+            command.say(alloc, first, second, out, notes)
         }
         Err(error) => Err(unopened(other, &error)),
     }

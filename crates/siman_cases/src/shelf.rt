@@ -5,7 +5,7 @@ ghost use Rattle.siman_cases.specs.Done.{deed_of, deeds_of};
 
 use crate::done::{Done, endpoints, failure, had, letters, number};
 use http_server::Log;
-use siman_console::{Endpoint, Outside};
+use siman_console::{Endpoint, FileKind, Known, Outside, SystemCall, SystemFault, file_kind_of};
 use siman_fixtures::{Calls, Case, File, Given, Written, found, read_from, write_to};
 use siman_trials::{WireLine, line_with, lines_of};
 use std::alloc::Global;
@@ -30,6 +30,10 @@ pub(crate) struct Shelf<'a> {
     /// Whether a file appears under the name of the one that is made while it is written, which that
     /// one is not to replace.
     appears: bool,
+    /// What is known of what was done, by which a fault is explained.
+    known: Known,
+    /// How many files were opened.
+    count: usize,
     pub(crate) asked: String,
     /// What was done, for contracts alone.
     pub(crate) done: Log<Done, ()>,
@@ -54,6 +58,8 @@ pub(crate) fn filled(alloc: Global, case: &Case, makes: Calls, line_fails: Optio
         peer: None,
         opened: None,
         appears: false,
+        known: Known::nothing(),
+        count: 0,
         asked: String::new(alloc),
         done: Log::new(),
         left: None,
@@ -81,9 +87,32 @@ impl<'a> Shelf<'a> {
         match file.shut {
             None => {
                 self.opened = Some(file);
+                self.look_at(file_kind_of(&file.stream.bytes));
                 Ok(file)
             }
             Some(kind) => Err(io::Error::from(kind)),
+        }
+    }
+
+    /// Keeps what a file looks like that was opened: the first, or the second.
+    fn look_at(&mut self, kind: FileKind)
+        ensures { deeds_of self.new.done ≡ deeds_of self.old.done }
+    {
+        match self.count {
+            0 => self.known.first = kind,
+            1 => self.known.second = kind,
+            _ => {}
+        }
+        self.count = self.count.saturating_add(1);
+    }
+
+    /// Keeps what was said of a call, where that failed.
+    fn keep<T>(&mut self, call: SystemCall, done: &io::Result<T>)
+        ensures { deeds_of self.new.done ≡ deeds_of self.old.done }
+    {
+        if let Err(error) = done {
+            let kind = error.kind();
+            self.known.failed = Some(SystemFault { call, kind });
         }
     }
 
@@ -174,6 +203,7 @@ impl<'a> Outside for Shelf<'a> {
 
     fn open(&mut self, name: &str) -> io::Result<&'a File> {
         let answer = self.look_up(name);
+        self.keep(SystemCall::Open, &answer);
         self.note(Done::Opened(letters(name), failure(&answer)));
         answer
     }
@@ -203,6 +233,7 @@ impl<'a> Outside for Shelf<'a> {
 
     fn make(&mut self, name: &str, force: bool) -> io::Result<Written> {
         let answer = self.begin_made(name, force);
+        self.keep(SystemCall::Make, &answer);
         self.note(Done::Made(letters(name), force, failure(&answer)));
         answer
     }
@@ -233,6 +264,7 @@ impl<'a> Outside for Shelf<'a> {
 
     fn create(&mut self, name: &str) -> io::Result<Written> {
         let answer = self.begin(name);
+        self.keep(SystemCall::Make, &answer);
         self.note(Done::Created(letters(name), failure(&answer)));
         answer
     }
@@ -244,6 +276,7 @@ impl<'a> Outside for Shelf<'a> {
 
     fn lines(&mut self, alloc: Global, stations: usize) -> io::Result<Vec<WireLine>> {
         let answer = self.have_lines(alloc, stations);
+        self.keep(SystemCall::BindLoopback, &answer);
         self.note(Done::Lined(stations, number(&answer)));
         answer
     }
@@ -256,7 +289,12 @@ impl<'a> Outside for Shelf<'a> {
         anyone: bool,
     ) -> io::Result<WireLine> {
         let answer = self.have_line(alloc);
+        self.keep(SystemCall::Bind(bind), &answer);
         self.note(Done::Bound(bind, endpoints(peers), anyone, had(&answer)));
         answer
+    }
+
+    fn known(&self) -> Known {
+        self.known
     }
 }

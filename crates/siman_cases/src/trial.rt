@@ -1,6 +1,7 @@
 //! Runs cases, and tells what is otherwise.
 
-ghost use Rattle.std.specs.Prelude.{ℕ, List, Result, None};
+ghost use Rattle.std.specs.Prelude.{ℕ, List, Option, Result, None};
+ghost use Rattle.siman_answers.specs.declared.fault.Fault.{Fault};
 ghost use Rattle.std.specs.declared.io.ErrorKind.{ErrorKind};
 ghost use Rattle.siman_console.specs.Program.{EndsProgram};
 ghost use Rattle.siman_cases.specs.Done.{deeds_of, untold};
@@ -11,7 +12,7 @@ use crate::failing::try_failing;
 use crate::shelf::{Shelf, filled};
 use siman_agreement::compare_case;
 use siman_console::{Ended, run};
-use siman_fixtures::{Calls, Case, Stream, Written, begin_case, read_from, write_to};
+use siman_fixtures::{Calls, Case, Stream, WELL, Written, begin_case, read_from, write_to};
 use siman_trials::{compare, sent_text, try_at_line};
 use std::alloc::Global;
 use std::io;
@@ -47,6 +48,7 @@ pub(crate) struct Outcome<'a> {
     pub(crate) shelf: Shelf<'a>,
     out: Written,
     pub(crate) errors: Written,
+    reasons: Written,
 }
 
 /// Runs the program on a case, where the calls of the file that is made go so, and this call of those
@@ -58,19 +60,29 @@ pub(crate) fn run_case(
     makes: Calls,
     line_fails: Option<u64>,
 ) -> Outcome<'_>
-    ensures { (told : Telling WireLine) × (words : Result (List (List ℕ)) ErrorKind) × EndsProgram told words (deeds_of result.shelf.done) None (record { ended = result.ended; out = untold; errors = untold }) }
+    ensures { (told : Telling WireLine) × (words : Result (List (List ℕ)) ErrorKind) × (fault : Option Fault) × EndsProgram told words (deeds_of result.shelf.done) None (record { ended = result.ended; fault = fault; out = untold; errors = untold }) }
 {
     let mut shelf = filled(alloc, case, makes, line_fails);
     let mut out = write_to(alloc, case.out.calls);
     let mut errors = write_to(alloc, case.errors.calls);
     let input = read_from(&case.input.bytes, case.input.calls);
     let words = words(alloc, case);
-    let ended = run(alloc, words, &mut shelf, input, &mut out, &mut errors);
+    let mut reasons = write_to(alloc, WELL);
+    let ended = run(
+        alloc,
+        words,
+        &mut shelf,
+        input,
+        &mut out,
+        &mut errors,
+        &mut reasons,
+    );
     Outcome {
         ended,
         shelf,
         out,
         errors,
+        reasons,
     }
 }
 
@@ -88,6 +100,29 @@ fn compare_made<W: Write>(
         (Some(made), None) => compare(name, what, made, b"no file", out),
         (None, Some(wanted)) => compare(name, what, b"no file\n", &wanted.bytes, out),
     }
+}
+
+/// Whether bytes are one line that begins with two blanks.
+fn is_second_line(bytes: &[u8]) -> bool {
+    let first_end = bytes.iter().position(|byte| *byte == b'\n');
+    bytes.starts_with(b"  ") && first_end == bytes.len().checked_sub(1)
+}
+
+/// Prints the second line of a fault, where it is otherwise than the case wants; where that does not
+/// say it, behind a fault one line may stand that begins with two blanks, and else one that warns.
+fn compare_reason<W: Write>(case: &Case, left: &Outcome<'_>, out: &mut W) -> io::Result<bool> {
+    let (name, told) = (&case.name, &left.reasons.bytes);
+    if case.is_reason {
+        return compare(name, "reason", told, &case.reason.bytes, out);
+    }
+    let fits = match left.ended.status {
+        0 | 1 => told.is_empty() || told.starts_with(b"warning: "),
+        _ => told.is_empty() || is_second_line(told),
+    };
+    if fits {
+        return Ok(true);
+    }
+    compare(name, "reason", told, b"nothing, or one line\n", out)
 }
 
 /// Prints which files were asked for, left or discarded, where it is otherwise.
@@ -143,7 +178,8 @@ fn compare_all<W: Write>(
     let told = compare(name, "errors", &left.errors.bytes, &case.errors.bytes, out)?;
     let files = compare_files(case, &left.shelf, out)?;
     let sent = compare_sent(alloc, case, &left.shelf, out)?;
-    Ok(ended && answered && told && files && sent)
+    let reason = compare_reason(case, left, out)?;
+    Ok(ended && answered && told && files && sent && reason)
 }
 
 /// Runs the program on a case, and prints what is otherwise: whether nothing is, and the file that

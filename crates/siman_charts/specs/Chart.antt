@@ -24,6 +24,7 @@ use Rattle.siman_texts.specs.Line.{Line, Number, Keyed, named_line}
 use Rattle.siman_texts.specs.Spelled.{line_text}
 use Rattle.siman_charts.specs.declared.chart_words.Window.{Window}
 use Rattle.siman_answers.specs.declared.fault.Fault.{Fault}
+use Rattle.siman_answers.specs.declared.fault.Fault.TheVariants as faults
 use Rattle.siman_answers.specs.declared.fault.Fault.TheVariants.{ChartOverLimit, Memory}
 use Rattle.siman_charts.specs.declared.chart.Charted.{Charted}
 use Rattle.siman_charts.specs.declared.chart.Charted.TheVariants.{Drawn, Refused}
@@ -113,10 +114,15 @@ pub record RefusesChart (recorded : Recorded) (certified : Certified) (text : Li
 abbrev pub IsToldWord : List ℕ → Fault → Type 0
 IsToldWord word fault = fault_text fault ≡ codes "filter: " ++ word
 
+-- of how many steps a fault says that a word is past the last one
+abbrev pub steps_of : Fault → Option ℕ
+steps_of (faults.Step word steps) = Some steps
+steps_of other = None
+
 -- WHY THE CERTIFICATE IS GOOD, AND NO PICTURE DRAWN: a word says a step past the last one, or what is shown passes a limit
 abbrev pub IsUndrawn : (words : List (List ℕ)) → Window → PlainRecording → List Step → Fault → Type 0
 IsUndrawn words window r steps fault =
-    ((word : List ℕ) × (past_of (length steps) words ≡ Some word) × IsToldWord word fault)
+    ((word : List ℕ) × (past_of (length steps) words ≡ Some word) × IsToldWord word fault × (steps_of fault ≡ Some (length steps)))
     ⊎ ((rows : Rows) × (past_of (length steps) words ≡ None) × AreShown window (length steps) rows × IsOverfilled r rows × (fault ≡ ChartOverLimit))
 
 -- NO PICTURE: nothing was judged, the recording first, or it is not drawn

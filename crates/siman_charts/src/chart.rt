@@ -24,8 +24,8 @@ use exercise_model::ExerciseLog;
 use exercise_recording::{RecordingView, fetch_recording};
 use exercise_review::Register;
 use siman_answers::{
-    Fault, LARGEST_CERTIFICATE, LARGEST_RECORDING, Making, Outside, make_file, open_both_spared,
-    put_stuck, settle_and_say,
+    Fault, LARGEST_CERTIFICATE, LARGEST_RECORDING, Making, Notes, Outside, make_file,
+    open_both_spared, put_stuck, settle_and_say,
 };
 use siman_pictures::draw;
 use siman_reports::no_line;
@@ -70,6 +70,7 @@ pub fn chart_named<'a, O: Outside, W: Write>(
     words: &'a [&'a str],
     outside: &mut O,
     out: &mut W,
+    notes: &mut Notes,
 ) -> Result<u8, Fault<'a>>
     ensures { let out : Stream = record { old = W.contents out.old; new = W.contents out.new } in
         (deeds : List Deed) × Adds (O.deeds outside.old) (O.deeds outside.new) deeds × All (WasHeld (O.holds outside.old)) deeds × ChartsNamed names.entry.0.now names.entry.1.now picture.now (map (λ word. word.now) words.now) force deeds result out }
@@ -77,7 +78,7 @@ pub fn chart_named<'a, O: Outside, W: Write>(
     match window_of(words) {
         Ok(window) => {
             let asked = (words, window);
-            chart_of_files(alloc, names, picture, force, asked, outside, out)
+            chart_of_files(alloc, names, picture, force, asked, outside, out, notes)
         }
         Err(word) => Err(Fault::Filter(word)),
     }
@@ -92,12 +93,13 @@ fn chart_of_files<'a, O: Outside, W: Write>(
     asked: (&'a [&'a str], Window),
     outside: &mut O,
     out: &mut W,
+    notes: &mut Notes,
 ) -> Result<u8, Fault<'a>>
     ensures { let out : Stream = record { old = W.contents out.old; new = W.contents out.new } in
         (deeds : List Deed) × Adds (O.deeds outside.old) (O.deeds outside.new) deeds × All (WasHeld (O.holds outside.old)) deeds × WorksOnBoth (ChartsFiles (map (λ word. word.now) asked.entry.0.now) asked.entry.1) MakesChart force names.entry.0.now names.entry.1.now picture.now deeds result out }
 {
     let opened = open_both_spared(names, picture, force, outside)?;
-    let charted = chart_opened(alloc, opened, asked, outside)?;
+    let charted = chart_opened(alloc, opened, asked, outside, notes)?;
     make_chart(alloc, &charted, picture, force, outside, out)
 }
 
@@ -107,6 +109,7 @@ fn chart_opened<'a, O: Outside>(
     opened: (O::Opened, O::Opened),
     asked: (&'a [&'a str], Window),
     outside: &mut O,
+    notes: &mut Notes,
 ) -> Result<Charted, Fault<'a>>
     ensures done { Adds (O.deeds outside.old) (O.deeds outside.new) (Reads (O.bytes opened.0) ∷ Reads (O.bytes opened.1) ∷ []) }
     ensures comes { ChartsFiles (map (λ word. word.now) asked.entry.0.now) asked.entry.1 (O.bytes opened.0) (O.bytes opened.1) result }
@@ -114,7 +117,7 @@ fn chart_opened<'a, O: Outside>(
     let (recording, certificate) = opened;
     let recording = outside.read(recording);
     let certificate = outside.read(certificate);
-    chart(alloc, recording, certificate, asked)
+    chart(alloc, recording, certificate, asked, notes)
 }
 
 /// What comes of the recording and the certificate that readers have.
@@ -123,11 +126,12 @@ fn chart<'a, R: Read + Drop, C: Read + Drop>(
     recording: R,
     certificate: C,
     asked: (&'a [&'a str], Window),
+    notes: &mut Notes,
 ) -> Result<Charted, Fault<'a>>
     ensures { ChartsFiles (map (λ word. word.now) asked.entry.0.now) asked.entry.1 (R.remaining recording) (C.remaining certificate) result }
 {
     let bytes = fetch_recording(alloc, recording, LARGEST_RECORDING)?;
-    chart_bytes(alloc, &bytes, certificate, asked)
+    chart_bytes(alloc, &bytes, certificate, asked, notes)
 }
 
 /// As [`chart`], of the recording whose file these bytes are.
@@ -136,11 +140,13 @@ fn chart_bytes<'a, C: Read + Drop>(
     bytes: &[u8],
     certificate: C,
     asked: (&'a [&'a str], Window),
+    notes: &mut Notes,
 ) -> Result<Charted, Fault<'a>>
     ensures { (text : List ℕ) × Has (C.remaining certificate) text
         × Charts (map (λ word. word.now) asked.entry.0.now) asked.entry.1 (recording_at LARGEST_RECORDING bytes.now) (certificate_at LARGEST_CERTIFICATE text) result }
 {
     let log = RecordingView::over_limited(alloc, bytes, LARGEST_RECORDING)?;
+    notes.note_recording(&log);
     let certificate = fetch_certificate(alloc, certificate, LARGEST_CERTIFICATE)?;
     chart_log(alloc, &log, &certificate, asked)
 }
@@ -175,7 +181,7 @@ fn drawn<'a, L: ExerciseLog>(
     ensures { Charts (map (λ word. word.now) asked.entry.0.now) asked.entry.1 (Ok (L.recording log.now)) (Ok steps.now) result }
 {
     match past_of(steps.len(), asked.0) {
-        Some(word) => Err(Fault::Filter(word)),
+        Some(word) => Err(Fault::Step(word, steps.len())),
         None => shown(alloc, log, steps, asked),
     }
 }

@@ -12,14 +12,17 @@ use Rattle.siman_words.specs.declared.commands.ViewWord.{ViewWord}
 use Rattle.siman_words.specs.Words.{Asked, Trial, Bare, One, Two, View, asked, asks_help}
 use Rattle.siman_words.specs.Words as asks
 use Rattle.siman_lines.specs.AtLines.{Telling}
+use Rattle.siman_answers.specs.declared.fault.Ended.{Ended}
 use Rattle.siman_answers.specs.declared.fault.Fault.{Fault}
+use Rattle.siman_answers.specs.declared.notes.Warning.{Warning}
+use Rattle.siman_console.specs.Reasons.{Explains}
 use Rattle.siman_answers.specs.declared.fault.Fault.TheVariants.{Words, Output, Memory}
 use Rattle.siman_files.specs.Answer.{said_of_hex, IsSaid}
 use Rattle.siman_views.specs.Audit.{SearchesFile, MakesFinding}
 use Rattle.siman_charts.specs.Chart.{ChartsNamed}
 use Rattle.siman_files.specs.Check.{ChecksFiles}
 use Rattle.siman_files.specs.Convert.{CarriesFile, MakesConverted}
-use Rattle.siman_answers.specs.Ending.{Ends, IsToldAs}
+use Rattle.siman_answers.specs.Ending.{Ends, fault_in, IsToldAs}
 use Rattle.siman_answers.specs.Outside.{Has, Stream, Outcome, Deed}
 use Rattle.siman_files.specs.Join.{word_of, JoinsPieces}
 use Rattle.siman_plays.specs.Live.{EndsLive}
@@ -48,7 +51,7 @@ DoesView ViewWord.Log recording filters spelling = LogsNamed spelling recording 
 
 -- with the status of what was answered, or with that of the fault that was met, which is then told
 abbrev pub EndsAs : (Answered → Stream → Type 0) → Outcome → Type 0
-EndsAs Tells o = (answered : Answered) × Tells answered o.out × Ends answered o.ended o.errors.old o.errors.new
+EndsAs Tells o = (answered : Answered) × Tells answered o.out × Ends answered o.ended o.errors.old o.errors.new × (o.fault ≡ fault_in answered)
 
 -- how a command with two words ends
 abbrev pub EndsTwo : {L : Type 0} → Telling L → TwoWords → (first second : List ℕ) → (force : Bool) → List Deed → Outcome → Type 0
@@ -75,16 +78,20 @@ EndsTask told (View view recording filters spelling) deeds input o = EndsAs (Doe
 EndsTask told (asks.Why recording certificate spelling) deeds input o = EndsAs (WhyNamed spelling recording certificate deeds) o
 EndsTask told (asks.Chart recording certificate picture words force) deeds input o = EndsAs (ChartsNamed recording certificate picture words force deeds) o
 
+-- with this answer or fault
+abbrev pub EndsIn : Answered → Outcome → Type 0
+EndsIn answered o = Ends answered o.ended o.errors.old o.errors.new × (o.fault ≡ fault_in answered)
+
 -- HOW WORDS END that ask for no task: with want of memory, with the help that they ask for, or as a fault of usage, which is told on the writer of faults
 abbrev pub EndsUsage : (helps : Bool) → Outcome → Type 0
 EndsUsage helps o =
-    (Keeps o.out.old o.out.new × Ends (Err Memory) o.ended o.errors.old o.errors.new)
-    ⊎ ((helps ≡ true) × (Ends (Ok 0) o.ended o.errors.old o.errors.new ⊎ Ends (Err Output) o.ended o.errors.old o.errors.new))
-    ⊎ ((helps ≡ false) × (o.ended.status ≡ 2) × Keeps o.out.old o.out.new)
+    (Keeps o.out.old o.out.new × EndsIn (Err Memory) o)
+    ⊎ ((helps ≡ true) × (EndsIn (Ok 0) o ⊎ EndsIn (Err Output) o))
+    ⊎ ((helps ≡ false) × (o.ended.status ≡ 2) × (o.fault ≡ None) × Keeps o.out.old o.out.new)
 
 -- WITH WANT OF MEMORY, before anything is done
 abbrev pub EndsAtOnce : List Deed → Outcome → Type 0
-EndsAtOnce deeds o = (deeds ≡ []) × Keeps o.out.old o.out.new × Ends (Err Memory) o.ended o.errors.old o.errors.new
+EndsAtOnce deeds o = (deeds ≡ []) × Keeps o.out.old o.out.new × EndsIn (Err Memory) o
 
 -- Words that ask for nothing of the table ask for help or break the usage, and no file is opened.
 abbrev pub EndsAsked : {L : Type 0} → Telling L → Option Asked → (helps : Bool) → List Deed → Option (List ℕ) → Outcome → Type 0
@@ -96,8 +103,19 @@ abbrev pub words_by : {E : Type 0} → (E → ErrorKind) → Result (Vec (String
 words_by kind (Ok words) = Ok (map string_bytes words.items)
 words_by kind (Err error) = Err (kind error)
 
+-- of the words of a command line, the program's name first
+abbrev pub EndsWords : {L : Type 0} → Telling L → List (List ℕ) → List Deed → Option (List ℕ) → Outcome → Type 0
+EndsWords told words deeds input o = EndsAsked told (asked words) (asks_help words) deeds input o
+
 -- HOW THE PROGRAM ENDS whose words are these, the program's name first, or could not be had: for want of memory, or since a word is not UTF-8. Its lines tell what they tell.
 abbrev pub EndsProgram : {L : Type 0} → Telling L → Result (List (List ℕ)) ErrorKind → List Deed → Option (List ℕ) → Outcome → Type 0
-EndsProgram told (Ok words) deeds input o = EndsAsked told (asked words) (asks_help words) deeds input o
+EndsProgram told (Ok words) deeds input o = EndsWords told words deeds input o
 EndsProgram told (Err kind) deeds input o =
-    (deeds ≡ []) × (Keeps o.out.old o.out.new × ((fault : Fault) × IsToldAs kind Words fault × Ends (Err fault) o.ended o.errors.old o.errors.new))
+    (deeds ≡ []) × (Keeps o.out.old o.out.new × ((fault : Fault) × IsToldAs kind Words fault × EndsIn (Err fault) o))
+
+-- HOW IT ENDS WITH A REASON: so, and behind the first line of its fault the second one is told, or else what there is to warn of
+abbrev pub EndsExplained : (Outcome → Type 0) → Ended → (out errors reasons : Stream) → Type 0
+EndsExplained Ends ended out errors reasons =
+    (fault : Option Fault) × (warning : Option Warning)
+    × (let o : Outcome = record { ended = ended; fault = fault; out = out; errors = errors } in Ends o)
+    × Explains ended.written fault warning reasons.old reasons.new

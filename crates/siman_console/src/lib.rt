@@ -13,15 +13,22 @@
 //! on the writer of the answer; the writer of faults gets bytes only where the status is 2 or 3.
 #![tactic(auto)]
 
+mod explaining;
+mod file_reason;
+mod filter_reason;
 mod laws;
+mod named;
+mod pieces;
 mod program;
+mod reason;
 mod usage;
+mod warning;
 
 pub use laws::conversion_keeps_answers;
 pub use program::run;
 pub use siman_answers::{
-    Ended, Endpoint, FilesFault, LARGEST_CERTIFICATE, LARGEST_RECORDING, Outside, TrialFault,
-    Unread,
+    Ended, Endpoint, FileKind, FilesFault, Known, LARGEST_CERTIFICATE, LARGEST_RECORDING, Outside,
+    SystemCall, SystemFault, TrialFault, Unread, file_kind_of,
 };
 pub use siman_files::{
     LARGEST_OLD_RECORDING, answers_follow_the_grammar, check_command, check_files, pdu_command,

@@ -4,13 +4,16 @@ ghost use Rattle.std.specs.Prelude.{List, string_bytes, map};
 ghost use Rattle.std.specs.IoError.{error_kind};
 ghost use Rattle.std.specs.List.{All};
 ghost use Rattle.siman_answers.specs.Outside.{Deed, Adds, WasHeld, Stream, Outcome};
-ghost use Rattle.siman_console.specs.Program.{DoesOne, DoesView, EndsTwo, EndsTask, EndsProgram, words_by};
+ghost use Rattle.siman_console.specs.Program.{DoesOne, DoesView, EndsTwo, EndsTask, EndsExplained, EndsWords, EndsProgram, words_by};
 ghost use Rattle.siman_words.specs.Words.{asked_by};
 ghost use Rattle.siman_lines.specs.AtLines.{Telling};
 
+use crate::explaining::explained;
+use crate::named::{named_by, nothing_named};
 use crate::usage::end_usage;
 use siman_answers::{
-    Ended, Fault, OfFile, Outside, end, make_of_file, of_error, say_of_file, say_of_files,
+    Ended, Ending, Fault, Notes, OfFile, Outside, conclude, make_of_file, of_error, say_of_file,
+    say_of_files,
 };
 use siman_charts::chart_named;
 use siman_files::{
@@ -31,50 +34,52 @@ fn do_one<'a, O: Outside, W: Write>(
     word: &'a str,
     outside: &mut O,
     out: &mut W,
+    notes: &mut Notes,
 ) -> Result<u8, Fault<'a>>
     ensures { let out : Stream = record { old = W.contents out.old; new = W.contents out.new } in
         (deeds : List Deed) × Adds (O.deeds outside.old) (O.deeds outside.new) deeds × All (WasHeld (O.holds outside.old)) deeds × DoesOne command word.now deeds result out }
 {
     match command {
         OneWord::Pdu => tell_word(alloc, word, out),
-        OneWord::Show => say_of_file(alloc, &ShowCommand, word, outside, out),
+        OneWord::Show => say_of_file(alloc, &ShowCommand, word, outside, out, notes),
     }
 }
 
 /// Does what a command with two words asks for, and ends as that asks for.
-fn end_two<O: Outside, W: Write, E: Write>(
+fn end_two<'a, O: Outside, W: Write, E: Write>(
     alloc: Global,
     command: TwoWords,
-    words: (&str, &str),
+    words: (&'a str, &'a str),
     force: bool,
     outside: &mut O,
     out: &mut W,
     errors: &mut E,
-) -> Ended
+    notes: &mut Notes,
+) -> Ending<'a>
     ensures { let told : Telling O.Line = record { received = O.Line.received; sent = O.Line.sent; failures = O.Line.failures; strangers = O.Line.strangers } in
-        let o : Outcome = record { ended = result; out = record { old = W.contents out.old; new = W.contents out.new }; errors = record { old = E.contents errors.old; new = E.contents errors.new } } in
+        let o : Outcome = record { ended = result.ended; fault = result.fault; out = record { old = W.contents out.old; new = W.contents out.new }; errors = record { old = E.contents errors.old; new = E.contents errors.new } } in
         (deeds : List Deed) × Adds (O.deeds outside.old) (O.deeds outside.new) deeds × All (WasHeld (O.holds outside.old)) deeds × EndsTwo told command words.entry.0.now words.entry.1.now force deeds o }
 {
     match command {
-        TwoWords::Check => end(
-            say_of_files(alloc, &CheckCommand, words, outside, out),
+        TwoWords::Check => conclude(
+            say_of_files(alloc, &CheckCommand, words, outside, out, notes),
             errors,
         ),
-        TwoWords::Audit => end(
-            make_of_file::<Finding, O, W>(alloc, words, force, outside, out),
+        TwoWords::Audit => conclude(
+            make_of_file::<Finding, O, W>(alloc, words, force, outside, out, notes),
             errors,
         ),
-        TwoWords::World => end(
-            make_of_file::<WorldFile, O, W>(alloc, words, force, outside, out),
+        TwoWords::World => conclude(
+            make_of_file::<WorldFile, O, W>(alloc, words, force, outside, out, notes),
             errors,
         ),
         TwoWords::Live => end_live(alloc, words, outside, out, errors),
-        TwoWords::Convert => end(
-            make_of_file::<Carried, O, W>(alloc, words, force, outside, out),
+        TwoWords::Convert => conclude(
+            make_of_file::<Carried, O, W>(alloc, words, force, outside, out, notes),
             errors,
         ),
-        TwoWords::Mend => end(
-            make_of_file::<MendedFile, O, W>(alloc, words, force, outside, out),
+        TwoWords::Mend => conclude(
+            make_of_file::<MendedFile, O, W>(alloc, words, force, outside, out, notes),
             errors,
         ),
     }
@@ -89,14 +94,15 @@ fn do_view<'a, O: Outside, W: Write>(
     spelling: Spelling,
     outside: &mut O,
     out: &mut W,
+    notes: &mut Notes,
 ) -> Result<u8, Fault<'a>>
     ensures { let out : Stream = record { old = W.contents out.old; new = W.contents out.new } in
         (deeds : List Deed) × Adds (O.deeds outside.old) (O.deeds outside.new) deeds × All (WasHeld (O.holds outside.old)) deeds × DoesView view words.entry.0.now (map (λ word. word.now) words.entry.1.now) spelling deeds result out }
 {
     let (recording, words) = words;
     match view {
-        ViewWord::Review => review_named(alloc, recording, words, spelling, outside, out),
-        ViewWord::Log => log_named(alloc, recording, words, spelling, outside, out),
+        ViewWord::Review => review_named(alloc, recording, words, spelling, outside, out, notes),
+        ViewWord::Log => log_named(alloc, recording, words, spelling, outside, out, notes),
     }
 }
 
@@ -108,37 +114,82 @@ fn end_task<'a, O: Outside, R: Read + Drop, W: Write, E: Write>(
     input: R,
     out: &mut W,
     errors: &mut E,
-) -> Ended
+    notes: &mut Notes,
+) -> Ending<'a>
     ensures { let told : Telling O.Line = record { received = O.Line.received; sent = O.Line.sent; failures = O.Line.failures; strangers = O.Line.strangers } in
-        let o : Outcome = record { ended = result; out = record { old = W.contents out.old; new = W.contents out.new }; errors = record { old = E.contents errors.old; new = E.contents errors.new } } in
+        let o : Outcome = record { ended = result.ended; fault = result.fault; out = record { old = W.contents out.old; new = W.contents out.new }; errors = record { old = E.contents errors.old; new = E.contents errors.new } } in
         (deeds : List Deed) × Adds (O.deeds outside.old) (O.deeds outside.new) deeds × All (WasHeld (O.holds outside.old)) deeds × EndsTask told (asked_by (λ word. word.now) task.entry) deeds (R.remaining input) o }
 {
     match task {
-        Task::Trial => end(TrialCommand.say(alloc, input, out), errors),
+        Task::Trial => conclude(TrialCommand.say(alloc, input, out, notes), errors),
         Task::Bare(NoWord::Pdus) => end_lines(alloc, input, out, errors),
-        Task::One(command, word) => end(do_one(alloc, command, word, outside, out), errors),
+        Task::One(command, word) => {
+            let done = do_one(alloc, command, word, outside, out, notes);
+            conclude(done, errors)
+        }
         Task::Two(command, first, second, force) => {
             let words = (first, second);
-            end_two(alloc, command, words, force, outside, out, errors)
+            end_two(alloc, command, words, force, outside, out, errors, notes)
         }
         Task::Join(pieces, new, form, force) => {
             let word = word_of(form);
             let joined = join_pieces(alloc, pieces, new, force, word, outside, out);
-            end(joined, errors)
+            conclude(joined, errors)
         }
         Task::Station(words) => end_station(alloc, words, outside, input, out, errors),
         Task::View(view, recording, words, spelling) => {
             let words = (recording, words);
-            end(do_view(alloc, view, words, spelling, outside, out), errors)
+            let done = do_view(alloc, view, words, spelling, outside, out, notes);
+            conclude(done, errors)
         }
         Task::Why(recording, certificate, spelling) => {
             let names = (recording, certificate);
-            end(why_named(alloc, names, spelling, outside, out), errors)
+            let done = why_named(alloc, names, spelling, outside, out, notes);
+            conclude(done, errors)
         }
         Task::Chart(recording, certificate, picture, steps, force) => {
             let names = (recording, certificate);
-            let charted = chart_named(alloc, names, picture, force, steps, outside, out);
-            end(charted, errors)
+            let charted = chart_named(alloc, names, picture, force, steps, outside, out, notes);
+            conclude(charted, errors)
+        }
+    }
+}
+
+/// Does what the words of a command line ask for, and ends as that asks for, with the reason of its
+/// fault behind the first line of that.
+fn end_words<O: Outside, R: Read + Drop, W: Write, E: Write, S: Write>(
+    alloc: Global,
+    words: &[String],
+    outside: &mut O,
+    input: R,
+    out: &mut W,
+    errors: &mut E,
+    reasons: &mut S,
+) -> Ended
+    ensures { let told : Telling O.Line = record { received = O.Line.received; sent = O.Line.sent; failures = O.Line.failures; strangers = O.Line.strangers } in
+        let out : Stream = record { old = W.contents out.old; new = W.contents out.new } in
+        let errors : Stream = record { old = E.contents errors.old; new = E.contents errors.new } in
+        let reasons : Stream = record { old = S.contents reasons.old; new = S.contents reasons.new } in
+        (deeds : List Deed) × Adds (O.deeds outside.old) (O.deeds outside.new) deeds × All (WasHeld (O.holds outside.old)) deeds × EndsExplained (EndsWords told (map string_bytes words.now) deeds (R.remaining input)) result out errors reasons }
+{
+    let line = match read_words(alloc, words) {
+        Ok(line) => line,
+        Err(AllocError) => {
+            let ending = conclude(Err(Fault::Memory), errors);
+            return explained(ending, nothing_named(), outside.known(), reasons);
+        }
+    };
+    match line.task() {
+        Some(task) => {
+            let named = named_by(&task);
+            let mut notes = Notes::nothing();
+            let ending = end_task(alloc, task, outside, input, out, errors, &mut notes);
+            explained(ending.and_notes(notes), named, outside.known(), reasons)
+        }
+        None => {
+            let text = usage_text(alloc, words);
+            let ending = end_usage(asks_help(words), text, out, errors);
+            explained(ending, nothing_named(), outside.known(), reasons)
         }
     }
 }
@@ -146,31 +197,29 @@ fn end_task<'a, O: Outside, R: Read + Drop, W: Write, E: Write>(
 /// Runs the program: does what the words of its command line ask for, the program's name first, and
 /// answers the status to exit with, and whether what was to be told on `errors` was written. Files
 /// to be read are opened in the order of the words before any of them is read; the file that a
-/// command writes is made when there is something to write; answers and help go to `out`, faults to
-/// `errors`.
-pub fn run<O: Outside, R: Read + Drop, W: Write, E: Write>(
+/// command writes is made when there is something to write; answers and help go to `out`, the first
+/// lines of faults to `errors`, and the reason of the fault that ended the command to `reasons`, behind
+/// its first line: a line that begins with two blanks.
+pub fn run<O: Outside, R: Read + Drop, W: Write, E: Write, S: Write>(
     alloc: Global,
     words: io::Result<Vec<String>>,
     outside: &mut O,
     input: R,
     out: &mut W,
     errors: &mut E,
+    reasons: &mut S,
 ) -> Ended
     ensures { let told : Telling O.Line = record { received = O.Line.received; sent = O.Line.sent; failures = O.Line.failures; strangers = O.Line.strangers } in
-        let o : Outcome = record { ended = result; out = record { old = W.contents out.old; new = W.contents out.new }; errors = record { old = E.contents errors.old; new = E.contents errors.new } } in
-        (deeds : List Deed) × Adds (O.deeds outside.old) (O.deeds outside.new) deeds × All (WasHeld (O.holds outside.old)) deeds × EndsProgram told (words_by error_kind words) deeds (R.remaining input) o }
+        let out : Stream = record { old = W.contents out.old; new = W.contents out.new } in
+        let errors : Stream = record { old = E.contents errors.old; new = E.contents errors.new } in
+        let reasons : Stream = record { old = S.contents reasons.old; new = S.contents reasons.new } in
+        (deeds : List Deed) × Adds (O.deeds outside.old) (O.deeds outside.new) deeds × All (WasHeld (O.holds outside.old)) deeds × EndsExplained (EndsProgram told (words_by error_kind words) deeds (R.remaining input)) result out errors reasons }
 {
-    let words = match words {
-        Ok(words) => words,
-        Err(error) => return end(Err(of_error(&error, Fault::Words)), errors),
-    };
-    let texts = words.as_slice();
-    let line = match read_words(alloc, texts) {
-        Ok(line) => line,
-        Err(AllocError) => return end(Err(Fault::Memory), errors),
-    };
-    match line.task() {
-        Some(task) => end_task(alloc, task, outside, input, out, errors),
-        None => end_usage(asks_help(texts), usage_text(alloc, texts), out, errors),
+    match words {
+        Ok(words) => end_words(alloc, &words, outside, input, out, errors, reasons),
+        Err(error) => {
+            let ending = conclude(Err(of_error(&error, Fault::Words)), errors);
+            explained(ending, nothing_named(), outside.known(), reasons)
+        }
     }
 }

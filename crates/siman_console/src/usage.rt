@@ -1,11 +1,12 @@
 //! What is told of words that gave no task, and of none at a terminal.
 
-ghost use Rattle.std.specs.Prelude.{false};
+ghost use Rattle.std.specs.Prelude.{false, Option};
+ghost use Rattle.siman_answers.specs.declared.fault.Fault.{Fault};
 ghost use Rattle.siman_answers.specs.Outside.{Outcome};
 ghost use Rattle.siman_console.specs.Program.{EndsUsage};
 
 use byte_files::put;
-use siman_answers::{Ended, Fault, end};
+use siman_answers::{Ended, Ending, Fault, conclude};
 use siman_words::terminal_text;
 use std::alloc::{AllocError, Global};
 use std::io::Write;
@@ -18,31 +19,37 @@ pub(crate) fn end_usage<W: Write, E: Write>(
     text: Result<String, AllocError>,
     out: &mut W,
     errors: &mut E,
-) -> Ended
-    ensures { let o : Outcome = record { ended = result; out = record { old = W.contents out.old; new = W.contents out.new }; errors = record { old = E.contents errors.old; new = E.contents errors.new } } in
+) -> Ending<'static>
+    ensures { let o : Outcome = record { ended = result.ended; fault = result.fault; out = record { old = W.contents out.old; new = W.contents out.new }; errors = record { old = E.contents errors.old; new = E.contents errors.new } } in
         EndsUsage asks_help o }
 {
     let text = match text {
         Ok(text) => text,
-        Err(AllocError) => return end(Err(Fault::Memory), errors),
+        Err(AllocError) => return conclude(Err(Fault::Memory), errors),
     };
     if !asks_help {
-        return Ended {
+        let ended = Ended {
             status: 2,
             written: put(errors, text.as_bytes()),
         };
+        return Ending {
+            ended,
+            fault: None,
+            trouble: None,
+            warning: None,
+        };
     }
     match put(out, text.as_bytes()) {
-        Ok(()) => end(Ok(0), errors),
-        Err(_) => end(Err(Fault::Output), errors),
+        Ok(()) => conclude(Ok(0), errors),
+        Err(_) => conclude(Err(Fault::Output), errors),
     }
 }
 
 /// Ends a program without words whose standard input is a terminal, on which nobody means to write a
 /// script: as a fault of usage, told on `errors` with status 2, or for want of memory (`memory`, 3).
 pub fn end_at_terminal<W: Write, E: Write>(alloc: Global, out: &mut W, errors: &mut E) -> Ended
-    ensures { let o : Outcome = record { ended = result; out = record { old = W.contents out.old; new = W.contents out.new }; errors = record { old = E.contents errors.old; new = E.contents errors.new } } in
-        EndsUsage false o }
+    ensures { (fault : Option Fault) × (let o : Outcome = record { ended = result; fault = fault; out = record { old = W.contents out.old; new = W.contents out.new }; errors = record { old = E.contents errors.old; new = E.contents errors.new } } in
+        EndsUsage false o) }
 {
-    end_usage(false, terminal_text(alloc), out, errors)
+    end_usage(false, terminal_text(alloc), out, errors).ended
 }

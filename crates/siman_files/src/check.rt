@@ -12,7 +12,9 @@ use byte_files::put;
 use exercise_check::{Certificate, CheckFault, check, fetch_certificate};
 use exercise_model::ExerciseLog;
 use exercise_recording::{RecordingView, fetch_recording};
-use siman_answers::{Fault, FilesFault, LARGEST_CERTIFICATE, LARGEST_RECORDING, OfFiles, end};
+use siman_answers::{
+    Fault, FilesFault, LARGEST_CERTIFICATE, LARGEST_RECORDING, Notes, OfFiles, end,
+};
 use siman_reports::{no_line, report_text};
 use std::alloc::Global;
 use std::io::{Read, Write};
@@ -35,8 +37,23 @@ pub fn check_files<R: Read + Drop, C: Read + Drop, W: Write>(
         × ((text : List ℕ) × Has (C.remaining certificate) text
         × Judges (recording_at LARGEST_RECORDING bytes) (certificate_at LARGEST_CERTIFICATE text) result (W.contents out.old) (W.contents out.new)) }
 {
+    check_noting(alloc, recording, certificate, out, &mut Notes::nothing())
+}
+
+/// As [`check_files`], and notes what there is to warn of.
+fn check_noting<R: Read + Drop, C: Read + Drop, W: Write>(
+    alloc: Global,
+    recording: R,
+    certificate: C,
+    out: &mut W,
+    notes: &mut Notes,
+) -> Result<bool, FilesFault>
+    ensures { (bytes : List ℕ) × Has (R.remaining recording) bytes
+        × ((text : List ℕ) × Has (C.remaining certificate) text
+        × Judges (recording_at LARGEST_RECORDING bytes) (certificate_at LARGEST_CERTIFICATE text) result (W.contents out.old) (W.contents out.new)) }
+{
     let bytes = fetch_recording(alloc, recording, LARGEST_RECORDING)?;
-    check_bytes(alloc, &bytes, certificate, out)
+    check_bytes(alloc, &bytes, certificate, out, notes)
 }
 
 /// As [`check_files`], of the recording whose file these bytes are.
@@ -45,11 +62,13 @@ fn check_bytes<C: Read + Drop, W: Write>(
     bytes: &[u8],
     certificate: C,
     out: &mut W,
+    notes: &mut Notes,
 ) -> Result<bool, FilesFault>
     ensures { (text : List ℕ) × Has (C.remaining certificate) text
         × Judges (recording_at LARGEST_RECORDING bytes.now) (certificate_at LARGEST_CERTIFICATE text) result (W.contents out.old) (W.contents out.new) }
 {
     let log = RecordingView::over_limited(alloc, bytes, LARGEST_RECORDING)?;
+    notes.note_recording(&log);
     let certificate = fetch_certificate(alloc, certificate, LARGEST_CERTIFICATE)?;
     judge(alloc, &log, certificate, out)
 }
@@ -70,7 +89,12 @@ pub fn check_command<R: Read + Drop, C: Read + Drop, W: Write, E: Write>(
         × EndsCheck (recording_at LARGEST_RECORDING bytes) (certificate_at LARGEST_CERTIFICATE text) result (W.contents out.old) (W.contents out.new) (E.contents errors.old) (E.contents errors.new)) }
     ensures silent { result ≤ 1 → Keeps (E.contents errors.old) (E.contents errors.new) }
 {
-    end(CheckCommand.say(alloc, recording, certificate, out), errors).status
+    let notes = &mut Notes::nothing();
+    end(
+        CheckCommand.say(alloc, recording, certificate, out, notes),
+        errors,
+    )
+    .status
 }
 
 /// The command, which judges the recording of a file by the certificate of another.
@@ -87,8 +111,9 @@ impl OfFiles for CheckCommand {
         first: R,
         second: S,
         out: &mut W,
+        notes: &mut Notes,
     ) -> Result<u8, Fault<'static>> {
-        status_of(check_files(alloc, first, second, out))
+        status_of(check_noting(alloc, first, second, out, notes))
     }
 }
 

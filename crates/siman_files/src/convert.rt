@@ -7,7 +7,7 @@ ghost use Rattle.siman_answers.specs.Outside.{Has};
 ghost use Rattle.siman_files.specs.Convert.{Carries};
 
 use exercise_recording::Conversion;
-use siman_answers::{Fault, Making, Outside, Product, make_file, settle_and_say};
+use siman_answers::{Fault, Making, Notes, Outside, Product, make_file, settle_and_say};
 use siman_reports::counted;
 use std::alloc::Global;
 use std::io::{Read, Write};
@@ -64,7 +64,11 @@ impl Product for Carried {
 
     ghost makes = { MakesConverted };
 
-    fn read<R: Read + Drop>(alloc: Global, file: R) -> Result<Carried, Fault<'static>> {
+    fn read<R: Read + Drop>(
+        alloc: Global,
+        file: R,
+        _notes: &mut Notes,
+    ) -> Result<Carried, Fault<'static>> {
         carry(alloc, file)
     }
 

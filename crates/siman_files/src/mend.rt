@@ -8,7 +8,7 @@ ghost use Rattle.siman_files.specs.Mend.{torn_line, mended_text, Mends};
 ghost use Rattle.siman_texts.specs.Spelled.{line_text};
 
 use exercise_recording::{FormatFault, Mended, Mending};
-use siman_answers::{Fault, Making, Outside, Product, make_file, settle_and_say};
+use siman_answers::{Fault, Making, Notes, Outside, Product, make_file, settle_and_say};
 use siman_reports::counted;
 use siman_texts::{Field, Value, named_line};
 use std::alloc::{AllocError, Global};
@@ -88,7 +88,11 @@ impl Product for MendedFile {
 
     ghost makes = { MakesMended };
 
-    fn read<R: Read + Drop>(alloc: Global, file: R) -> Result<MendedFile, Fault<'static>> {
+    fn read<R: Read + Drop>(
+        alloc: Global,
+        file: R,
+        _notes: &mut Notes,
+    ) -> Result<MendedFile, Fault<'static>> {
         read_torn(alloc, file)
     }
 

@@ -1,6 +1,6 @@
 //! The command `pdus`: datagrams in hex text, one a line, shown.
 
-ghost use Rattle.std.specs.Prelude.{◌≡◌, ◌+◌, List, ℕ, length, IfOk};
+ghost use Rattle.std.specs.Prelude.{◌≡◌, ◌+◌, List, ℕ, None, length, IfOk};
 ghost use Rattle.std.specs.Io.Buffered.{reader_remaining};
 ghost use Rattle.siman_scripts.specs.Text.{lines_of};
 ghost use Rattle.siman_files.specs.declared.hex_text.TheConstants.{LONGEST_HEX};
@@ -14,7 +14,7 @@ use crate::hex_text::LONGEST_HEX;
 use crate::input::{Count, Unread, read_line};
 use crate::pdu::tell;
 use byte_files::WriteFailed;
-use siman_answers::{Ended, Fault, end, tell as tell_fault};
+use siman_answers::{Ended, Ending, Fault, conclude, end, tell as tell_fault};
 use std::alloc::{AllocError, Global};
 use std::io::{BufReader, Read, Write};
 
@@ -61,10 +61,10 @@ pub fn pdus_command<R: Read + Drop, W: Write, E: Write>(
     out: &mut W,
     errors: &mut E,
 ) -> u8
-    ensures { (bytes : List ℕ) × Has (R.remaining input) bytes × ((wrote : Wrote) × (let o : Outcome = record { ended = record { status = result; written = wrote }; out = record { old = W.contents out.old; new = W.contents out.new }; errors = record { old = E.contents errors.old; new = E.contents errors.new } } in
+    ensures { (bytes : List ℕ) × Has (R.remaining input) bytes × ((wrote : Wrote) × (let o : Outcome = record { ended = record { status = result; written = wrote }; fault = None; out = record { old = W.contents out.old; new = W.contents out.new }; errors = record { old = E.contents errors.old; new = E.contents errors.new } } in
         EndsLines (lines_of bytes) o)) }
 {
-    end_lines(alloc, input, out, errors).status
+    end_lines(alloc, input, out, errors).ended.status
 }
 
 /// As [`pdus_command`].
@@ -73,24 +73,35 @@ pub fn end_lines<R: Read + Drop, W: Write, E: Write>(
     input: R,
     out: &mut W,
     errors: &mut E,
-) -> Ended
-    ensures { let o : Outcome = record { ended = result; out = record { old = W.contents out.old; new = W.contents out.new }; errors = record { old = E.contents errors.old; new = E.contents errors.new } } in
+) -> Ending<'static>
+    ensures { let o : Outcome = record { ended = result.ended; fault = result.fault; out = record { old = W.contents out.old; new = W.contents out.new }; errors = record { old = E.contents errors.old; new = E.contents errors.new } } in
         (bytes : List ℕ) × Has (R.remaining input) bytes × EndsLines (lines_of bytes) o }
 {
     end_at(tell_input(alloc, input, out, errors), errors)
 }
 
 /// Ends the command that told all lines, or stopped.
-fn end_at<E: Write>(answered: Result<u8, Stop>, errors: &mut E) -> Ended
-    ensures { EndsAt answered result (E.contents errors.old) (E.contents errors.new) }
+fn end_at<E: Write>(answered: Result<u8, Stop>, errors: &mut E) -> Ending<'static>
+    ensures { EndsAt answered result.ended (E.contents errors.old) (E.contents errors.new) }
 {
     match answered {
-        Ok(status) => end(Ok(status), errors),
-        Err(Stop::Fault(fault)) => end(Err(fault), errors),
-        Err(Stop::Unread(_)) => end(Err(Fault::Input), errors),
-        Err(Stop::Untold(failed)) => Ended {
-            status: 2,
-            written: Err(failed),
+        Ok(status) => Ending {
+            ended: end(Ok(status), errors),
+            // What is expected of lines is told once.
+            fault: (status == 2).then_some(Fault::NotBytePairs),
+            trouble: None,
+            warning: None,
+        },
+        Err(Stop::Fault(fault)) => conclude(Err(fault), errors),
+        Err(Stop::Unread(_)) => conclude(Err(Fault::Input), errors),
+        Err(Stop::Untold(failed)) => Ending {
+            ended: Ended {
+                status: 2,
+                written: Err(failed),
+            },
+            fault: None,
+            trouble: None,
+            warning: None,
         },
     }
 }

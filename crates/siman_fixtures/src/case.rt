@@ -28,6 +28,9 @@ pub struct Case {
     pub input: Stream,
     pub out: Stream,
     pub errors: Stream,
+    /// The second line of the fault, where the case says it.
+    pub reason: Stream,
+    pub is_reason: bool,
     pub left: Stream,
     /// Whether a file must be left.
     pub is_left: bool,
@@ -71,6 +74,8 @@ impl Drop for Case {
             input: _input,
             out: _out,
             errors: _errors,
+            reason: _reason,
+            is_reason: _is_reason,
             left: _left,
             is_left: _is_left,
             is_discarded: _is_discarded,
@@ -104,6 +109,8 @@ pub fn begin_case(alloc: Global, name: String, files: Vec<File>) -> Case {
         input: empty(alloc),
         out: empty(alloc),
         errors: empty(alloc),
+        reason: empty(alloc),
+        is_reason: false,
         left: empty(alloc),
         is_left: false,
         is_discarded: false,
@@ -199,6 +206,7 @@ impl Case {
             Part::Input => Some(&mut self.input),
             Part::Out => Some(&mut self.out),
             Part::Errors => Some(&mut self.errors),
+            Part::Reason => Some(&mut self.reason),
             Part::Left | Part::Discarded => Some(&mut self.left),
             Part::Coming => self.coming.last_mut(),
             Part::Sent => Some(&mut self.sent),
@@ -280,6 +288,7 @@ impl Case {
             Part::Coming => self.coming.push(empty(self.alloc))?,
             Part::Left => self.is_left = true,
             Part::Discarded => self.is_discarded = true,
+            Part::Reason => self.is_reason = true,
             _ => {}
         }
         Ok(())

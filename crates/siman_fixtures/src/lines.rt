@@ -10,6 +10,7 @@ pub(crate) enum Part {
     Input,
     Out,
     Errors,
+    Reason,
     Left,
     Discarded,
     Coming,
@@ -73,7 +74,7 @@ pub(crate) struct Line<'a> {
 }
 
 /// Each word, how many numbers stand behind it, and whether a text may stand behind those.
-static WORDS: [(&str, Says, usize, bool); 40] = [
+static WORDS: [(&str, Says, usize, bool); 41] = [
     ("case", Says::Case, 0, true),
     ("words", Says::Words, 0, true),
     (
@@ -102,6 +103,7 @@ static WORDS: [(&str, Says, usize, bool); 40] = [
     ("input", Says::Begin(Part::Input), 0, false),
     ("out", Says::Begin(Part::Out), 0, false),
     ("errors", Says::Begin(Part::Errors), 0, false),
+    ("reason", Says::Begin(Part::Reason), 0, false),
     ("left", Says::Begin(Part::Left), 0, false),
     ("discarded", Says::Begin(Part::Discarded), 0, false),
     ("comes", Says::Begin(Part::Coming), 0, false),

@@ -1,6 +1,6 @@
 //! Runs of the program on words, files in memory and standard input, where every call goes well.
 
-use siman_console::{Endpoint, Outside, run};
+use siman_console::{Endpoint, Known, Outside, run};
 use siman_fixtures::{Given, WELL, Written, read_from, write_to};
 use siman_trials::{WireLine, lines_of};
 use std::alloc::Global;
@@ -113,6 +113,10 @@ impl<'a> Outside for Table<'a> {
             None => Err(io::Error::from(ErrorKind::Other)),
         }
     }
+
+    fn known(&self) -> Known {
+        Known::nothing()
+    }
 }
 
 /// What a run left.
@@ -121,6 +125,8 @@ pub(crate) struct Ran {
     pub(crate) status: u8,
     pub(crate) out: Vec<u8>,
     pub(crate) errors: Vec<u8>,
+    /// What was told behind the first line of a fault.
+    pub(crate) reasons: Vec<u8>,
     /// What the file that was made holds, if one was made.
     pub(crate) left: Option<Vec<u8>>,
     /// Whether that took the place of one that was not empty.
@@ -150,14 +156,25 @@ pub(crate) fn run_words(alloc: Global, words: &[&str], files: Files<'_>, input: 
     let mut errors = write_to(alloc, WELL);
     let line = command_line(alloc, words);
     let input = read_from(input, WELL);
-    let ended = run(alloc, line, &mut table, input, &mut out, &mut errors);
+    let mut reasons = write_to(alloc, WELL);
+    let ended = run(
+        alloc,
+        line,
+        &mut table,
+        input,
+        &mut out,
+        &mut errors,
+        &mut reasons,
+    );
     let Table { left, replaced, .. } = table;
     let Written { bytes: out, .. } = out;
     let Written { bytes: errors, .. } = errors;
+    let Written { bytes: reasons, .. } = reasons;
     Ran {
         status: ended.status,
         out,
         errors,
+        reasons,
         left,
         replaced,
     }
@@ -175,14 +192,22 @@ pub(crate) fn checked(alloc: Global, recording: &[u8], certificate: &[u8]) -> Ra
 }
 
 impl Ran {
-    /// Whether it ended with an answer, 0 or 1, and told no fault.
+    /// Whether it ended with an answer, 0 or 1, and told no fault, but perhaps a warning.
     pub(crate) fn is_answer(&self) -> bool {
-        self.status <= 1 && self.errors.is_empty()
+        let warns = self.reasons.is_empty() || self.reasons.starts_with(b"warning: ");
+        self.status <= 1 && self.errors.is_empty() && warns
+    }
+
+    /// Whether behind the first line of a fault one line stands that begins with two blanks.
+    pub(crate) fn is_explained(&self) -> bool {
+        let end = self.reasons.iter().position(|byte| *byte == b'\n');
+        self.reasons.starts_with(b"  ") && end == self.reasons.len().checked_sub(1)
     }
 
     /// Whether it ended with a fault that is told, with nothing out and no file made.
     pub(crate) fn is_fault(&self) -> bool {
-        self.status == 2 && self.out.is_empty() && !self.errors.is_empty() && self.left.is_none()
+        let told = !self.errors.is_empty() && (self.is_explained() || self.reasons.is_empty());
+        self.status == 2 && self.out.is_empty() && told && self.left.is_none()
     }
 
     /// Whether it played a station to the end of its recording, and told the lines that were not done.

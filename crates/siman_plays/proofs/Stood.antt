@@ -16,6 +16,7 @@ use Rattle.siman_sessions.specs.declared.scripted.SetUpFault.{SetUpFault}
 use Rattle.siman_sessions.specs.declared.scripted.SetUpFault.TheVariants as set_ups
 use Rattle.siman_sessions.specs.Recorded.{open_setting, IsReady}
 use Rattle.siman_sessions.specs.Scripted.{station_at, SetsUpFound, SetsUp}
+use Rattle.siman_plays.specs.Explained.{TextRead, TellsWhy}
 use Rattle.siman_plays.specs.Station.{of_set_up, SetsUpNone, SetsUpFile, IsOfScript}
 
 -- it is as it was begun
@@ -51,6 +52,12 @@ none_set_up s address set_ups.NotInSetup is = (s, refl, is)
 none_set_up s address set_ups.Stations is = (s, refl, is)
 none_set_up s address set_ups.Memory is = tt
 
+-- no line of a script is refused where a station is not set up
+pub no_why : (t : TextRead) (fault : SetUpFault) → TellsWhy t (of_set_up fault)
+no_why t set_ups.NotInSetup = tt
+no_why t set_ups.Stations = tt
+no_why t set_ups.Memory = tt
+
 found_one : (x : ℕ) (found : Option WorldStationData) (set_up : SetUp) → SetsUpFound x found (Ok set_up) → IsOfScript set_up
 found_one x None set_up is = absurd cc
 found_one x (Some s) set_up is = (x, s, is)
@@ -60,4 +67,4 @@ pub of_script : (s : ScriptData) (address : Pair) (set_up : SetUp) → SetsUp s 
 of_script s address set_up is = found_one s.exercise (station_at address s.stations) set_up is
 
 pub of_text : (known : Option (List ℕ)) (address : Pair) (set_up : SetUp) → SetsUpFile known address (Ok set_up) → IsOfScript set_up
-of_text known address set_up (text, has, (s, read, is)) = of_script s address set_up is
+of_text known address set_up (text, has, ((s, read, is), why)) = of_script s address set_up is

@@ -1,3 +1,4 @@
+pub mod Explained
 pub mod World
 pub mod ScriptTrial
 pub mod Live

@@ -1,27 +1,30 @@
 -- What `live` does with the stations and moves of a script, and how it ends (profile).
 pub mod Lived
 pub mod Moves
-use Rattle.std.specs.Prelude.{◌≡◌, ◌≢◌, ◌⊎◌, ⊤, ℕ, Bool, true, false, List, [], ◌∷◌, ◌++◌, length, codes, Option, Result, Ok, Err}
+use Rattle.std.specs.Prelude.{◌≡◌, ◌≢◌, ◌⊎◌, ⊤, ℕ, Bool, true, false, List, [], ◌∷◌, ◌++◌, length, codes, Option, Some, None, Result, Ok, Err}
 use Rattle.std.specs.Io.KnownBytes.{Keeps}
 use Rattle.byte_files.specs.Writing.{Writes}
 use Rattle.exercise_model.specs.Setting.{SettingData}
 use Rattle.siman_scripts.specs.declared.script_fault.ScriptFault.TheVariants as scripts
 use Rattle.siman_worlds.specs.declared.world_fault.WorldFault.TheVariants as worlds
-use Rattle.siman_scripts.specs.Script.{ScriptData, script_at}
+use Rattle.siman_scripts.specs.Script.{ScriptData}
 use Rattle.siman_worlds.specs.World.{are_world_stations}
 use Rattle.siman_worlds.specs.Holds.{AreNewNodes}
 use Rattle.siman_answers.specs.declared.fault.Fault.{Fault}
 use Rattle.siman_answers.specs.declared.fault.Fault.TheVariants.{Script, ScriptRead, World, LineFailed, Output, Exists, Memory}
 use Rattle.siman_plays.specs.declared.live.Begun.{Begun}
+use Rattle.siman_plays.specs.declared.live.BegunText.{BegunText}
+use Rattle.siman_worlds.specs.declared.world_fault.MoveFault.{MoveFault}
+use Rattle.siman_scripts.specs.MoveLine.{line_of_move}
 use Rattle.std.specs.declared.io.ErrorKind.{ErrorKind}
 use Rattle.std.specs.declared.io.ErrorKind.TheVariants.{AlreadyExists, OutOfMemory}
 use Rattle.siman_answers.specs.Outside.{Has, Stream, Outcome, Deed, LooksFor, Lines, Creates, Leaves}
-use Rattle.siman_answers.specs.Ending.{Wrote, fault_line, status_of, IsToldAs}
+use Rattle.siman_answers.specs.Ending.{Wrote, fault_line, status_of, fault_in, IsToldAs}
 use Rattle.siman_answers.specs.Making.{Answered}
 use Rattle.siman_answers.specs.Opening.{WorksOn}
 use Rattle.siman_reports.specs.Records.{line_end}
 use Rattle.siman_answers.specs.declared.fault.Ended.{Ended}
-use Rattle.siman_plays.specs.World.{Scripted}
+use Rattle.siman_plays.specs.Explained.{Scripted, TextRead, text_read, TellsWhy}
 use Rattle.siman_plays.specs.Live.Lived.{setting_of, Lives}
 use Rattle.siman_lines.specs.declared.station_at_line.StationAtLine.{StationAtLine}
 use Rattle.siman_lines.specs.AtLines.{Telling, Misfits, posts_of}
@@ -29,10 +32,10 @@ use Rattle.siman_scripts.specs.declared.act.Move.{Move}
 
 -- WHAT COMES OF A SCRIPT BEFORE ITS MOVES: its stations begin, or it is told why not. The first line of the script that is refused, or stations that a world cannot have; a failed read may come in place of the script, want of memory at any time.
 abbrev pub BeginsNone : Scripted → Fault → Type 0
-BeginsNone scripted (Script (scripts.BadLine line)) = scripted ≡ Err (scripts.BadLine line)
-BeginsNone scripted (Script (scripts.UnknownStation line)) = scripted ≡ Err (scripts.UnknownStation line)
+BeginsNone scripted (Script (scripts.BadLine line) why) = scripted ≡ Err (scripts.BadLine line)
+BeginsNone scripted (Script (scripts.UnknownStation line) why) = scripted ≡ Err (scripts.UnknownStation line)
 BeginsNone scripted (ScriptRead failed) = ⊤
-BeginsNone scripted (World worlds.Stations) = (s : ScriptData) × (scripted ≡ Ok s) × (are_world_stations s.stations ≡ false)
+BeginsNone scripted (World worlds.Stations there) = (s : ScriptData) × (scripted ≡ Ok s) × (are_world_stations s.stations ≡ false)
 BeginsNone scripted Memory = ⊤
 BeginsNone scripted other = ⊥
 
@@ -49,9 +52,14 @@ abbrev pub Begins : Scripted → Result Begun Fault → Type 0
 Begins scripted (Ok begun) = IsBegun scripted begun
 Begins scripted (Err fault) = BeginsNone scripted fault
 
+-- so of what was read of a text, which is kept with it; and it is told why none was begun
+abbrev pub BeginsText : TextRead → Result BegunText Fault → Type 0
+BeginsText t (Ok kept) = IsBegun t.scripted kept.begun × (kept.text.items ≡ t.lines)
+BeginsText t (Err fault) = BeginsNone t.scripted fault × TellsWhy t fault
+
 -- WHAT COMES OF A FILE for `live` that has these bytes, where they are known; what is done then follows
-abbrev pub BeginsFile : (known : Option (List ℕ)) → Result Begun Fault → Type 0
-BeginsFile known begun = (text : List ℕ) × Has known text × Begins (script_at text) begun
+abbrev pub BeginsFile : (known : Option (List ℕ)) → Result BegunText Fault → Type 0
+BeginsFile known begun = (text : List ℕ) × Has known text × BeginsText (text_read text) begun
 
 -- how it is told that a file was not created: want of memory, or that one stands there, or else as a failed write
 abbrev pub IsUncreated : ErrorKind → Fault → Type 0
@@ -93,6 +101,17 @@ LivesBegun told begun name (LooksFor looked true ∷ deeds) answered out = (look
 LivesBegun told begun name (LooksFor looked false ∷ deeds) answered out = (looked ≡ name) × LivesAtLines told begun name deeds answered out
 LivesBegun told begun name deeds answered out = ⊥
 
+-- WHAT IS TOLD OF A MOVE that cannot be made: the line of the script that says it, unless memory ran out
+abbrev pub IsPlaced : (text : List ℕ) → (lived answered : Answered) → Type 0
+IsPlaced text lived answered =
+    (answered ≡ lived)
+    ⊎ ((number line : ℕ) × (fault : MoveFault) × (lived ≡ Err (World (worlds.Move number fault) None)) × (line_of_move text number ≡ Some line)
+    × (answered ≡ Err (World (worlds.Move number fault) (Some (record { line = line; sends = None })))))
+
+abbrev pub LivesText : {L : Type 0} → Telling L → BegunText → (name : List ℕ) → List Deed → Answered → Stream → Type 0
+LivesText told kept name deeds answered out =
+    (lived : Answered) × LivesBegun told kept.begun name deeds lived out × IsPlaced kept.text.items lived answered
+
 -- HOW `live` ENDS.
 
 -- a file was created
@@ -117,5 +136,5 @@ pub record EndsLived (created : Bool) (name : List ℕ) (answered : Answered) (e
 
 abbrev pub EndsLive : {L : Type 0} → Telling L → (script recording : List ℕ) → List Deed → Outcome → Type 0
 EndsLive told script recording deeds o =
-    (answered : Answered) × WorksOn BeginsFile (LivesBegun told) script recording deeds answered o.out
-    × EndsLived (is_created deeds) recording answered o.ended o.errors.old o.errors.new
+    (answered : Answered) × WorksOn BeginsFile (LivesText told) script recording deeds answered o.out
+    × EndsLived (is_created deeds) recording answered o.ended o.errors.old o.errors.new × (o.fault ≡ fault_in answered)

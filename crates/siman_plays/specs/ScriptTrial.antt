@@ -9,7 +9,7 @@ use Rattle.exercise_check.specs.declared.certificate.Step.{Step}
 use Rattle.exercise_check.specs.Goodness.{IsGood}
 use Rattle.siman_scripts.specs.declared.script_fault.ScriptFault.TheVariants as scripts
 use Rattle.siman_worlds.specs.declared.world_fault.WorldFault.TheVariants as worlds
-use Rattle.siman_scripts.specs.Script.{ScriptData, script_at}
+use Rattle.siman_scripts.specs.Script.{ScriptData}
 use Rattle.siman_answers.specs.declared.fault.Fault.{Fault}
 use Rattle.siman_answers.specs.declared.trial_fault.TrialFault.{TrialFault}
 use Rattle.siman_answers.specs.declared.trial_fault.TrialFault.TheVariants.{Read, Script, World, Write, Memory}
@@ -17,7 +17,8 @@ use Rattle.siman_answers.specs.Ending.{of_trial}
 use Rattle.siman_answers.specs.Outside.{Has, Stream}
 use Rattle.siman_reports.specs.Report.{report_text}
 use Rattle.siman_answers.specs.Recorded.{explained_text}
-use Rattle.siman_plays.specs.World.{Scripted, recording_of, refusal_of, world_text}
+use Rattle.siman_plays.specs.Explained.{Scripted, TextRead, text_read, Refuses, Stopped}
+use Rattle.siman_plays.specs.World.{recording_of, refusal_of, world_text}
 
 -- THE TEXT OF A TRIAL, a function of the recording alone: the line of its world, the line of an order with a step for each entry, and the report
 abbrev pub trial_text : PlainRecording → List ℕ
@@ -65,17 +66,24 @@ Tries scripted (Err (World fault)) old new = OfScript scripted (λ s. Performs s
 Tries scripted (Err Write) old new = OfScript scripted (λ s. Performs s (Err Write) old new)
 Tries scripted (Err Memory) old new = Keeps old new
 
+-- HOW IT IS TOLD that a trial of a text was not made: why it is no script, or where the move stands that cannot be made
+abbrev pub Untried : TextRead → TrialFault → Fault → Type 0
+Untried t (Read failed) told = told ≡ of_trial (Read failed)
+Untried t (Script fault) told = Refuses t fault told
+Untried t (World fault) told = Stopped t fault told
+Untried t Write told = told ≡ of_trial Write
+Untried t Memory told = told ≡ of_trial Memory
+
 -- the status of what was tried: 0 yes
-abbrev pub tried_status : Result Bool TrialFault → Result ℕ Fault
-tried_status (Ok true) = Ok 0
-tried_status (Ok false) = Ok 1
-tried_status (Err fault) = Err (of_trial fault)
+abbrev pub Answers : TextRead → Result Bool TrialFault → Result ℕ Fault → Type 0
+Answers t (Ok true) answered = answered ≡ Ok 0
+Answers t (Ok false) answered = answered ≡ Ok 1
+Answers t (Err fault) answered = (told : Fault) × Untried t fault told × (answered ≡ Err told)
 
 -- What a trial tells: its text is out, with status 0, or it met a fault.
-abbrev pub TellsTrial : Scripted → (answered : Result ℕ Fault) → (old new : Option (List ℕ)) → Type 0
-TellsTrial scripted answered old new =
-    (tried : Result Bool TrialFault) × Tries scripted tried old new × (answered ≡ tried_status tried)
+abbrev pub TellsTrial : TextRead → (answered : Result ℕ Fault) → (old new : Option (List ℕ)) → Type 0
+TellsTrial t answered old new = (tried : Result Bool TrialFault) × Tries t.scripted tried old new × Answers t tried answered
 
 -- WHAT IS SAID of a script that standard input has, whose bytes are these where they are known
 abbrev pub TriesInput : (known : Option (List ℕ)) → Result ℕ Fault → (out : Stream) → Type 0
-TriesInput known answered out = (text : List ℕ) × Has known text × TellsTrial (script_at text) answered out.old out.new
+TriesInput known answered out = (text : List ℕ) × Has known text × TellsTrial (text_read text) answered out.old out.new

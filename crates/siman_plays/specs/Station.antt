@@ -4,7 +4,7 @@ use Rattle.std.specs.declared.alloc.Global.{Global}
 use Rattle.std.specs.Io.KnownBytes.{Keeps}
 use Rattle.dis_records.specs.Address.{Pair}
 use Rattle.siman_scripts.specs.declared.script_fault.ScriptFault.TheVariants as scripts
-use Rattle.siman_scripts.specs.Script.{ScriptData, script_at}
+use Rattle.siman_scripts.specs.Script.{ScriptData}
 use Rattle.siman_scripts.specs.Statement.{address_of}
 use Rattle.siman_scripts.specs.Stations.{WorldStationData}
 use Rattle.siman_worlds.specs.declared.world_fault.WorldFault.TheVariants as worlds
@@ -28,7 +28,8 @@ use Rattle.siman_answers.specs.Endpoints.{endpoint_of}
 use Rattle.siman_answers.specs.Opening.{IsUnopened}
 use Rattle.siman_answers.specs.Outside.{Has, Stream, Outcome, Deed, Opens, Reads, LooksFor, Binds, Creates, Leaves}
 use Rattle.siman_plays.specs.Live.{IsUncreated}
-use Rattle.siman_plays.specs.World.{Scripted}
+use Rattle.siman_plays.specs.Explained.{Scripted, TextRead, text_read, TellsWhyNot}
+use Rattle.std.specs.Result.{result_err}
 
 -- Of the words.
 
@@ -75,16 +76,16 @@ Places asked (Err fault) = (fault ≡ Memory) ⊎ ((word : List ℕ) × (bad_wor
 -- how it is told that a station of a script was not set up
 abbrev pub of_set_up : SetUpFault → Fault
 of_set_up set_ups.NotInSetup = NotInSetup
-of_set_up set_ups.Stations = World worlds.Stations
+of_set_up set_ups.Stations = World worlds.Stations None
 of_set_up set_ups.Memory = Memory
 
 -- WHY THE STATION OF A SCRIPT AT AN ADDRESS IS NOT SET UP: the first line of the script that is refused, no station there, or one that a world cannot have; a failed read may come in place of the script, want of memory at any time
 abbrev pub SetsUpNone : Scripted → (address : Pair) → Fault → Type 0
-SetsUpNone scripted address (Script (scripts.BadLine line)) = scripted ≡ Err (scripts.BadLine line)
-SetsUpNone scripted address (Script (scripts.UnknownStation line)) = scripted ≡ Err (scripts.UnknownStation line)
+SetsUpNone scripted address (Script (scripts.BadLine line) why) = scripted ≡ Err (scripts.BadLine line)
+SetsUpNone scripted address (Script (scripts.UnknownStation line) why) = scripted ≡ Err (scripts.UnknownStation line)
 SetsUpNone scripted address (ScriptRead failed) = ⊤
 SetsUpNone scripted address NotInSetup = (s : ScriptData) × (scripted ≡ Ok s) × SetsUp s address (Err set_ups.NotInSetup)
-SetsUpNone scripted address (World worlds.Stations) = (s : ScriptData) × (scripted ≡ Ok s) × SetsUp s address (Err set_ups.Stations)
+SetsUpNone scripted address (World worlds.Stations there) = (s : ScriptData) × (scripted ≡ Ok s) × SetsUp s address (Err set_ups.Stations)
 SetsUpNone scripted address Memory = ⊤
 SetsUpNone scripted address other = ⊥
 
@@ -92,9 +93,13 @@ abbrev pub SetsUpText : Scripted → (address : Pair) → Result SetUp Fault →
 SetsUpText scripted address (Ok set_up) = (s : ScriptData) × (scripted ≡ Ok s) × SetsUp s address (Ok set_up)
 SetsUpText scripted address (Err fault) = SetsUpNone scripted address fault
 
+-- so of what was read of a text; and it is told why there is none
+abbrev pub SetsUpRead : TextRead → (address : Pair) → Result SetUp Fault → Type 0
+SetsUpRead t address set_up = SetsUpText t.scripted address set_up × TellsWhyNot t set_up
+
 -- so of a file with these bytes, where they are known
 abbrev pub SetsUpFile : (known : Option (List ℕ)) → (address : Pair) → Result SetUp Fault → Type 0
-SetsUpFile known address set_up = (text : List ℕ) × Has known text × SetsUpText (script_at text) address set_up
+SetsUpFile known address set_up = (text : List ℕ) × Has known text × SetsUpRead (text_read text) address set_up
 
 -- a station of some script was set up
 abbrev pub IsOfScript : SetUp → Type 0
@@ -163,10 +168,14 @@ abbrev pub EndsPlayed : Played → Ended → (old new : Option (List ℕ)) → T
 EndsPlayed (Ok told) ended old new = (ended.status ≡ told.status) × (ended.written ≡ told.written) × (new ≡ old)
 EndsPlayed (Err fault) ended old new = Ends (Err fault) ended old new
 
+-- the fault in its place
+abbrev pub played_fault : Played → Option Fault
+played_fault played = result_err played
+
 -- Where a word is no address nothing is done.
 abbrev pub EndsStation : {L : Type 0} → (strangers : L → ℕ) → StationAsked → List Deed → (input : Option (List ℕ)) → Outcome → Type 0
 EndsStation strangers asked deeds input o =
-    ((fault : Fault) × Places asked (Err fault) × (deeds ≡ []) × Keeps o.out.old o.out.new × Ends (Err fault) o.ended o.errors.old o.errors.new)
+    ((fault : Fault) × Places asked (Err fault) × (deeds ≡ []) × Keeps o.out.old o.out.new × Ends (Err fault) o.ended o.errors.old o.errors.new × (o.fault ≡ Some fault))
     ⊎ ((placed : Placed) × (played : Played) × (mid : Option (List ℕ)) × IsPlaced asked placed
     × (let s : Streams = record { out = o.out; errors = record { old = o.errors.old; new = mid } } in PlaysFile strangers asked placed input deeds played s)
-    × EndsPlayed played o.ended mid o.errors.new)
+    × EndsPlayed played o.ended mid o.errors.new × (o.fault ≡ played_fault played))

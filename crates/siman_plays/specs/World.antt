@@ -8,23 +8,19 @@ use Rattle.exercise_model.specs.History.{past}
 use Rattle.exercise_model.specs.Recording.{PlainRecording}
 use Rattle.exercise_model.specs.Run.{IsRun}
 use Rattle.exercise_recording.specs.Text.{entry_text, recording_text}
-use Rattle.siman_scripts.specs.declared.script_fault.ScriptFault.{ScriptFault}
 use Rattle.siman_scripts.specs.declared.script_fault.ScriptFault.TheVariants as scripts
 use Rattle.siman_worlds.specs.declared.world_fault.WorldFault.{WorldFault}
 use Rattle.siman_worlds.specs.declared.world_fault.WorldFault.TheVariants as worlds
-use Rattle.siman_scripts.specs.Script.{ScriptData, script_at}
+use Rattle.siman_scripts.specs.Script.{ScriptData}
 use Rattle.siman_worlds.specs.World.{WorldData, sent_in, world_recording, world_refusal}
 use Rattle.siman_answers.specs.declared.fault.Fault.{Fault}
 use Rattle.siman_answers.specs.declared.fault.Fault.TheVariants.{Script, ScriptRead, World, Output, Memory}
 use Rattle.siman_answers.specs.Ending.{EndsWith}
 use Rattle.siman_answers.specs.Outside.{Has, Stream, Deed}
 use Rattle.siman_answers.specs.Making.{WritesShort, MakesFile}
+use Rattle.siman_plays.specs.Explained.{Scripted, TextRead, text_read, TellsWhyNot}
 use Rattle.siman_texts.specs.Line.{Number, Keyed, named_line}
 use Rattle.siman_texts.specs.Spelled.{line_text}
-
--- what reading a script gives
-abbrev pub Scripted : Type 0
-Scripted = Result ScriptData ScriptFault
 
 -- the world of a script, the recording that its moves make, and why they can't be made
 abbrev pub world_of : ScriptData → WorldData
@@ -50,17 +46,21 @@ Stops scripted fault = (s : ScriptData) × (scripted ≡ Ok s) × (refusal_of s 
 
 -- IT YIELDS NONE: its first line that is refused, or else why its world does not run; a failed read may come in place of the script, want of memory at any time
 abbrev pub YieldsNone : Scripted → Fault → Type 0
-YieldsNone scripted (Script (scripts.BadLine line)) = scripted ≡ Err (scripts.BadLine line)
-YieldsNone scripted (Script (scripts.UnknownStation line)) = scripted ≡ Err (scripts.UnknownStation line)
+YieldsNone scripted (Script (scripts.BadLine line) why) = scripted ≡ Err (scripts.BadLine line)
+YieldsNone scripted (Script (scripts.UnknownStation line) why) = scripted ≡ Err (scripts.UnknownStation line)
 YieldsNone scripted (ScriptRead failed) = ⊤
-YieldsNone scripted (World worlds.Stations) = Stops scripted worlds.Stations
-YieldsNone scripted (World (worlds.Move number fault)) = Stops scripted (worlds.Move number fault)
+YieldsNone scripted (World worlds.Stations there) = Stops scripted worlds.Stations
+YieldsNone scripted (World (worlds.Move number fault) there) = Stops scripted (worlds.Move number fault)
 YieldsNone scripted Memory = ⊤
 YieldsNone scripted other = ⊥
 
 abbrev pub Runs : Scripted → Result PlainRecording Fault → Type 0
 Runs scripted (Ok r) = Yields scripted r
 Runs scripted (Err fault) = YieldsNone scripted fault
+
+-- so of what was read of a text; and it is told why there is none
+abbrev pub RunsText : TextRead → Result PlainRecording Fault → Type 0
+RunsText t made = Runs t.scripted made × TellsWhyNot t made
 
 -- what is written of the entry of an index
 abbrev pub entry_written : PlainRecording → ℕ → List ℕ
@@ -98,7 +98,7 @@ EndsWorld scripted status file out errors =
 
 -- WHAT COMES OF A FILE for `world` that has these bytes, where they are known; and a file of that recording is made
 abbrev pub RunsFile : (known : Option (List ℕ)) → Result PlainRecording Fault → Type 0
-RunsFile known made = (text : List ℕ) × Has known text × Runs (script_at text) made
+RunsFile known made = (text : List ℕ) × Has known text × RunsText (text_read text) made
 
 abbrev pub MakesWorld : PlainRecording → (force : Bool) → (name : List ℕ) → List Deed → Result ℕ Fault → (out : Stream) → Type 0
 MakesWorld r force name = MakesFile (PutsWorld r) force name

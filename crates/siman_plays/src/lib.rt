@@ -8,10 +8,12 @@
 //! written of each script, to the byte (`EndsWorld`, `EndsLive`, `EndsStation`, `Tries`).
 #![tactic(auto)]
 
+mod explained;
 mod live;
 mod recording_file;
 mod script_trial;
 mod station;
+mod warned;
 mod world;
 
 pub use live::end_live;

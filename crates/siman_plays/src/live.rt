@@ -9,22 +9,27 @@ ghost use Rattle.exercise_model.specs.Setting.{IsSetting};
 ghost use Rattle.siman_lines.specs.AtLines.{Telling, AreFresh};
 ghost use Rattle.siman_answers.specs.Ending.{fault_line};
 ghost use Rattle.siman_answers.specs.Opening.{WorksOn};
-ghost use Rattle.siman_plays.specs.Live.{Begins, BeginsFile, IsUncreated, CreatesLived, LivesAtLines, LivesBegun, is_created, mend_line, EndsLived, EndsLive};
+ghost use Rattle.siman_plays.specs.Explained.{text_read, TellsWhyNot};
+ghost use Rattle.siman_plays.specs.Live.{Begins, BeginsText, BeginsFile, IsUncreated, CreatesLived, LivesAtLines, LivesBegun, IsPlaced, LivesText, is_created, mend_line, EndsLived, EndsLive};
 ghost use Rattle.siman_plays.specs.Live.Lived.{AreNew};
 ghost use Rattle.siman_answers.specs.Outside.{Stream, Outcome, Deed, Found, Adds, WasHeld, Has};
 
 mod moves;
 mod recorded;
 
-use crate::live::moves::stand_at_lines;
+use crate::explained::{refused, stopped};
+use crate::live::moves::{stand_at_lines, trouble_of};
 use crate::live::recorded::{Recorded, record_moves, tell_entries};
+use crate::warned::no_such_station;
 use byte_files::{WriteFailed, put, put_both};
 use exercise_model::Recording;
-use siman_answers::{Ended, Fault, Outside, of_error, open_apart, read_text, tell};
-use siman_lines::{StationAtLine, left_out};
-use siman_scripts::{LARGEST_SCRIPT, Move, Script, read_script};
+use siman_answers::{
+    Ended, Ending, Fault, MovePlace, Notes, Outside, of_error, open_apart, read_text, tell,
+};
+use siman_lines::{LineTrouble, StationAtLine, left_out};
+use siman_scripts::{LARGEST_SCRIPT, Move, Script, line_of_move, read_script};
 use siman_stations::Node;
-use siman_worlds::{Beginning, begin_world};
+use siman_worlds::{Beginning, WorldFault, begin_world};
 use std::alloc::Global;
 use std::io;
 use std::io::{ErrorKind, Read, Write};
@@ -39,37 +44,65 @@ pub(crate) struct Begun {
     pub(crate) moves: Vec<Move>,
 }
 
+/// What was begun of a script, and the text of that.
+#[derive(Drop)]
+struct BegunText {
+    begun: Begun,
+    text: Vec<u8>,
+}
+
 /// The stations of the script of a reader, and its moves.
-fn begin_script<R: Read + Drop>(alloc: Global, script: R) -> Result<Begun, Fault<'static>>
-    ensures { (text : List ℕ) × Has (R.remaining script) text × Begins (script_at text) result }
+fn begin_script<R: Read + Drop>(
+    alloc: Global,
+    script: R,
+    notes: &mut Notes,
+) -> Result<BegunText, Fault<'static>>
+    ensures { (text : List ℕ) × Has (R.remaining script) text × BeginsText (text_read text) result }
 {
     let mut script = script;
     let text = read_text(alloc, &mut script, LARGEST_SCRIPT)?;
-    begin_text(alloc, &text)
+    match begin_text(alloc, &text, notes) {
+        Ok(begun) => Ok(BegunText { begun, text }),
+        Err(fault) => Err(fault),
+    }
 }
 
 /// The stations of a script, and its moves.
-fn begin_text(alloc: Global, text: &[u8]) -> Result<Begun, Fault<'static>>
-    ensures { Begins (script_at text.now) result }
+fn begin_text(alloc: Global, text: &[u8], notes: &mut Notes) -> Result<Begun, Fault<'static>>
+    ensures begins { Begins (script_at text.now) result }
+    ensures why { TellsWhyNot (text_read text.now) result }
 {
-    let script = read_script(alloc, text)?;
-    begin_read(alloc, script)
+    match read_script(alloc, text) {
+        Ok(script) => {
+            notes.note(no_such_station(alloc, text, &script));
+            begin_read(alloc, text, script)
+        }
+        Err(fault) => Err(refused(alloc, text, fault)),
+    }
 }
 
-fn begin_read(alloc: Global, script: Script) -> Result<Begun, Fault<'static>>
-    ensures { Begins (Ok script) result }
+/// The stations of a script, which this text spells, and its moves.
+fn begin_read(alloc: Global, text: &[u8], script: Script) -> Result<Begun, Fault<'static>>
+    requires { script_at text.now ≡ Ok script }
+    ensures begins { Begins (script_at text.now) result }
+    ensures why { TellsWhyNot (text_read text.now) result }
 {
     let Script {
         exercise,
         stations,
         moves,
     } = script;
-    let Beginning { recording, nodes } = begin_world(alloc, exercise, stations)?;
-    Ok(Begun {
-        recording,
-        nodes,
-        moves,
-    })
+    match begin_world(alloc, exercise, stations) {
+        Ok(Beginning { recording, nodes }) => Ok(Begun {
+            recording,
+            nodes,
+            moves,
+        }),
+        Err(fault) => {
+            drop(moves);
+            Err(stopped(alloc, text, fault))
+        }
+    }
 }
 
 /// How it is told that a file could not be created.
@@ -83,11 +116,25 @@ pub(crate) fn uncreated(error: &io::Error) -> Fault<'static>
     }
 }
 
-/// What `live` answered, or the fault that it met, and whether it created its file before.
+/// What `live` answered, or the fault that it met, whether it created its file before, and what a line
+/// said last of a call that failed.
 #[derive(Clone, Copy)]
 struct Lived<'a> {
     answered: Result<u8, Fault<'a>>,
     created: bool,
+    trouble: Option<LineTrouble>,
+}
+
+/// A fault that came before a file was created.
+fn unlived(fault: Fault<'_>) -> Lived<'_>
+    ensures answered { result.answered ≡ Err fault.entry }
+    ensures created { result.created ≡ false }
+{
+    Lived {
+        answered: Err(fault),
+        created: false,
+        trouble: None,
+    }
 }
 
 /// Creates the file of a recording, in which the stations write what comes of their moves, and then
@@ -117,12 +164,10 @@ fn create_live<O: Outside, W: Write>(
             Lived {
                 answered,
                 created: true,
+                trouble: trouble_of(&stations),
             }
         }
-        Err(error) => Lived {
-            answered: Err(uncreated(&error)),
-            created: false,
-        },
+        Err(error) => unlived(uncreated(&error)),
     }
 }
 
@@ -147,18 +192,12 @@ fn live_at_lines<O: Outside, W: Write>(
     let lines = match outside.lines(alloc, nodes.len()) {
         Ok(lines) => lines,
         Err(error) => {
-            return Lived {
-                answered: Err(of_error(&error, Fault::LineFailed)),
-                created: false,
-            };
+            return unlived(of_error(&error, Fault::LineFailed));
         }
     };
     match stand_at_lines(alloc, nodes, lines) {
         Ok(stations) => create_live(alloc, &recording, stations, moves, name, outside, out),
-        Err(fault) => Lived {
-            answered: Err(fault),
-            created: false,
-        },
+        Err(fault) => unlived(fault),
     }
 }
 
@@ -177,12 +216,48 @@ fn live_begun<O: Outside, W: Write>(
         (deeds : List Deed) × Adds (O.deeds outside.old) (O.deeds outside.new) deeds × ((holds : List ℕ → Option Found) → All (WasHeld holds) deeds) × LivesBegun told begun name.now deeds result.answered out × (result.created ≡ is_created deeds) }
 {
     if outside.is_taken(name) {
-        return Lived {
-            answered: Err(Fault::Exists),
-            created: false,
-        };
+        return unlived(Fault::Exists);
     }
     live_at_lines(alloc, begun, name, outside, out)
+}
+
+/// What is told of a fault at a move: in which line of its script that stands, where it stands there.
+fn placed<'a>(alloc: Global, text: &[u8], answered: Result<u8, Fault<'a>>) -> Result<u8, Fault<'a>>
+    ensures { IsPlaced text.now answered.entry result }
+{
+    let (number, fault) = match answered {
+        Err(Fault::World(WorldFault::Move(number, fault), None)) => (number, fault),
+        _ => return answered,
+    };
+    match line_of_move(alloc, text, number) {
+        Ok(Some(line)) => {
+            let place = MovePlace { line, sends: None };
+            Err(Fault::World(WorldFault::Move(number, fault), Some(place)))
+        }
+        _ => answered,
+    }
+}
+
+/// As [`live_begun`], with the line of a move that was not made.
+fn live_text<O: Outside, W: Write>(
+    alloc: Global,
+    script: BegunText,
+    name: &str,
+    outside: &mut O,
+    out: &mut W,
+) -> Lived<'static>
+    requires { AreNew script.begun.recording.setting script.begun.nodes.items }
+    ensures { let told : Telling O.Line = record { received = O.Line.received; sent = O.Line.sent; failures = O.Line.failures; strangers = O.Line.strangers } in
+        let out : Stream = record { old = W.contents out.old; new = W.contents out.new } in
+        (deeds : List Deed) × Adds (O.deeds outside.old) (O.deeds outside.new) deeds × ((holds : List ℕ → Option Found) → All (WasHeld holds) deeds) × LivesText told script name.now deeds result.answered out × (result.created ≡ is_created deeds) }
+{
+    let BegunText { begun, text } = script;
+    let lived = live_begun(alloc, begun, name, outside, out);
+    Lived {
+        answered: placed(alloc, &text, lived.answered),
+        created: lived.created,
+        trouble: lived.trouble,
+    }
 }
 
 /// Opens the file of the first name, and makes the moves of its script, whose recording is to stand
@@ -192,23 +267,18 @@ fn live_of_file<'a, O: Outside, W: Write>(
     names: (&'a str, &'a str),
     outside: &mut O,
     out: &mut W,
+    notes: &mut Notes,
 ) -> Lived<'a>
     ensures { let told : Telling O.Line = record { received = O.Line.received; sent = O.Line.sent; failures = O.Line.failures; strangers = O.Line.strangers } in
         let out : Stream = record { old = W.contents out.old; new = W.contents out.new } in
-        (deeds : List Deed) × Adds (O.deeds outside.old) (O.deeds outside.new) deeds × All (WasHeld (O.holds outside.old)) deeds × WorksOn BeginsFile (LivesBegun told) names.entry.0.now names.entry.1.now deeds result.answered out × (result.created ≡ is_created deeds) }
+        (deeds : List Deed) × Adds (O.deeds outside.old) (O.deeds outside.new) deeds × All (WasHeld (O.holds outside.old)) deeds × WorksOn BeginsFile (LivesText told) names.entry.0.now names.entry.1.now deeds result.answered out × (result.created ≡ is_created deeds) }
 {
     match open_apart(names, outside) {
-        Ok(opened) => match begin_script(alloc, outside.read(opened)) {
-            Ok(begun) => live_begun(alloc, begun, names.1, outside, out),
-            Err(fault) => Lived {
-                answered: Err(fault),
-                created: false,
-            },
+        Ok(opened) => match begin_script(alloc, outside.read(opened), notes) {
+            Ok(script) => live_text(alloc, script, names.1, outside, out),
+            Err(fault) => unlived(fault),
         },
-        Err(fault) => Lived {
-            answered: Err(fault),
-            created: false,
-        },
+        Err(fault) => unlived(fault),
     }
 }
 
@@ -254,17 +324,23 @@ fn end_lived<E: Write>(lived: Lived<'_>, name: &str, errors: &mut E) -> Ended
 
 /// Does what `live` is asked for with these words, and ends as that asks for. After a fault of a
 /// recording that it created it tells how that is mended.
-pub fn end_live<O: Outside, W: Write, E: Write>(
+pub fn end_live<'a, O: Outside, W: Write, E: Write>(
     alloc: Global,
-    words: (&str, &str),
+    words: (&'a str, &'a str),
     outside: &mut O,
     out: &mut W,
     errors: &mut E,
-) -> Ended
+) -> Ending<'a>
     ensures { let told : Telling O.Line = record { received = O.Line.received; sent = O.Line.sent; failures = O.Line.failures; strangers = O.Line.strangers } in
-        let o : Outcome = record { ended = result; out = record { old = W.contents out.old; new = W.contents out.new }; errors = record { old = E.contents errors.old; new = E.contents errors.new } } in
+        let o : Outcome = record { ended = result.ended; fault = result.fault; out = record { old = W.contents out.old; new = W.contents out.new }; errors = record { old = E.contents errors.old; new = E.contents errors.new } } in
         (deeds : List Deed) × Adds (O.deeds outside.old) (O.deeds outside.new) deeds × All (WasHeld (O.holds outside.old)) deeds × EndsLive told words.entry.0.now words.entry.1.now deeds o }
 {
-    let lived = live_of_file(alloc, words, outside, out);
-    end_lived(lived, words.1, errors)
+    let mut notes = Notes::nothing();
+    let lived = live_of_file(alloc, words, outside, out, &mut notes);
+    Ending {
+        ended: end_lived(lived, words.1, errors),
+        fault: lived.answered.err(),
+        trouble: lived.trouble,
+        warning: notes.warning,
+    }
 }

@@ -8,14 +8,16 @@ ghost use Rattle.exercise_check.specs.declared.certificate.Step.{Step};
 ghost use Rattle.exercise_check.specs.Goodness.{IsGood};
 ghost use Rattle.siman_scripts.specs.Script.{script_at};
 ghost use Rattle.siman_answers.specs.Outside.{Has};
-ghost use Rattle.siman_plays.specs.ScriptTrial.{trial_text, Performs, Tries, tried_status};
+ghost use Rattle.siman_plays.specs.Explained.{text_read};
+ghost use Rattle.siman_plays.specs.ScriptTrial.{trial_text, Performs, Tries, Untried, TellsTrial};
 
+use crate::explained::{refused, stopped};
 use crate::world::world_line;
 use byte_files::put;
 use exercise_audit::{Audit, audit};
 use exercise_check::{Certificate, CheckFault, Checked, check};
 use exercise_model::{ExerciseLog, Recording};
-use siman_answers::{Fault, OfFile, TrialFault, read_text};
+use siman_answers::{Fault, Notes, OfFile, TrialFault, read_text};
 use siman_reports::{counted, report_text};
 use siman_scripts::{LARGEST_SCRIPT, Script, read_script};
 use siman_worlds::run_world;
@@ -73,8 +75,13 @@ impl OfFile for TrialCommand {
         alloc: Global,
         file: R,
         out: &mut W,
+        _notes: &mut Notes,
     ) -> Result<u8, Fault<'static>> {
-        status_of(trial(alloc, file, out))
+        let mut input = file;
+        match read_text(alloc, &mut input, LARGEST_SCRIPT) {
+            Ok(text) => answer(alloc, &text, out),
+            Err(fault) => Err(Fault::from(fault)),
+        }
     }
 }
 
@@ -132,13 +139,25 @@ fn accept(alloc: Global, log: &Recording, certificate: &Certificate) -> Result<C
     }
 }
 
-/// The status of what was tried.
-fn status_of(tried: Result<bool, TrialFault>) -> Result<u8, Fault<'static>>
-    ensures { result ≡ tried_status tried }
+/// How it is told that a trial was not made of a text: why that is no script, or where the move stands
+/// that cannot be made.
+fn untried(alloc: Global, text: &[u8], fault: TrialFault) -> Fault<'static>
+    ensures { Untried (text_read text.now) fault result }
 {
-    match tried {
+    match fault {
+        TrialFault::Script(fault) => refused(alloc, text, fault),
+        TrialFault::World(fault) => stopped(alloc, text, fault),
+        other => Fault::from(other),
+    }
+}
+
+/// Tries the script of a text, and gives the status.
+fn answer<W: Write>(alloc: Global, text: &[u8], out: &mut W) -> Result<u8, Fault<'static>>
+    ensures { TellsTrial (text_read text.now) result (W.contents out.old) (W.contents out.new) }
+{
+    match try_text(alloc, text, out) {
         Ok(true) => Ok(0),
         Ok(false) => Ok(1),
-        Err(fault) => Err(Fault::from(fault)),
+        Err(fault) => Err(untried(alloc, text, fault)),
     }
 }

@@ -8,12 +8,15 @@ ghost use Rattle.siman_scripts.specs.Script.{script_at};
 ghost use Rattle.siman_sessions.specs.declared.reading.TheConstants.{LONGEST_LINE};
 ghost use Rattle.siman_sessions.specs.Recorded.{IsReady};
 ghost use Rattle.siman_words.specs.Words.{named_by};
+ghost use Rattle.siman_plays.specs.Explained.{TextRead, text_read, TellsWhyNot};
 ghost use Rattle.siman_plays.specs.Station.{of_set_up, Streams, FindsAddress, FindsEndpoint, FindsEndpoints, Places, SetsUpText, SetsUpFile, IsOfScript, CreatesPlayed, Stands, HasLine, PlaysSetUp, PlaysFile, EndsPlayed, EndsStation};
 
+use crate::explained::refused;
 use crate::live::uncreated;
 use dis_records::Address;
 use siman_answers::{
-    Ended, Endpoint, Fault, Outside, end, endpoint_of, of_error, read_text, unopened,
+    Ended, Ending, Endpoint, Fault, Outside, conclude, end, endpoint_of, of_error, read_text,
+    unopened,
 };
 use siman_lines::Line;
 use siman_scripts::{LARGEST_SCRIPT, Script, address_of, read_script};
@@ -96,14 +99,15 @@ fn of_set_up(fault: SetUpFault) -> Fault<'static>
 {
     match fault {
         SetUpFault::NotInSetup => Fault::NotInSetup,
-        SetUpFault::Stations => Fault::World(WorldFault::Stations),
+        SetUpFault::Stations => Fault::World(WorldFault::Stations, None),
         SetUpFault::Memory => Fault::Memory,
     }
 }
 
 /// The station of a script at an address, as it is begun.
 fn set_up_script(alloc: Global, script: Script, address: Address) -> Result<SetUp, Fault<'static>>
-    ensures { SetsUpText (Ok script) address result }
+    ensures sets_up { SetsUpText (Ok script) address result }
+    ensures why { (t : TextRead) → TellsWhyNot t result }
 {
     match set_up(alloc, script, address) {
         Ok(set_up) => Ok(set_up),
@@ -113,10 +117,13 @@ fn set_up_script(alloc: Global, script: Script, address: Address) -> Result<SetU
 
 /// The station at an address of the script of a text.
 fn set_up_text(alloc: Global, text: &[u8], address: Address) -> Result<SetUp, Fault<'static>>
-    ensures { SetsUpText (script_at text.now) address result }
+    ensures sets_up { SetsUpText (script_at text.now) address result }
+    ensures why { TellsWhyNot (text_read text.now) result }
 {
-    let script = read_script(alloc, text)?;
-    set_up_script(alloc, script, address)
+    match read_script(alloc, text) {
+        Ok(script) => set_up_script(alloc, script, address),
+        Err(fault) => Err(refused(alloc, text, fault)),
+    }
 }
 
 /// The station at an address of the script of a reader.
@@ -293,15 +300,20 @@ pub fn end_station<'a, O: Outside, R: Read + Drop, W: Write, E: Write>(
     input: R,
     out: &mut W,
     errors: &mut E,
-) -> Ended
-    ensures { let o : Outcome = record { ended = result; out = record { old = W.contents out.old; new = W.contents out.new }; errors = record { old = E.contents errors.old; new = E.contents errors.new } } in
+) -> Ending<'a>
+    ensures { let o : Outcome = record { ended = result.ended; fault = result.fault; out = record { old = W.contents out.old; new = W.contents out.new }; errors = record { old = E.contents errors.old; new = E.contents errors.new } } in
         (deeds : List Deed) × Adds (O.deeds outside.old) (O.deeds outside.new) deeds × All (WasHeld (O.holds outside.old)) deeds × EndsStation O.Line.strangers (named_by (λ word. word.now) words.entry) deeds (R.remaining input) o }
 {
     let placed = match place(alloc, &words) {
         Ok(placed) => placed,
-        Err(fault) => return end(Err(fault), errors),
+        Err(fault) => return conclude(Err(fault), errors),
     };
     let mut input = input;
     let played = play_file(alloc, &words, placed, outside, &mut input, out, errors);
-    end_played(played, errors)
+    Ending {
+        ended: end_played(played, errors),
+        fault: played.err(),
+        trouble: None,
+        warning: None,
+    }
 }

@@ -6,11 +6,16 @@ ghost use Rattle.exercise_model.specs.Held.{kept};
 ghost use Rattle.siman_scripts.specs.Script.{script_at};
 ghost use Rattle.siman_worlds.specs.World.{sent_in};
 ghost use Rattle.siman_answers.specs.Outside.{Has, Stream};
-ghost use Rattle.siman_plays.specs.World.{Runs, is_sent, world_text, TellsWorld, EndsWorld};
+ghost use Rattle.siman_plays.specs.Explained.{text_read};
+ghost use Rattle.siman_plays.specs.World.{RunsText, is_sent, world_text, TellsWorld, EndsWorld};
 
+use crate::explained::{refused, stopped};
 use crate::recording_file::put_recording;
+use crate::warned::no_such_station;
 use exercise_model::{EntryView, LogEntry, Recording};
-use siman_answers::{Fault, Making, Outside, Product, end, make_file, read_text, settle_and_say};
+use siman_answers::{
+    Fault, Making, Notes, Outside, Product, end, make_file, read_text, settle_and_say,
+};
 use siman_scripts::{LARGEST_SCRIPT, Script, read_script};
 use siman_texts::{Field, Value, named_line};
 use siman_worlds::run_world;
@@ -57,38 +62,52 @@ fn world<R: Read + Drop, F: Write, W: Write>(
         let out : Stream = record { old = W.contents out.old; new = W.contents out.new } in
         (text : List ℕ) × Has (R.remaining script) text × TellsWorld (script_at text) result file out }
 {
-    match run_script(alloc, script) {
+    match run_script(alloc, script, &mut Notes::nothing()) {
         Ok(made) => WorldFile { recording: made }.put(alloc, recording, out),
         Err(fault) => Err(fault),
     }
 }
 
 /// The recording of the world that the script of a reader describes.
-fn run_script<R: Read + Drop>(alloc: Global, script: R) -> Result<Recording, Fault<'static>>
-    ensures { (text : List ℕ) × Has (R.remaining script) text × Runs (script_at text) result }
+fn run_script<R: Read + Drop>(
+    alloc: Global,
+    script: R,
+    notes: &mut Notes,
+) -> Result<Recording, Fault<'static>>
+    ensures { (text : List ℕ) × Has (R.remaining script) text × RunsText (text_read text) result }
 {
     let mut script = script;
     let text = read_text(alloc, &mut script, LARGEST_SCRIPT)?;
-    run_text(alloc, &text)
+    run_text(alloc, &text, notes)
 }
 
 /// The recording of the world that a script describes.
-fn run_text(alloc: Global, text: &[u8]) -> Result<Recording, Fault<'static>>
-    ensures { Runs (script_at text.now) result }
+fn run_text(alloc: Global, text: &[u8], notes: &mut Notes) -> Result<Recording, Fault<'static>>
+    ensures { RunsText (text_read text.now) result }
 {
-    let script = read_script(alloc, text)?;
-    run_read(alloc, script)
+    match read_script(alloc, text) {
+        Ok(script) => {
+            notes.note(no_such_station(alloc, text, &script));
+            run_read(alloc, text, script)
+        }
+        Err(fault) => Err(refused(alloc, text, fault)),
+    }
 }
 
-fn run_read(alloc: Global, script: Script) -> Result<Recording, Fault<'static>>
-    ensures { Runs (Ok script) result }
+/// The recording of the world of a script, which this text spells.
+fn run_read(alloc: Global, text: &[u8], script: Script) -> Result<Recording, Fault<'static>>
+    requires { script_at text.now ≡ Ok script }
+    ensures { RunsText (text_read text.now) result }
 {
     let Script {
         exercise,
         stations,
         moves,
     } = script;
-    Ok(run_world(alloc, exercise, stations, moves)?)
+    match run_world(alloc, exercise, stations, moves) {
+        Ok(recording) => Ok(recording),
+        Err(fault) => Err(stopped(alloc, text, fault)),
+    }
 }
 
 /// The recording of the world of a script, of which a file is to be made.
@@ -134,8 +153,12 @@ impl Product for WorldFile {
 
     ghost makes = { MakesWorld };
 
-    fn read<R: Read + Drop>(alloc: Global, file: R) -> Result<WorldFile, Fault<'static>> {
-        match run_script(alloc, file) {
+    fn read<R: Read + Drop>(
+        alloc: Global,
+        file: R,
+        notes: &mut Notes,
+    ) -> Result<WorldFile, Fault<'static>> {
+        match run_script(alloc, file, notes) {
             Ok(recording) => Ok(WorldFile { recording }),
             Err(fault) => Err(fault),
         }
@@ -172,7 +195,7 @@ fn is_sent(entry: &LogEntry) -> bool
 }
 
 /// How many of the entries say that a datagram was sent.
-fn sent_count(entries: &[LogEntry]) -> usize
+pub(crate) fn sent_count(entries: &[LogEntry]) -> usize
     ensures { result ≡ length (sent_in (map kept entries.now)) }
 {
     let mut count = 0;

@@ -16,7 +16,8 @@ use exercise_check::{Certificate, good_steps_have_no_cause, write_certificate};
 use exercise_model::{ExerciseLog, entries_stand, what_explains_holds};
 use exercise_recording::{RecordingView, fetch_recording};
 use siman_answers::{
-    Fault, LARGEST_RECORDING, Making, Outside, Product, end, make_file, put_stuck, settle_and_say,
+    Fault, LARGEST_RECORDING, Making, Notes, Outside, Product, end, make_file, put_stuck,
+    settle_and_say,
 };
 use siman_conflicts::put_blocked;
 use siman_reports::counted;
@@ -77,25 +78,30 @@ fn audited<R: Read + Drop, F: Write, W: Write>(
         let out : Stream = record { old = W.contents out.old; new = W.contents out.new } in
         (bytes : List ℕ) × Has (R.remaining recording) bytes × TellsAudit (recording_at LARGEST_RECORDING bytes) result file out }
 {
-    match search(alloc, recording) {
+    match search(alloc, recording, &mut Notes::nothing()) {
         Ok(finding) => put_finding(alloc, &finding, certificate, out),
         Err(fault) => Err(fault),
     }
 }
 
 /// Searches the recording that a reader has for an order that explains it.
-fn search<R: Read + Drop>(alloc: Global, recording: R) -> Result<Finding, Fault<'static>>
+fn search<R: Read + Drop>(
+    alloc: Global,
+    recording: R,
+    notes: &mut Notes,
+) -> Result<Finding, Fault<'static>>
     ensures { (bytes : List ℕ) × Has (R.remaining recording) bytes × Searches (recording_at LARGEST_RECORDING bytes) result }
 {
     let bytes = fetch_recording(alloc, recording, LARGEST_RECORDING)?;
-    search_bytes(alloc, &bytes)
+    search_bytes(alloc, &bytes, notes)
 }
 
 /// Searches the recording whose file these bytes are for an order that explains it.
-fn search_bytes(alloc: Global, bytes: &[u8]) -> Result<Finding, Fault<'static>>
+fn search_bytes(alloc: Global, bytes: &[u8], notes: &mut Notes) -> Result<Finding, Fault<'static>>
     ensures { Searches (recording_at LARGEST_RECORDING bytes.now) result }
 {
     let log = RecordingView::over_limited(alloc, bytes, LARGEST_RECORDING)?;
+    notes.note_recording(&log);
     Ok(search_log(alloc, &log)?)
 }
 
@@ -198,8 +204,12 @@ impl Product for Finding {
 
     ghost makes = { MakesFinding };
 
-    fn read<R: Read + Drop>(alloc: Global, file: R) -> Result<Finding, Fault<'static>> {
-        search(alloc, file)
+    fn read<R: Read + Drop>(
+        alloc: Global,
+        file: R,
+        notes: &mut Notes,
+    ) -> Result<Finding, Fault<'static>> {
+        search(alloc, file, notes)
     }
 
     fn make<O: Outside, W: Write>(

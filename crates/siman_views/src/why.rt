@@ -22,8 +22,8 @@ use exercise_findings::{Account, Findings};
 use exercise_model::ExerciseLog;
 use exercise_recording::{RecordingView, fetch_recording};
 use siman_answers::{
-    Fault, LARGEST_CERTIFICATE, LARGEST_RECORDING, OfFile, OfFiles, Outside, end, say_of_file,
-    say_of_files,
+    Fault, LARGEST_CERTIFICATE, LARGEST_RECORDING, Notes, OfFile, OfFiles, Outside, end,
+    say_of_file, say_of_files,
 };
 use siman_conflicts::{
     conflict_entries, put_conflict, put_explained, put_refusal, put_yes, refusal_entries,
@@ -62,7 +62,8 @@ pub fn why_command<R: Read + Drop, W: Write, E: Write>(
         EndsWhy (WhyOfFile spelling (R.remaining recording)) result out errors }
     ensures silent { result ≤ 1 → Keeps (E.contents errors.old) (E.contents errors.new) }
 {
-    end(say_why(alloc, recording, spelling, out), errors).status
+    let notes = &mut Notes::nothing();
+    end(say_why(alloc, recording, spelling, out, notes), errors).status
 }
 
 /// Tells what is wrong with the certificate that the second reader has of the recording that the first
@@ -86,11 +87,9 @@ pub fn why_not_command<R: Read + Drop, C: Read + Drop, W: Write, E: Write>(
         EndsWhy (WhyOfFiles spelling (R.remaining recording) (C.remaining certificate)) result out errors }
     ensures silent { result ≤ 1 → Keeps (E.contents errors.old) (E.contents errors.new) }
 {
-    end(
-        say_why_not(alloc, recording, certificate, spelling, out),
-        errors,
-    )
-    .status
+    let notes = &mut Notes::nothing();
+    let told = say_why_not(alloc, recording, certificate, spelling, out, notes);
+    end(told, errors).status
 }
 
 /// Opens the file of a name, and before it is read that of another, where there is one, and says why;
@@ -101,6 +100,7 @@ pub fn why_named<'a, O: Outside, W: Write>(
     spelling: Spelling,
     outside: &mut O,
     out: &mut W,
+    notes: &mut Notes,
 ) -> Result<u8, Fault<'a>>
     ensures { let out : Stream = record { old = W.contents out.old; new = W.contents out.new } in
         (deeds : List Deed) × Adds (O.deeds outside.old) (O.deeds outside.new) deeds × All (WasHeld (O.holds outside.old)) deeds × WhyNamed spelling names.entry.0.now (option_map (λ other. other.now) names.entry.1) deeds result out }
@@ -108,10 +108,10 @@ pub fn why_named<'a, O: Outside, W: Write>(
     let (recording, certificate) = names;
     let command = WhyCommand { spelling };
     match certificate {
-        None => say_of_file(alloc, &command, recording, outside, out),
+        None => say_of_file(alloc, &command, recording, outside, out, notes),
         Some(certificate) => {
             let names = (recording, certificate);
-            say_of_files(alloc, &command, names, outside, out)
+            say_of_files(alloc, &command, names, outside, out, notes)
         }
     }
 }
@@ -132,8 +132,9 @@ impl OfFile for WhyCommand {
         alloc: Global,
         file: R,
         out: &mut W,
+        notes: &mut Notes,
     ) -> Result<u8, Fault<'static>> {
-        say_why(alloc, file, self.spelling, out)
+        say_why(alloc, file, self.spelling, out, notes)
     }
 }
 
@@ -148,8 +149,9 @@ impl OfFiles for WhyCommand {
         first: R,
         second: S,
         out: &mut W,
+        notes: &mut Notes,
     ) -> Result<u8, Fault<'static>> {
-        say_why_not(alloc, first, second, self.spelling, out)
+        say_why_not(alloc, first, second, self.spelling, out, notes)
     }
 }
 
@@ -159,11 +161,12 @@ fn say_why<R: Read + Drop, W: Write>(
     recording: R,
     spelling: Spelling,
     out: &mut W,
+    notes: &mut Notes,
 ) -> Result<u8, Fault<'static>>
     ensures { let out : Stream = record { old = W.contents out.old; new = W.contents out.new } in
         WhyOfFile spelling (R.remaining recording) result out }
 {
-    match why(alloc, recording, spelling) {
+    match why(alloc, recording, spelling, notes) {
         Ok(told) => put_why(&told, out),
         Err(fault) => Err(fault),
     }
@@ -176,11 +179,12 @@ fn say_why_not<R: Read + Drop, C: Read + Drop, W: Write>(
     certificate: C,
     spelling: Spelling,
     out: &mut W,
+    notes: &mut Notes,
 ) -> Result<u8, Fault<'static>>
     ensures { let out : Stream = record { old = W.contents out.old; new = W.contents out.new } in
         WhyOfFiles spelling (R.remaining recording) (C.remaining certificate) result out }
 {
-    match why_not(alloc, recording, certificate, spelling) {
+    match why_not(alloc, recording, certificate, spelling, notes) {
         Ok(told) => put_why(&told, out),
         Err(fault) => Err(fault),
     }
@@ -202,18 +206,25 @@ fn why<R: Read + Drop>(
     alloc: Global,
     recording: R,
     spelling: Spelling,
+    notes: &mut Notes,
 ) -> Result<WhyText, Fault<'static>>
     ensures { (bytes : List ℕ) × Has (R.remaining recording) bytes × Whys spelling (recording_at LARGEST_RECORDING bytes) result }
 {
     let bytes = fetch_recording(alloc, recording, LARGEST_RECORDING)?;
-    why_bytes(alloc, &bytes, spelling)
+    why_bytes(alloc, &bytes, spelling, notes)
 }
 
 /// What is to be said of the recording whose file these bytes are.
-fn why_bytes(alloc: Global, bytes: &[u8], spelling: Spelling) -> Result<WhyText, Fault<'static>>
+fn why_bytes(
+    alloc: Global,
+    bytes: &[u8],
+    spelling: Spelling,
+    notes: &mut Notes,
+) -> Result<WhyText, Fault<'static>>
     ensures { Whys spelling (recording_at LARGEST_RECORDING bytes.now) result }
 {
     let log = RecordingView::over_limited(alloc, bytes, LARGEST_RECORDING)?;
+    notes.note_recording(&log);
     Ok(why_log(alloc, &log, spelling)?)
 }
 
@@ -276,13 +287,14 @@ fn why_not<R: Read + Drop, C: Read + Drop>(
     recording: R,
     certificate: C,
     spelling: Spelling,
+    notes: &mut Notes,
 ) -> Result<WhyText, Fault<'static>>
     ensures { (bytes : List ℕ) × Has (R.remaining recording) bytes
         × ((text : List ℕ) × Has (C.remaining certificate) text
         × WhysNot spelling (recording_at LARGEST_RECORDING bytes) (certificate_at LARGEST_CERTIFICATE text) result) }
 {
     let bytes = fetch_recording(alloc, recording, LARGEST_RECORDING)?;
-    why_not_bytes(alloc, &bytes, certificate, spelling)
+    why_not_bytes(alloc, &bytes, certificate, spelling, notes)
 }
 
 /// As [`why_not`], of the recording whose file these bytes are.
@@ -291,11 +303,13 @@ fn why_not_bytes<C: Read + Drop>(
     bytes: &[u8],
     certificate: C,
     spelling: Spelling,
+    notes: &mut Notes,
 ) -> Result<WhyText, Fault<'static>>
     ensures { (text : List ℕ) × Has (C.remaining certificate) text
         × WhysNot spelling (recording_at LARGEST_RECORDING bytes.now) (certificate_at LARGEST_CERTIFICATE text) result }
 {
     let log = RecordingView::over_limited(alloc, bytes, LARGEST_RECORDING)?;
+    notes.note_recording(&log);
     let certificate = fetch_certificate(alloc, certificate, LARGEST_CERTIFICATE)?;
     Ok(why_not_log(alloc, &log, &certificate, spelling)?)
 }

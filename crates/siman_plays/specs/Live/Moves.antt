@@ -48,7 +48,7 @@ Gives reason halts.Memory = ⊤
 
 -- how it is told that it halted at the move of a number
 abbrev pub at_move : ℕ → Halt → Fault
-at_move number (halts.Move fault) = World (worlds.Move number fault)
+at_move number (halts.Move fault) = World (worlds.Move number fault) None
 at_move number halts.Line = LineFailed
 at_move number halts.Record = Output
 at_move number halts.Memory = Memory

@@ -12,7 +12,8 @@ use exercise_model::MOST_ENTRIES;
 use exercise_recording::RecordingWriter;
 use siman_answers::Fault;
 use siman_lines::{
-    AtLineFault, Line, StationAtLine, order_at, repeat_at, serve_rounds, stations_at_lines, tell_at,
+    AtLineFault, Line, LineTrouble, StationAtLine, order_at, repeat_at, serve_rounds,
+    stations_at_lines, tell_at,
 };
 use siman_scripts::{Act, Move};
 use siman_stations::Node;
@@ -45,12 +46,18 @@ impl Halt {
         ensures { result ≡ at_move number self }
     {
         match self {
-            Halt::Move(fault) => Fault::World(WorldFault::Move(number, fault)),
+            Halt::Move(fault) => Fault::World(WorldFault::Move(number, fault), None),
             Halt::Line => Fault::LineFailed,
             Halt::Record => Fault::Output,
             Halt::Memory => Fault::Memory,
         }
     }
+}
+
+/// What a line of a station said of the last of its calls that failed, if one did: the first that has
+/// something to say.
+pub(crate) fn trouble_of<L: Line + Drop>(stations: &[StationAtLine<L>]) -> Option<LineTrouble> {
+    stations.iter().find_map(|station| station.line.trouble())
 }
 
 /// Stations at their lines, the first at the first. There are to be as many lines as stations.

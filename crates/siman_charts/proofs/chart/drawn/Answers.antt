@@ -9,4 +9,4 @@ returns-in-Some g c =
     let steps = c.args.steps.now in
     let good : IsCertified (Ok r) (Ok steps) r steps = record { read = refl; certificate = refl; good = c.requires.good; holds = c.requires.holds } in
     let past = rw c.in-Some.is at c.past_of.ensures in
-    inr (r, steps, good, inl (c.in-Some.word.now, sym past, append-nil (codes "filter: " ++ c.in-Some.word.now)))
+    inr (r, steps, good, inl (c.in-Some.word.now, sym past, append-nil (codes "filter: " ++ c.in-Some.word.now), refl))

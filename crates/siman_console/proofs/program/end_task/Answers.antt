@@ -12,12 +12,12 @@ use Rattle.siman_console.proofs.program.end_task.Goals as goal
 
 pub returns-in-Trial : goal.returns-in-Trial
 returns-in-Trial g c =
-    rw c.in-Trial.is ([], adds_none _, All-nil (WasHeld (g.O.Outside.holds c.args.outside.now)), (refl, (c.say.result, c.say.ensures, c.end.ensures)))
+    rw c.in-Trial.is ([], adds_none _, All-nil (WasHeld (g.O.Outside.holds c.args.outside.now)), (refl, (c.say.result, c.say.ensures, c.conclude.ensures.ends, c.conclude.ensures.fault)))
 
 pub returns-in-One : goal.returns-in-One
 returns-in-One g c =
-    let did = c.do_one.ensures in
-    rw c.in-One.is (did.0, did.1, did.2, (c.do_one.result, did.3, c.end-in-One.ensures))
+    let did = c.do_one-done.ensures in
+    rw c.in-One.is (did.0, did.1, did.2, (c.do_one-done.result, did.3, c.conclude-in-One.ensures.ends, c.conclude-in-One.ensures.fault))
 
 pub returns-in-Two : goal.returns-in-Two
 returns-in-Two g c = rw c.in-Two.is c.end_two.ensures
@@ -38,22 +38,22 @@ returns-in-Bare-Pdus g c =
 pub returns-in-Join : goal.returns-in-Join
 returns-in-Join g c =
     let did = rw c.word_of-word.ensures at c.join_pieces-joined.ensures in
-    rw c.in-Join.is (did.0, did.1, did.2, (c.join_pieces-joined.result, did.3, c.end-in-Join.ensures))
+    rw c.in-Join.is (did.0, did.1, did.2, (c.join_pieces-joined.result, did.3, c.conclude-in-Join.ensures.ends, c.conclude-in-Join.ensures.fault))
 
 pub returns-in-View : goal.returns-in-View
 returns-in-View g c =
-    let did = c.do_view.ensures in
-    rw c.in-View.is (did.0, did.1, did.2, (c.do_view.result, did.3, c.end-in-View.ensures))
+    let did = c.do_view-done.ensures in
+    rw c.in-View.is (did.0, did.1, did.2, (c.do_view-done.result, did.3, c.conclude-in-View.ensures.ends, c.conclude-in-View.ensures.fault))
 
 pub returns-in-Why : goal.returns-in-Why
 returns-in-Why g c =
-    let did = c.why_named.ensures in
-    rw c.in-Why.is (did.0, did.1, did.2, (c.why_named.result, did.3, c.end-in-Why.ensures))
+    let did = c.why_named-done.ensures in
+    rw c.in-Why.is (did.0, did.1, did.2, (c.why_named-done.result, did.3, c.conclude-in-Why.ensures.ends, c.conclude-in-Why.ensures.fault))
 
 pub returns-in-Chart : goal.returns-in-Chart
 returns-in-Chart g c =
     let did = c.chart_named-charted.ensures in
-    rw c.in-Chart.is (did.0, did.1, did.2, (c.chart_named-charted.result, did.3, c.end-in-Chart.ensures))
+    rw c.in-Chart.is (did.0, did.1, did.2, (c.chart_named-charted.result, did.3, c.conclude-in-Chart.ensures.ends, c.conclude-in-Chart.ensures.fault))
 
 pub returns-in-Station : goal.returns-in-Station
 returns-in-Station g c = rw c.in-Station.is c.end_station.ensures

@@ -14,12 +14,12 @@ returns-in-Ok-begin_script g c =
     let Held = WasHeld (g.O.Outside.holds c.args.outside.now) in
     let opened = c.in-Ok.ensures in
     let reads = Reads (g.O.Outside.bytes c.in-Ok.opened) ∷ [] in
-    let rest = c.live_begun.ensures in
+    let rest = c.live_text.ensures in
     let made = rw c.read.ensures.same at c.in-Ok-begin_script.ensures in (
       opened.0 ++ (reads ++ rest.0),
       adds_then _ _ _ opened.0 (reads ++ rest.0) opened.1 (adds_then _ _ _ reads rest.0 c.read.ensures.done rest.1),
       All-append Held opened.0 (reads ++ rest.0) opened.2 (All-append Held reads rest.0 (all_one Held _ tt) (rest.2 (g.O.Outside.holds c.args.outside.now))),
-      inr (inr (_, rest.0, c.in-Ok-begin_script.begun, ap (λ (deeds : List Deed). deeds ++ (reads ++ rest.0)) opened.3, made, rest.3)),
+      inr (inr (_, rest.0, c.in-Ok-begin_script.script, ap (λ (deeds : List Deed). deeds ++ (reads ++ rest.0)) opened.3, made, rest.3)),
       rest.4 ∙ sym (ap (λ (deeds : List Deed). is_created (deeds ++ (reads ++ rest.0))) opened.3),
     )
 
@@ -32,8 +32,8 @@ returns-in-Err-begin_script g c =
       opened.0 ++ reads,
       adds_then _ _ _ opened.0 reads opened.1 c.read.ensures.done,
       All-append Held opened.0 reads opened.2 (all_one Held _ tt),
-      inr (inl (_, c.in-Err-begin_script.fault, ap (λ (deeds : List Deed). deeds ++ reads) opened.3, none, refl, Keeps-refl (g.W.Write.contents c.args.out.now))),
-      sym (ap (λ (deeds : List Deed). is_created (deeds ++ reads)) opened.3),
+      inr (inl (_, c.in-Err-begin_script.fault, ap (λ (deeds : List Deed). deeds ++ reads) opened.3, none, c.unlived.ensures.answered, Keeps-refl (g.W.Write.contents c.args.out.now))),
+      c.unlived.ensures.created ∙ sym (ap (λ (deeds : List Deed). is_created (deeds ++ reads)) opened.3),
     )
 
 pub returns-in-Err : goal.returns-in-Err
@@ -42,10 +42,10 @@ returns-in-Err g c =
       opened.0,
       opened.1,
       opened.2,
-      inl (c.in-Err.fault, opened.3, refl, Keeps-refl (g.W.Write.contents c.args.out.now)),
-      sym (none_created _ _ opened.0 c.in-Err.fault opened.3),
+      inl (c.in-Err.fault, opened.3, c.unlived-in-Err.ensures.answered, Keeps-refl (g.W.Write.contents c.args.out.now)),
+      c.unlived-in-Err.ensures.created ∙ sym (none_created _ _ opened.0 c.in-Err.fault opened.3),
     )
 
-pub live_begun-requires : goal.live_begun-requires
-live_begun-requires g c =
-    let begun = c.in-Ok-begin_script.ensures.2 in are_new begun.script _ _ begun.setting begun.nodes
+pub live_text-requires : goal.live_text-requires
+live_text-requires g c =
+    let begun = c.in-Ok-begin_script.ensures.2.0 in are_new begun.script _ _ begun.setting begun.nodes

@@ -4,7 +4,7 @@ use Rattle.std.proofs.Common.{ℕ, List, Option, Err, subst}
 use Rattle.siman_scripts.specs.Script.{script_at}
 use Rattle.siman_answers.specs.declared.input.InputFault.{InputFault}
 use Rattle.siman_answers.specs.declared.input.InputFault.TheVariants as inputs
-use Rattle.siman_plays.specs.World.{Scripted}
+use Rattle.siman_plays.specs.Explained.{Scripted}
 use Rattle.siman_plays.specs.ScriptTrial.{Tries}
 use Rattle.siman_answers.specs.TrialFaults.{unread}
 use Rattle.siman_answers.proofs.Offered.{at_fault, of_any}

@@ -2,4 +2,4 @@
 use Rattle.siman_views.proofs.why.why_not_command.Goals as goal
 
 pub returns-clause-ends : goal.returns-clause-ends
-returns-clause-ends g c = (c.say_why_not.result, c.say_why_not.ensures, (c.end.result.written, c.end.ensures))
+returns-clause-ends g c = (c.say_why_not-told.result, c.say_why_not-told.ensures, (c.end.result.written, c.end.ensures))

@@ -9,7 +9,7 @@ use Rattle.siman_answers.specs.Recorded.{Recorded}
 use Rattle.siman_files.specs.Check.{Judges}
 use Rattle.siman_answers.proofs.Offered.{Said, of_recording, of_any, unfetched_recording, at_fault}
 use Rattle.siman_files.proofs.Verdicts.{recording_refused}
-use Rattle.siman_files.proofs.check.check_files.Goals as goal
+use Rattle.siman_files.proofs.check.check_noting.Goals as goal
 
 pub returns-in_err-bytes : goal.returns-in_err-bytes
 returns-in_err-bytes g c =

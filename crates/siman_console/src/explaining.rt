@@ -1,0 +1,86 @@
+//! Telling the reason of a fault, behind its first line.
+
+ghost use Rattle.std.specs.Prelude.{◌≡◌, ◌++◌};
+ghost use Rattle.byte_files.specs.Writing.{Writes};
+ghost use Rattle.siman_reports.specs.Records.{line_end};
+ghost use Rattle.siman_console.specs.Reasons.{reason_words, second_line, warning_line, Warns, Explains};
+
+use crate::named::Named;
+use crate::pieces::put_pieces;
+use crate::reason::{Reason, reason_of};
+use crate::warning::warning_pieces;
+use byte_files::{WriteFailed, put};
+use siman_answers::{Ended, Ending, Known, Warning};
+use siman_lines::put_line_trouble;
+use siman_scripts::put_reason;
+use std::io::Write;
+
+/// Writes a reason, without a line end.
+fn put_words<W: Write>(writer: &mut W, reason: Reason<'_>) -> Result<(), WriteFailed>
+    ensures { Writes result (W.contents writer.old) (W.contents writer.new) (reason_words reason.entry) }
+{
+    match reason {
+        Reason::Script(why) => put_reason(writer, why),
+        Reason::Line(trouble) => put_line_trouble(writer, trouble),
+        Reason::Text(pieces) => put_pieces(writer, pieces),
+    }
+}
+
+/// Writes a reason, and a line end.
+fn put_ended<W: Write>(writer: &mut W, reason: Reason<'_>) -> Result<(), WriteFailed>
+    ensures { Writes result (W.contents writer.old) (W.contents writer.new) (reason_words reason.entry ++ line_end) }
+{
+    put_words(writer, reason)?;
+    put(writer, b"\n")
+}
+
+/// Writes the second line of a fault.
+fn put_second<W: Write>(writer: &mut W, reason: Reason<'_>) -> Result<(), WriteFailed>
+    ensures { Writes result (W.contents writer.old) (W.contents writer.new) (second_line (reason_words reason.entry)) }
+{
+    put(writer, b"  ")?;
+    put_ended(writer, reason)
+}
+
+/// Writes what there is to warn of.
+fn put_warning<W: Write>(writer: &mut W, warning: Warning) -> Result<(), WriteFailed>
+    ensures { Writes result (W.contents writer.old) (W.contents writer.new) (warning_line warning) }
+{
+    put(writer, b"warning: ")?;
+    put_ended(writer, Reason::Text(warning_pieces(warning)))
+}
+
+/// Tells what there is to warn of, if there is something.
+fn warn<W: Write>(warning: Option<Warning>, reasons: &mut W)
+    ensures { Warns warning (W.contents reasons.old) (W.contents reasons.new) }
+{
+    if let Some(warning) = warning {
+        let _ = put_warning(reasons, warning);
+    }
+}
+
+/// Tells the reason of the fault that a command met, if it met one and its first line is written, and
+/// else what there is to warn of; gives how the command ended.
+pub(crate) fn explained<'a, E: Write>(
+    ending: Ending<'a>,
+    named: Named<'a>,
+    known: Known,
+    reasons: &mut E,
+) -> Ended
+    ensures ended { result ≡ ending.entry.ended }
+    ensures explains { Explains result.written ending.entry.fault ending.entry.warning (E.contents reasons.old) (E.contents reasons.new) }
+{
+    let fault = match ending.fault {
+        Some(fault) => fault,
+        None => {
+            warn(ending.warning, reasons);
+            return ending.ended;
+        }
+    };
+    if ending.ended.written.is_err() {
+        return ending.ended;
+    }
+    let reason = reason_of(fault, named, known, ending.trouble);
+    let _ = put_second(reasons, reason);
+    ending.ended
+}

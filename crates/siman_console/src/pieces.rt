@@ -1,0 +1,187 @@
+//! A text in pieces: words, names and numbers, one after the other.
+
+ghost use Rattle.std.specs.Prelude.{◌≡◌, ◌++◌, [], codes, decimal};
+ghost use Rattle.byte_files.specs.Writing.{Writes};
+ghost use Rattle.siman_console.specs.Reasons.{piece_text, pieces_text, pieces, five as texts};
+
+use byte_files::{WriteFailed, put};
+use itoa::Buffer;
+use std::io::Write;
+
+/// A piece of a text.
+#[derive(Clone, Copy)]
+pub(crate) enum Piece<'a> {
+    /// A name or a word that the command line has.
+    Name(&'a str),
+    /// Words that are the same each time.
+    Words(&'static str),
+    Number(u64),
+    /// A site and an application, `S:A`.
+    Address(u16, u16),
+    Nothing,
+}
+
+/// A text in five pieces.
+#[derive(Clone, Copy)]
+pub(crate) struct Pieces<'a> {
+    pub(crate) first: Piece<'a>,
+    pub(crate) second: Piece<'a>,
+    pub(crate) third: Piece<'a>,
+    pub(crate) fourth: Piece<'a>,
+    pub(crate) fifth: Piece<'a>,
+}
+
+/// A text of these words alone.
+pub(crate) fn words(words: &'static str) -> Pieces<'static>
+    ensures { pieces_text result ≡ texts words.now [] [] [] [] }
+{
+    five(
+        Piece::Words(words),
+        Piece::Nothing,
+        Piece::Nothing,
+        Piece::Nothing,
+        Piece::Nothing,
+    )
+}
+
+/// A text of a name, and of words behind it.
+pub(crate) fn named<'a>(name: &'a str, words: &'static str) -> Pieces<'a> {
+    five(
+        Piece::Name(name),
+        Piece::Words(words),
+        Piece::Nothing,
+        Piece::Nothing,
+        Piece::Nothing,
+    )
+}
+
+/// A text of a name, and of two words behind it.
+pub(crate) fn named_twice<'a>(
+    name: &'a str,
+    first: &'static str,
+    second: &'static str,
+) -> Pieces<'a>
+    ensures { pieces_text result ≡ texts name.entry.now first.now second.now [] [] }
+{
+    five(
+        Piece::Name(name),
+        Piece::Words(first),
+        Piece::Words(second),
+        Piece::Nothing,
+        Piece::Nothing,
+    )
+}
+
+/// A text of a name, of words behind it, and of another name.
+pub(crate) fn two_named<'a>(first: &'a str, words: &'static str, second: &'a str) -> Pieces<'a> {
+    five(
+        Piece::Name(first),
+        Piece::Words(words),
+        Piece::Name(second),
+        Piece::Nothing,
+        Piece::Nothing,
+    )
+}
+
+/// A text of five pieces.
+pub(crate) fn five<'a>(
+    first: Piece<'a>,
+    second: Piece<'a>,
+    third: Piece<'a>,
+    fourth: Piece<'a>,
+    fifth: Piece<'a>,
+) -> Pieces<'a>
+    ensures { result ≡ pieces first.entry second.entry third.entry fourth.entry fifth.entry }
+{
+    Pieces {
+        first,
+        second,
+        third,
+        fourth,
+        fifth,
+    }
+}
+
+fn put_number<W: Write>(writer: &mut W, number: u64) -> Result<(), WriteFailed>
+    ensures { Writes result (W.contents writer.old) (W.contents writer.new) (decimal number) }
+{
+    let mut buffer = Buffer::new();
+    put(writer, buffer.format(number).as_bytes())
+}
+
+/// Writes a number behind a colon.
+fn put_behind<W: Write>(writer: &mut W, number: u16) -> Result<(), WriteFailed>
+    ensures { Writes result (W.contents writer.old) (W.contents writer.new) (codes ":" ++ decimal number) }
+{
+    put(writer, b":")?;
+    put_number(writer, u64::from(number))
+}
+
+/// Writes a site and an application.
+fn put_address<W: Write>(writer: &mut W, site: u16, application: u16) -> Result<(), WriteFailed>
+    ensures { Writes result (W.contents writer.old) (W.contents writer.new) (decimal site ++ (codes ":" ++ decimal application)) }
+{
+    put_number(writer, u64::from(site))?;
+    put_behind(writer, application)
+}
+
+fn put_piece<W: Write>(writer: &mut W, piece: Piece<'_>) -> Result<(), WriteFailed>
+    ensures { Writes result (W.contents writer.old) (W.contents writer.new) (piece_text piece.entry) }
+{
+    match piece {
+        Piece::Name(name) => put(writer, name.as_bytes()),
+        Piece::Words(words) => put(writer, words.as_bytes()),
+        Piece::Number(number) => put_number(writer, number),
+        Piece::Address(site, application) => put_address(writer, site, application),
+        Piece::Nothing => put(writer, b""),
+    }
+}
+
+/// Writes two pieces.
+fn put_two<W: Write>(writer: &mut W, first: Piece<'_>, second: Piece<'_>) -> Result<(), WriteFailed>
+    ensures { Writes result (W.contents writer.old) (W.contents writer.new) (piece_text first.entry ++ piece_text second.entry) }
+{
+    put_piece(writer, first)?;
+    put_piece(writer, second)
+}
+
+/// Writes three pieces.
+fn put_three<W: Write>(
+    writer: &mut W,
+    first: Piece<'_>,
+    second: Piece<'_>,
+    third: Piece<'_>,
+) -> Result<(), WriteFailed>
+    ensures { Writes result (W.contents writer.old) (W.contents writer.new) (piece_text first.entry ++ (piece_text second.entry ++ piece_text third.entry)) }
+{
+    put_piece(writer, first)?;
+    put_two(writer, second, third)
+}
+
+/// Writes four pieces.
+fn put_four<W: Write>(
+    writer: &mut W,
+    first: Piece<'_>,
+    second: Piece<'_>,
+    third: Piece<'_>,
+    fourth: Piece<'_>,
+) -> Result<(), WriteFailed>
+    ensures { Writes result (W.contents writer.old) (W.contents writer.new) (piece_text first.entry ++ (piece_text second.entry ++ (piece_text third.entry ++ piece_text fourth.entry))) }
+{
+    put_piece(writer, first)?;
+    put_three(writer, second, third, fourth)
+}
+
+/// Writes a text in pieces.
+pub(crate) fn put_pieces<W: Write>(writer: &mut W, pieces: Pieces<'_>) -> Result<(), WriteFailed>
+    ensures { Writes result (W.contents writer.old) (W.contents writer.new) (pieces_text pieces.entry) }
+{
+    put_piece(writer, pieces.first)?;
+    put_four(
+        writer,
+        pieces.second,
+        pieces.third,
+        pieces.fourth,
+        pieces.fifth,
+    )
+}

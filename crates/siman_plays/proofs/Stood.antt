@@ -15,14 +15,14 @@ use Rattle.siman_sessions.specs.declared.scripted.SetUp.{SetUp}
 use Rattle.siman_sessions.specs.declared.scripted.SetUpFault.{SetUpFault}
 use Rattle.siman_sessions.specs.declared.scripted.SetUpFault.TheVariants as set_ups
 use Rattle.siman_sessions.specs.Recorded.{open_setting, IsReady}
-use Rattle.siman_sessions.specs.Scripted.{station_at, SetsUpFound, SetsUp}
+use Rattle.siman_sessions.specs.Scripted.{station_at, addresses_of, SetsUpFound, SetsUp}
 use Rattle.siman_plays.specs.Explained.{TextRead, TellsWhy}
 use Rattle.siman_plays.specs.Station.{of_set_up, SetsUpNone, SetsUpFile, IsOfScript}
 
 -- it is as it was begun
 pub stood_ready : {L : Type 0} (set_up : SetUp) (address : Pair) (ready : Ready L) → IsOfScript set_up → ready.head ≡ set_up.head
     → IsBegun set_up.head.setting.exercise address set_up.node ready.post → IsReady ready
-stood_ready set_up address ready (x, s, is) head begun =
+stood_ready set_up address ready (x, addresses, s, is) head begun =
     let same = head ∙ is.head in
     let new = is.node in
     record {
@@ -58,13 +58,13 @@ no_why t set_ups.NotInSetup = tt
 no_why t set_ups.Stations = tt
 no_why t set_ups.Memory = tt
 
-found_one : (x : ℕ) (found : Option WorldStationData) (set_up : SetUp) → SetsUpFound x found (Ok set_up) → IsOfScript set_up
-found_one x None set_up is = absurd cc
-found_one x (Some s) set_up is = (x, s, is)
+found_one : (x : ℕ) (addresses : List Pair) (found : Option WorldStationData) (set_up : SetUp) → SetsUpFound x addresses found (Ok set_up) → IsOfScript set_up
+found_one x addresses None set_up is = absurd cc
+found_one x addresses (Some s) set_up is = (x, addresses, s, is)
 
 -- the station of a script that was read
 pub of_script : (s : ScriptData) (address : Pair) (set_up : SetUp) → SetsUp s address (Ok set_up) → IsOfScript set_up
-of_script s address set_up is = found_one s.exercise (station_at address s.stations) set_up is
+of_script s address set_up is = found_one s.exercise (addresses_of s.stations) (station_at address s.stations) set_up is
 
 pub of_text : (known : Option (List ℕ)) (address : Pair) (set_up : SetUp) → SetsUpFile known address (Ok set_up) → IsOfScript set_up
 of_text known address set_up (text, has, ((s, read, is), why)) = of_script s address set_up is

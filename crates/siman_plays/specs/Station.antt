@@ -103,7 +103,7 @@ SetsUpFile known address set_up = (text : List ℕ) × Has known text × SetsUpR
 
 -- a station of some script was set up
 abbrev pub IsOfScript : SetUp → Type 0
-IsOfScript set_up = (exercise : ℕ) × (s : WorldStationData) × IsSetUp exercise s set_up
+IsOfScript set_up = (exercise : ℕ) × (addresses : List Pair) × (s : WorldStationData) × IsSetUp exercise addresses s set_up
 
 -- Of the exercise.
 
@@ -130,12 +130,12 @@ CreatesPlayed strangers ready name input (Creates made (Ok fresh) ∷ Leaves lef
     × IsLeft (open_setting ready.head) ready.post.station.node.application.outfit told.status fresh left)
 CreatesPlayed strangers ready name input deeds played s = ⊥
 
--- THE STATION STANDS AT ITS LINE, as it was set up; it does not where memory runs out
+-- THE STATION STANDS AT ITS LINE, as it was set up, among the stations of its script; it does not where memory runs out
 abbrev pub Stands : {L : Type 0} → (strangers : L → ℕ) → SetUp → (address : Pair) → (name : List ℕ) → (input : Option (List ℕ)) → List Deed → Played → Streams → Type 0
 Stands {L} strangers set_up address name input deeds played s =
     PlaysNone Memory deeds played s
     ⊎ ((ready : Ready L) × (ready.head ≡ set_up.head) × IsBegun set_up.head.setting.exercise address set_up.node ready.post
-    × CreatesPlayed strangers ready name input deeds played s)
+    × (ready.stations ≡ set_up.stations) × CreatesPlayed strangers ready name input deeds played s)
 
 -- ITS LINE is asked for, where the words have it and its peers; that it could not be had is told as `live: line`, or as want of memory
 abbrev pub HasLine : {L : Type 0} → (strangers : L → ℕ) → SetUp → Placed → (name : List ℕ) → (input : Option (List ℕ)) → List Deed → Played → Streams → Type 0

@@ -3,6 +3,7 @@ use Rattle.std.proofs.Common.{◌≡◌, ℕ, ◌+◌, max, List, [], ◌∷◌,
 use Rattle.std.specs.Prelude.{Option, Ok, Err, true, false}
 use Rattle.std.specs.Io.KnownBytes.{Keeps, IsAtEnd}
 use Rattle.std.proofs.KnownBytes.{Appends-nil, Appends-kept}
+use Rattle.dis_records.specs.Address.{Pair}
 use Rattle.byte_files.specs.Writing.{Writes, WritesPart}
 use Rattle.byte_files.proofs.Offered.{writes_part, writes_then}
 use Rattle.siman_lines.specs.AtLines.{Telling}
@@ -16,6 +17,7 @@ use Rattle.siman_sessions.specs.declared.told.Told.{Told}
 use Rattle.siman_sessions.specs.Came.{status_of, told_of}
 use Rattle.siman_sessions.specs.Reading.{ReadsLines, HoldsLine, said_by}
 use Rattle.siman_sessions.specs.Reason.{Reasons}
+use Rattle.siman_sessions.specs.Receiver.{WarnsOf}
 use Rattle.siman_sessions.specs.Sessions.{silenced_by, AtRecorder, Taken, TakesOne, TakesAll, lines_in, told_from, worst_of, MayGoOn, PlaysLines}
 use Rattle.siman_sessions.specs.Told.{Wrote, TellsMore}
 use Rattle.siman_sessions.proofs.Reasons.{reasons_held}
@@ -46,10 +48,10 @@ lines_in-push : (ts : List Taken) (t : Taken) → lines_in (ts ++ t ∷ []) ≡ 
 lines_in-push [] t = refl
 lines_in-push (u ∷ us) t = ap (λ (ls : List (List ℕ)). u.line ∷ ls) (lines_in-push us t)
 
-takes-push : {L : Type 0} (told : Telling (NotingLine L)) (ts : List Taken) (t : Taken) (a b c : AtRecorder L) → TakesAll told ts a b → TakesOne told t b c
-    → TakesAll told (ts ++ t ∷ []) a c
-takes-push told [] t a b c before one = (c, subst (λ x. TakesOne told t x c) before one, refl)
-takes-push told (u ∷ us) t a b c before one = (before.0, before.1, takes-push told us t before.0 b c before.2 one)
+takes-push : {L : Type 0} (stations : List Pair) (told : Telling (NotingLine L)) (ts : List Taken) (t : Taken) (a b c : AtRecorder L) → TakesAll stations told ts a b → TakesOne stations told t b c
+    → TakesAll stations told (ts ++ t ∷ []) a c
+takes-push stations told [] t a b c before one = (c, subst (λ x. TakesOne stations told t x c) before one, refl)
+takes-push stations told (u ∷ us) t a b c before one = (before.0, before.1, takes-push stations told us t before.0 b c before.2 one)
 
 goes-push : (ts : List Taken) (t : Taken) → MayGoOn ts → is_over t.came.line ≡ false → MayGoOn (ts ++ t ∷ [])
 goes-push [] t all one = (one, tt)
@@ -58,10 +60,10 @@ goes-push (u ∷ us) t all one = (all.0, goes-push us t all.1 one)
 -- ---- the lines so far
 
 -- These lines were read and taken, and told with their worst status.
-pub record SoFar {L : Type 0} (told : Telling (NotingLine L)) (a b : Option (List ℕ)) (old now : AtRecorder L) (e f : Option (List ℕ)) (number : ℕ) (so : Told) : Type 0 where
+pub record SoFar {L : Type 0} (stations : List Pair) (told : Telling (NotingLine L)) (a b : Option (List ℕ)) (old now : AtRecorder L) (e f : Option (List ℕ)) (number : ℕ) (so : Told) : Type 0 where
   pub taken : List Taken
   pub count : number ≡ 1 + length taken
-  pub takes : TakesAll told taken old now
+  pub takes : TakesAll stations told taken old now
   pub read : ReadsLines a b (lines_in taken)
   pub status : so.status ≡ worst_of taken
   pub tells : Writes so.written e f (told_from 1 taken)
@@ -70,12 +72,12 @@ nothing_told : (so : Told) (e : Option (List ℕ)) → so ≡ record { status = 
 nothing_told so e none = subst (λ (s : Told). Writes s.written e e []) (sym none) (Appends-nil e)
 
 -- and a further line may be taken after each of them
-abbrev pub OnSoFar : {L : Type 0} → Telling (NotingLine L) → (a b : Option (List ℕ)) → (old now : AtRecorder L) → (e f : Option (List ℕ)) → (number : ℕ) → Told → Type 0
-OnSoFar told a b old now e f number so = (before : SoFar told a b old now e f number so) × MayGoOn before.taken
+abbrev pub OnSoFar : {L : Type 0} → (stations : List Pair) → Telling (NotingLine L) → (a b : Option (List ℕ)) → (old now : AtRecorder L) → (e f : Option (List ℕ)) → (number : ℕ) → Told → Type 0
+OnSoFar stations told a b old now e f number so = (before : SoFar stations told a b old now e f number so) × MayGoOn before.taken
 
-pub none_played : {L : Type 0} (told : Telling (NotingLine L)) (a : Option (List ℕ)) (old : AtRecorder L) (e : Option (List ℕ)) (so : Told)
-    → so ≡ record { status = 0; written = Ok tt } → OnSoFar told a a old old e e 1 so
-none_played told a old e so none = (
+pub none_played : {L : Type 0} (stations : List Pair) (told : Telling (NotingLine L)) (a : Option (List ℕ)) (old : AtRecorder L) (e : Option (List ℕ)) (so : Told)
+    → so ≡ record { status = 0; written = Ok tt } → OnSoFar stations told a a old old e e 1 so
+none_played stations told a old e so none = (
   record {
     taken = [];
     count = refl;
@@ -87,17 +89,17 @@ none_played told a old e so none = (
   tt,
 )
 
-line_more : {L : Type 0} {told : Telling (NotingLine L)} {a b c : Option (List ℕ)} {old now new : AtRecorder L} {e f g : Option (List ℕ)} {number held : ℕ} {so after : Told}
-    {buffer : List ℕ} {came : Came} → SoFar told a b old now e f number so → (holds : HoldsLine b c buffer held)
-    → TakesOne told (record { line = holds.line; came = came }) now new → after.status ≡ max so.status (status_of came)
-    → TellsMore so.written after.written f g (told_of number came) → SoFar told a c old new e g (number + 1) after
-line_more {L} {told} {a} {b} {c} {old} {now} {new} {e} {f} {g} {number} {held} {so} {after} {buffer} {came} before holds takes status tells =
+line_more : {L : Type 0} {stations : List Pair} {told : Telling (NotingLine L)} {a b c : Option (List ℕ)} {old now new : AtRecorder L} {e f g : Option (List ℕ)} {number held : ℕ} {so after : Told}
+    {buffer : List ℕ} {came : Came} → SoFar stations told a b old now e f number so → (holds : HoldsLine b c buffer held)
+    → TakesOne stations told (record { line = holds.line; came = came }) now new → after.status ≡ max so.status (status_of came)
+    → TellsMore so.written after.written f g (told_of number came) → SoFar stations told a c old new e g (number + 1) after
+line_more {L} {stations} {told} {a} {b} {c} {old} {now} {new} {e} {f} {g} {number} {held} {so} {after} {buffer} {came} before holds takes status tells =
     let t : Taken = record { line = holds.line; came = came } in
     let longer = length-append before.taken (t ∷ []) in
     record {
       taken = before.taken ++ t ∷ [];
       count = omega (arith, before.count, longer);
-      takes = takes-push told before.taken t old now new before.takes takes;
+      takes = takes-push stations told before.taken t old now new before.takes takes;
       read = subst (ReadsLines a c) (sym (lines_in-push before.taken t)) (reads-more a b c (lines_in before.taken) holds.line before.read holds.one holds.read);
       status = status ∙ ap (λ (s : ℕ). max s (status_of came)) before.status ∙ sym (worst_of-push before.taken t);
       tells = subst (Writes after.written e g) (sym (told_from-push 1 before.taken t))
@@ -106,10 +108,10 @@ line_more {L} {told} {a} {b} {c} {old} {now} {new} {e} {f} {g} {number} {held} {
     }
 
 -- one line more was taken, after which a further one may be
-pub line_played : {L : Type 0} {told : Telling (NotingLine L)} {a b c : Option (List ℕ)} {old now new : AtRecorder L} {e f g : Option (List ℕ)} {number held : ℕ} {so after : Told}
-    {buffer : List ℕ} {came : Came} → OnSoFar told a b old now e f number so → (holds : HoldsLine b c buffer held)
-    → TakesOne told (record { line = holds.line; came = came }) now new → after.status ≡ max so.status (status_of came)
-    → TellsMore so.written after.written f g (told_of number came) → is_over came.line ≡ false → OnSoFar told a c old new e g (number + 1) after
+pub line_played : {L : Type 0} {stations : List Pair} {told : Telling (NotingLine L)} {a b c : Option (List ℕ)} {old now new : AtRecorder L} {e f g : Option (List ℕ)} {number held : ℕ} {so after : Told}
+    {buffer : List ℕ} {came : Came} → OnSoFar stations told a b old now e f number so → (holds : HoldsLine b c buffer held)
+    → TakesOne stations told (record { line = holds.line; came = came }) now new → after.status ≡ max so.status (status_of came)
+    → TellsMore so.written after.written f g (told_of number came) → is_over came.line ≡ false → OnSoFar stations told a c old new e g (number + 1) after
 unfolding line_more
 line_played {came = came} before holds takes status tells on =
     (line_more before.0 holds takes status tells, goes-push before.0.taken (record { line = holds.line; came = came }) before.1 on)
@@ -117,8 +119,8 @@ line_played {came = came} before holds takes status tells on =
 -- ---- where it stops
 
 -- there is no further line
-pub all_played : {L : Type 0} {told : Telling (NotingLine L)} {a b : Option (List ℕ)} {old now : AtRecorder L} {e f : Option (List ℕ)} {number : ℕ} {so : Told}
-    → OnSoFar told a b old now e f number so → IsAtEnd b → PlaysLines told a old now e f (record { told = so; stop = stops.End })
+pub all_played : {L : Type 0} {stations : List Pair} {told : Telling (NotingLine L)} {a b : Option (List ℕ)} {old now : AtRecorder L} {e f : Option (List ℕ)} {number : ℕ} {so : Told}
+    → OnSoFar stations told a b old now e f number so → IsAtEnd b → PlaysLines stations told a old now e f (record { told = so; stop = stops.End })
 all_played {a = a} {b = b} before end = record {
   taken = before.0.taken;
   takes = before.0.takes;
@@ -128,8 +130,8 @@ all_played {a = a} {b = b} before end = record {
 }
 
 -- a read failed
-pub unread_played : {L : Type 0} {told : Telling (NotingLine L)} {a b : Option (List ℕ)} {old now : AtRecorder L} {e f : Option (List ℕ)} {number : ℕ} {so : Told}
-    → OnSoFar told a b old now e f number so → PlaysLines told a old now e f (record { told = so; stop = stops.Unread })
+pub unread_played : {L : Type 0} {stations : List Pair} {told : Telling (NotingLine L)} {a b : Option (List ℕ)} {old now : AtRecorder L} {e f : Option (List ℕ)} {number : ℕ} {so : Told}
+    → OnSoFar stations told a b old now e f number so → PlaysLines stations told a old now e f (record { told = so; stop = stops.Unread })
 unread_played {a = a} {b = b} before = record {
   taken = before.0.taken;
   takes = before.0.takes;
@@ -139,11 +141,11 @@ unread_played {a = a} {b = b} before = record {
 }
 
 -- at the last line an entry was not recorded
-pub over_played : {L : Type 0} {told : Telling (NotingLine L)} {a b c : Option (List ℕ)} {old now new : AtRecorder L} {e f g : Option (List ℕ)} {number held : ℕ} {so after : Told}
-    {buffer : List ℕ} {came : Came} → OnSoFar told a b old now e f number so → (holds : HoldsLine b c buffer held)
-    → TakesOne told (record { line = holds.line; came = came }) now new → after.status ≡ max so.status (status_of came)
+pub over_played : {L : Type 0} {stations : List Pair} {told : Telling (NotingLine L)} {a b c : Option (List ℕ)} {old now new : AtRecorder L} {e f g : Option (List ℕ)} {number held : ℕ} {so after : Told}
+    {buffer : List ℕ} {came : Came} → OnSoFar stations told a b old now e f number so → (holds : HoldsLine b c buffer held)
+    → TakesOne stations told (record { line = holds.line; came = came }) now new → after.status ≡ max so.status (status_of came)
     → TellsMore so.written after.written f g (told_of number came) → is_over came.line ≡ true
-    → PlaysLines told a old new e g (record { told = after; stop = stops.Unrecorded })
+    → PlaysLines stations told a old new e g (record { told = after; stop = stops.Unrecorded })
 unfolding line_more
 over_played {a = a} {c = c} {came = came} before holds takes status tells over =
     let whole = line_more before.0 holds takes status tells in
@@ -156,15 +158,17 @@ over_played {a = a} {c = c} {came = came} before holds takes status tells over =
     }
 
 -- what was taken is the line, of which as much was held as may be
-pub takes_held : {L : Type 0} {told : Telling (NotingLine L)} {b c : Option (List ℕ)} {old new : AtRecorder L} {buffer : List ℕ} {held : ℕ} {came : Came}
+pub takes_held : {L : Type 0} {stations : List Pair} {told : Telling (NotingLine L)} {b c : Option (List ℕ)} {old new : AtRecorder L} {buffer : List ℕ} {held : ℕ} {came : Came}
     → length buffer ≡ LONGEST_LINE + 1 → (holds : HoldsLine b c buffer held)
     → TakesLine told (said_by (take held buffer)) old.post old.recorder new.post new.recorder came.line
     → came.silenced ≡ silenced_by old.post.printer.fault new.post.printer.fault → came.site ≡ old.post.address.site → came.application ≡ old.post.address.application
-    → Reasons (take held buffer) came.line.done came.reason → TakesOne told (record { line = holds.line; came = came }) old new
-takes_held {told = told} {old = old} {new = new} {came = came} size holds takes silenced site application reason = record {
+    → Reasons (take held buffer) came.line.done came.reason → WarnsOf stations (said_by (take held buffer)) came.line.done came.nobody
+    → TakesOne stations told (record { line = holds.line; came = came }) old new
+takes_held {stations = stations} {told = told} {old = old} {new = new} {came = came} size holds takes silenced site application reason nobody = record {
   takes = subst (λ (said : Option Command). TakesLine told said old.post old.recorder new.post new.recorder came.line) (said_by-held size holds) takes;
   silenced = silenced;
   site = site;
   application = application;
   reason = reasons_held came.line.done came.reason size holds reason;
+  nobody = subst (λ (said : Option Command). WarnsOf stations said came.line.done came.nobody) (said_by-held size holds) nobody;
 }

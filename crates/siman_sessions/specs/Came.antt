@@ -1,5 +1,5 @@
 -- What came of a line of text in a session, and how it is told (profile).
-use Rattle.std.specs.Prelude.{ℕ, Bool, true, false, ◌||◌, List, [], ◌++◌, codes, decimal, Option, Some, Result, Ok, Err, if◌then◌else◌}
+use Rattle.std.specs.Prelude.{ℕ, Bool, true, false, ◌||◌, List, [], ◌++◌, codes, decimal, Option, Some, None, Result, Ok, Err, if◌then◌else◌}
 use Rattle.siman_manager.specs.declared.fault.OrderFault.TheVariants as orders
 use Rattle.siman_stations.specs.declared.station_fault.StationFault.{StationFault}
 use Rattle.siman_stations.specs.declared.station_fault.StationFault.TheVariants as stations
@@ -12,6 +12,7 @@ use Rattle.siman_posts.specs.declared.printing.PrintFault.TheVariants as prints
 use Rattle.siman_posts.specs.Posts.{is_undone, is_unremembered, is_over}
 use Rattle.siman_sessions.specs.declared.came.Came.{Came}
 use Rattle.siman_sessions.specs.Explanation.{bad_text, alone_text, station_text, lost_text}
+use Rattle.siman_sessions.specs.Receiver.{nobody_text}
 
 -- What failed.
 
@@ -95,6 +96,17 @@ wants_text memory failed = memory_text memory ++ output_text failed
 abbrev pub undone_text : (number : ℕ) → Came → List ℕ
 undone_text number came = refused_text number came came.line.done ++ line_text number (is_lost came) came.trouble
 
--- WHAT IS TOLD OF THE LINE OF A NUMBER: why it was not done, and that a call of the line of the station failed, each with a second line that explains it; that memory ran out; that an entry was not recorded or not printed
+abbrev pub failed_text : (number : ℕ) → Came → List ℕ
+failed_text number came = undone_text number came ++ wants_text (wants_memory came) (is_unwritten came)
+
+-- warning: line N: the script has no station S:A, so nobody gets this order
+abbrev pub warned_line : (number site application : ℕ) → List ℕ
+warned_line number site application = codes "warning: " ++ (at_line number ++ nobody_text site application)
+
+abbrev pub warning_text : (number : ℕ) → (nobody : Option (ℕ × ℕ)) → List ℕ
+warning_text number None = []
+warning_text number (Some (site, application)) = warned_line number site application
+
+-- WHAT IS TOLD OF THE LINE OF A NUMBER: why it was not done, and that a call of the line of the station failed, each with a second line that explains it; that memory ran out; that an entry was not recorded or not printed; and a warning of an order that nobody gets
 abbrev pub told_of : (number : ℕ) → Came → List ℕ
-told_of number came = undone_text number came ++ wants_text (wants_memory came) (is_unwritten came)
+told_of number came = failed_text number came ++ warning_text number came.nobody

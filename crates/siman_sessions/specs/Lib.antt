@@ -1,6 +1,7 @@
 pub mod Reading
 pub mod Reason
 pub mod Explanation
+pub mod Receiver
 pub mod Came
 pub mod Told
 pub mod Sessions

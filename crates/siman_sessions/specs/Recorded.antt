@@ -2,6 +2,7 @@
 use Rattle.std.specs.Prelude.{◌≡◌, ◌≤◌, ◌⊎◌, ℕ, List, ◌++◌, length, Option, Some, None, Ok, Err}
 use Rattle.std.specs.Io.KnownBytes.{Appends}
 use Rattle.byte_files.specs.Writing.{WritesPart}
+use Rattle.dis_records.specs.Address.{Pair}
 use Rattle.exercise_model.specs.declared.form.Form.TheVariants.{Open}
 use Rattle.exercise_model.specs.Entry.{Entry}
 use Rattle.exercise_model.specs.History.{past, log_at}
@@ -34,11 +35,11 @@ pub record IsReady {L : Type 0} (ready : Ready L) : Type 0 where
   pub fresh : IsFresh 0 ready.post.station.node (open_setting ready.head) (Some (sent_through ready.post.station.line))
 
 -- A POST IS PLAYED over a recorder; what its file has is what the recorder wrote
-abbrev pub RecordsBegun : {L : Type 0} → (strangers : L → ℕ) → (known : Option (List ℕ)) → Post L → WriterState → (out out_after errors errors_after : Option (List ℕ))
+abbrev pub RecordsBegun : {L : Type 0} → (stations : List Pair) → (strangers : L → ℕ) → (known : Option (List ℕ)) → Post L → WriterState → (out out_after errors errors_after : Option (List ℕ))
     → (file : Option (List ℕ)) → Told → Type 0
-RecordsBegun {L} strangers known post w out out_after errors errors_after file told =
+RecordsBegun {L} stations strangers known post w out out_after errors errors_after file told =
     (after : AtPost L) × (after.out ≡ out_after) × (file ≡ after.recorder.contents)
-    × (let before : AtPost L = record { post = post; recorder = w; out = out } in Plays strangers known before after errors errors_after told)
+    × (let before : AtPost L = record { post = post; recorder = w; out = out } in Plays stations strangers known before after errors errors_after told)
 
 -- the head was not written whole: that is told, and no line is read
 pub record RecordsNone (w : SettingData) (file file_after out out_after errors errors_after : Option (List ℕ)) (told : Told) : Type 0 where
@@ -52,7 +53,7 @@ abbrev pub Records : {L : Type 0} → (strangers : L → ℕ) → (known : Optio
     → Told → Type 0
 Records strangers known ready file file_after out out_after errors errors_after told =
     RecordsNone (open_setting ready.head) file file_after out out_after errors errors_after told
-    ⊎ ((w : WriterState) × Starts file (open_setting ready.head) w × RecordsBegun strangers known ready.post w out out_after errors errors_after file_after told)
+    ⊎ ((w : WriterState) × Starts file (open_setting ready.head) w × RecordsBegun ready.stations.items strangers known ready.post w out out_after errors errors_after file_after told)
 
 -- WHAT STANDS IN THE FILE: the text of a recording of some entries and at most one more, or a beginning of it; with status 0 that of these entries, whole. And what the station recorded is explained: the entries of each beginning are a run in the order of the file in which no datagram that was received names the station as its originator, but what it had sent before, where no site and application used one request identifier for two orders.
 pub record IsLeft (w : SettingData) (outfit : Outfit) (status : ℕ) (file file_after : Option (List ℕ)) : Type 0 where

@@ -1,5 +1,5 @@
 -- The station of a script that a session plays (profile).
-use Rattle.std.specs.Prelude.{◌≡◌, ⊤, ℕ, false, List, [], ◌∷◌, slice_get, Option, Some, None, Result, Ok, Err}
+use Rattle.std.specs.Prelude.{◌≡◌, ⊤, ℕ, false, List, [], ◌∷◌, slice_get, map, Option, Some, None, Result, Ok, Err}
 use Rattle.std.specs.Option.{option_and_then}
 use Rattle.dis_records.specs.Address.{Pair}
 use Rattle.exercise_model.specs.declared.form.Form.TheVariants.{First}
@@ -17,22 +17,27 @@ use Rattle.siman_sessions.specs.declared.scripted.SetUpFault.TheVariants as faul
 abbrev pub station_at : Pair → List WorldStationData → Option WorldStationData
 station_at a ss = option_and_then (slice_get ss) (index_of a ss)
 
--- A STATION IS SET UP by itself: a recording of it has no entries, and its halves are as they are begun
-pub record IsSetUp (exercise : ℕ) (s : WorldStationData) (set_up : SetUp) : Type 0 where
+-- the addresses of stations
+abbrev pub addresses_of : List WorldStationData → List Pair
+addresses_of ss = map (λ s. s.station.address) ss
+
+-- A STATION IS SET UP by itself: a recording of it has no entries, and its halves are as they are begun; with it go the addresses of all stations of its script
+pub record IsSetUp (exercise : ℕ) (addresses : List Pair) (s : WorldStationData) (set_up : SetUp) : Type 0 where
   pub head : set_up.head ≡ opened (record { form = First; exercise = exercise; stations = s.station ∷ [] })
   pub node : IsNewNode exercise s set_up.node
+  pub stations : set_up.stations.items ≡ addresses
 
 -- or it is none that a world can have, or memory ran out
-abbrev pub SetsUpOne : (exercise : ℕ) → WorldStationData → Result SetUp SetUpFault → Type 0
-SetsUpOne exercise s (Ok set_up) = IsSetUp exercise s set_up
-SetsUpOne exercise s (Err faults.NotInSetup) = ⊥
-SetsUpOne exercise s (Err faults.Stations) = is_world_station s ≡ false
-SetsUpOne exercise s (Err faults.Memory) = ⊤
+abbrev pub SetsUpOne : (exercise : ℕ) → (addresses : List Pair) → WorldStationData → Result SetUp SetUpFault → Type 0
+SetsUpOne exercise addresses s (Ok set_up) = IsSetUp exercise addresses s set_up
+SetsUpOne exercise addresses s (Err faults.NotInSetup) = ⊥
+SetsUpOne exercise addresses s (Err faults.Stations) = is_world_station s ≡ false
+SetsUpOne exercise addresses s (Err faults.Memory) = ⊤
 
-abbrev pub SetsUpFound : (exercise : ℕ) → Option WorldStationData → Result SetUp SetUpFault → Type 0
-SetsUpFound exercise None result = result ≡ Err faults.NotInSetup
-SetsUpFound exercise (Some s) result = SetsUpOne exercise s result
+abbrev pub SetsUpFound : (exercise : ℕ) → (addresses : List Pair) → Option WorldStationData → Result SetUp SetUpFault → Type 0
+SetsUpFound exercise addresses None result = result ≡ Err faults.NotInSetup
+SetsUpFound exercise addresses (Some s) result = SetsUpOne exercise addresses s result
 
 -- THE STATION OF A SCRIPT AT AN ADDRESS is set up, if the script has it
 abbrev pub SetsUp : ScriptData → (address : Pair) → Result SetUp SetUpFault → Type 0
-SetsUp script address result = SetsUpFound script.exercise (station_at address script.stations) result
+SetsUp script address result = SetsUpFound script.exercise (addresses_of script.stations) (station_at address script.stations) result

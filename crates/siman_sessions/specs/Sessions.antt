@@ -2,6 +2,7 @@
 use Rattle.std.specs.Prelude.{◌≡◌, ℕ, ◌+◌, max, true, false, List, [], ◌∷◌, ◌++◌, map, Option, Some, None}
 use Rattle.std.specs.List.{AllByRecursion}
 use Rattle.byte_files.specs.Writing.{Writes}
+use Rattle.dis_records.specs.Address.{Pair}
 use Rattle.exercise_recording.specs.Writer.{WriterState}
 use Rattle.siman_lines.specs.AtLines.{Telling}
 use Rattle.siman_posts.specs.declared.noting.NotingLine.{NotingLine}
@@ -19,6 +20,7 @@ use Rattle.siman_sessions.specs.Came.{status_of, told_of}
 use Rattle.siman_sessions.specs.Closing.{Closes}
 use Rattle.siman_sessions.specs.Reading.{said_by, AreLines, AreFirstLines}
 use Rattle.siman_sessions.specs.Reason.{Reasons}
+use Rattle.siman_sessions.specs.Receiver.{WarnsOf}
 use Rattle.siman_sessions.specs.Told.{TellsMore, closed_status, closed_text, unread_text}
 use Rattle.std.specs.Prelude.{Result}
 
@@ -39,18 +41,19 @@ pub record Taken : Type 0 where
   pub line : List ℕ
   pub came : Came
 
--- A LINE IS TAKEN, as what it says, and of a bad one it is told why
-pub record TakesOne {L : Type 0} (told : Telling (NotingLine L)) (t : Taken) (old new : AtRecorder L) : Type 0 where
+-- A LINE IS TAKEN, as what it says; of a bad one it is told why, and of an order that none of the stations of the script gets, for whom it is
+pub record TakesOne {L : Type 0} (stations : List Pair) (told : Telling (NotingLine L)) (t : Taken) (old new : AtRecorder L) : Type 0 where
   pub takes : TakesLine told (said_by t.line) old.post old.recorder new.post new.recorder t.came.line
   pub silenced : t.came.silenced ≡ silenced_by old.post.printer.fault new.post.printer.fault
   pub site : t.came.site ≡ old.post.address.site
   pub application : t.came.application ≡ old.post.address.application
   pub reason : Reasons t.line t.came.line.done t.came.reason
+  pub nobody : WarnsOf stations (said_by t.line) t.came.line.done t.came.nobody
 
 -- LINES ARE TAKEN, one after the other
-abbrev pub TakesAll : {L : Type 0} → Telling (NotingLine L) → List Taken → (old new : AtRecorder L) → Type 0
-TakesAll told [] old new = new ≡ old
-TakesAll {L} told (t ∷ ts) old new = (mid : AtRecorder L) × TakesOne told t old mid × TakesAll told ts mid new
+abbrev pub TakesAll : {L : Type 0} → (stations : List Pair) → Telling (NotingLine L) → List Taken → (old new : AtRecorder L) → Type 0
+TakesAll stations told [] old new = new ≡ old
+TakesAll {L} stations told (t ∷ ts) old new = (mid : AtRecorder L) × TakesOne stations told t old mid × TakesAll stations told ts mid new
 
 abbrev pub lines_in : List Taken → List (List ℕ)
 lines_in ts = map (λ t. t.line) ts
@@ -82,10 +85,10 @@ Stops known stops.Unread ts = MayGoOn ts × AreFirstLines known (lines_in ts)
 Stops known stops.Unrecorded ts = IsOver ts × AreFirstLines known (lines_in ts)
 
 -- THE LINES OF A TEXT ARE PLAYED: taken up to where it stops, and told, with the worst status of them
-pub record PlaysLines {L : Type 0} (told : Telling (NotingLine L)) (known : Option (List ℕ)) (old new : AtRecorder L) (errors errors_after : Option (List ℕ))
-    (played : Played) : Type 0 where
+pub record PlaysLines {L : Type 0} (stations : List Pair) (told : Telling (NotingLine L)) (known : Option (List ℕ)) (old new : AtRecorder L)
+    (errors errors_after : Option (List ℕ)) (played : Played) : Type 0 where
   pub taken : List Taken
-  pub takes : TakesAll told taken old new
+  pub takes : TakesAll stations told taken old new
   pub stops : Stops known played.stop taken
   pub status : played.told.status ≡ worst_of taken
   pub tells : Writes played.told.written errors errors_after (told_from 1 taken)
@@ -130,8 +133,8 @@ EndsSession strangers post stops.Unread w v out out_after before after errors er
 EndsSession strangers post stops.Unrecorded w v out out_after before after errors errors_after =
     (v ≡ w) × (out_after ≡ out) × (after ≡ before) × (errors_after ≡ errors)
 
--- A POST IS PLAYED by the lines of a text, to the end
-pub record Plays {L : Type 0} (strangers : L → ℕ) (known : Option (List ℕ)) (old new : AtPost L) (errors errors_after : Option (List ℕ)) (told : Told) : Type 0 where
+-- A POST IS PLAYED by the lines of a text, to the end, among these stations
+pub record Plays {L : Type 0} (stations : List Pair) (strangers : L → ℕ) (known : Option (List ℕ)) (old new : AtPost L) (errors errors_after : Option (List ℕ)) (told : Told) : Type 0 where
   -- the post after the lines is the post at the end; its recorder, what is printed, and what is told
   pub recorder : WriterState
   pub out : Option (List ℕ)
@@ -139,6 +142,6 @@ pub record Plays {L : Type 0} (strangers : L → ℕ) (known : Option (List ℕ)
   pub played : Played
   pub lines : let before : AtRecorder L = record { post = old.post; recorder = old.recorder } in
       let after : AtRecorder L = record { post = new.post; recorder = recorder } in
-      PlaysLines (telling strangers) known before after errors told_so_far played
+      PlaysLines stations (telling strangers) known before after errors told_so_far played
   pub goes : let after : AtPost L = record { post = new.post; recorder = recorder; out = out } in GoesOn (going old) (going after)
   pub ends : EndsSession strangers new.post played.stop recorder new.recorder out new.out played.told told told_so_far errors_after

@@ -3,10 +3,12 @@
 ghost use Rattle.std.specs.Prelude.{◌≡◌, ◌++◌, decimal};
 ghost use Rattle.byte_files.specs.Writing.{Writes};
 ghost use Rattle.siman_sessions.specs.Explanation.{second_line};
-ghost use Rattle.siman_sessions.specs.Came.{station_fault_name, at_line, named, told_line, why_text, refused_text, line_text, memory_text, output_text, wants_text, undone_text, told_of, is_lost, wants_memory, is_unwritten, status_of};
+ghost use Rattle.siman_sessions.specs.Receiver.{nobody_text};
+ghost use Rattle.siman_sessions.specs.Came.{station_fault_name, at_line, named, told_line, why_text, refused_text, line_text, memory_text, output_text, wants_text, undone_text, failed_text, warned_line, warning_text, told_of, is_lost, wants_memory, is_unwritten, status_of};
 
 use crate::explanation::{Explanation, of_bad, of_lost, of_other, of_station, put_second};
 use crate::reason::BadReason;
+use crate::receiver::put_nobody;
 use byte_files::{WriteFailed, put, put_both};
 use itoa::Buffer;
 use siman_lines::LineTrouble;
@@ -30,6 +32,9 @@ pub struct Came {
     pub reason: Option<BadReason>,
     /// The last call of the line of the station that failed up to here, if one did and that is known.
     pub trouble: Option<LineTrouble>,
+    /// The site and the application that its order is for, if it is known that none of the stations of
+    /// the script gets it.
+    pub nobody: Option<(u16, u16)>,
 }
 
 impl Came {
@@ -211,6 +216,54 @@ fn tell_undone<E: Write>(errors: &mut E, number: u64, came: Came) -> Result<(), 
 }
 
 /// Tells what of a line of text was not done, and what failed.
+fn tell_failed<E: Write>(errors: &mut E, number: u64, came: Came) -> Result<(), WriteFailed>
+    ensures { Writes result (E.contents errors.old) (E.contents errors.new) (failed_text number came) }
+{
+    tell_undone(errors, number, came)?;
+    tell_wants(errors, came.wants_memory(), came.is_unwritten())
+}
+
+/// Writes at which line an order is that nobody gets, and for whom.
+fn put_nobody_at<E: Write>(
+    errors: &mut E,
+    number: u64,
+    site: u16,
+    application: u16,
+) -> Result<(), WriteFailed>
+    ensures { Writes result (E.contents errors.old) (E.contents errors.new) (at_line number ++ nobody_text site application) }
+{
+    put_number(errors, number)?;
+    put_nobody(errors, site, application)
+}
+
+/// Writes the warning of an order that nobody gets.
+fn put_warning<E: Write>(
+    errors: &mut E,
+    number: u64,
+    site: u16,
+    application: u16,
+) -> Result<(), WriteFailed>
+    ensures { Writes result (E.contents errors.old) (E.contents errors.new) (warned_line number site application) }
+{
+    put(errors, b"warning: ")?;
+    put_nobody_at(errors, number, site, application)
+}
+
+/// Warns of the order of a line of text, if it is known that nobody gets it.
+fn tell_warning<E: Write>(
+    errors: &mut E,
+    number: u64,
+    nobody: Option<(u16, u16)>,
+) -> Result<(), WriteFailed>
+    ensures { Writes result (E.contents errors.old) (E.contents errors.new) (warning_text number nobody) }
+{
+    match nobody {
+        Some((site, application)) => put_warning(errors, number, site, application),
+        None => Ok(()),
+    }
+}
+
+/// Tells what of a line of text was not done, what failed, and what there is to warn of.
 pub(crate) fn tell_came<E: Write>(
     errors: &mut E,
     number: u64,
@@ -218,6 +271,6 @@ pub(crate) fn tell_came<E: Write>(
 ) -> Result<(), WriteFailed>
     ensures { Writes result (E.contents errors.old) (E.contents errors.new) (told_of number came) }
 {
-    tell_undone(errors, number, came)?;
-    tell_wants(errors, came.wants_memory(), came.is_unwritten())
+    tell_failed(errors, number, came)?;
+    tell_warning(errors, number, came.nobody)
 }

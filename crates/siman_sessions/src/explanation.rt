@@ -84,7 +84,11 @@ pub(crate) fn of_lost(trouble: Option<LineTrouble>) -> Option<Explanation>
 }
 
 /// Writes a number behind a text.
-fn put_behind<E: Write>(errors: &mut E, text: &str, number: u16) -> Result<(), WriteFailed>
+pub(crate) fn put_behind<E: Write>(
+    errors: &mut E,
+    text: &str,
+    number: u16,
+) -> Result<(), WriteFailed>
     ensures { Writes result (E.contents errors.old) (E.contents errors.new) (text.now ++ decimal number) }
 {
     let mut buffer = Buffer::new();

@@ -6,7 +6,8 @@
 //! above hands in the post, its recorder, the text and both writers.
 //!
 //! The layers above rest on its contract: which lines were taken, what came of each, what was told, and
-//! the status (`specs/Sessions.antt`, `Came.antt`, `Explanation.antt`, `Reason.antt`, `Reading.antt`).
+//! the status (`specs/Sessions.antt`, `Came.antt`, `Explanation.antt`, `Reason.antt`, `Receiver.antt`,
+//! `Reading.antt`).
 #![tactic(auto)]
 
 mod came;
@@ -15,6 +16,7 @@ mod explanation;
 mod playing;
 mod reading;
 mod reason;
+mod receiver;
 mod recorded;
 mod scripted;
 mod session;

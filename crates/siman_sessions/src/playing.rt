@@ -7,12 +7,15 @@ ghost use Rattle.siman_posts.specs.Posts.{TakesLine};
 ghost use Rattle.siman_sessions.specs.declared.reading.TheConstants.{LONGEST_LINE};
 ghost use Rattle.siman_sessions.specs.Reading.{said_by};
 ghost use Rattle.siman_sessions.specs.Reason.{Reasons};
+ghost use Rattle.siman_sessions.specs.Receiver.{WarnsOf};
 ghost use Rattle.siman_sessions.specs.Sessions.{silenced_by, AtRecorder, PlaysLines};
 
 use crate::came::Came;
 use crate::reading::{LONGEST_LINE, handed, read_line};
 use crate::reason::reason_of;
+use crate::receiver::warned_of;
 use crate::told::Told;
+use dis_records::Address;
 use exercise_recording::RecordingWriter;
 use siman_lines::Line;
 use siman_posts::{Post, PrintFault};
@@ -44,9 +47,10 @@ fn silenced_by(before: Option<PrintFault>, after: Option<PrintFault>) -> Option<
     if before.is_some() { None } else { after }
 }
 
-/// Takes a line, of which so much is held.
+/// Takes a line, of which so much is held, in a session of a script with these stations.
 fn take_held<L: Line + Drop, W: Write, O: Write>(
     alloc: Global,
+    stations: &[Address],
     post: &mut Post<L>,
     recorder: &mut RecordingWriter<'_, W>,
     out: &mut O,
@@ -57,6 +61,7 @@ fn take_held<L: Line + Drop, W: Write, O: Write>(
     ensures site { result.site ≡ post.old.address.site }
     ensures application { result.application ≡ post.old.address.application }
     ensures reason { Reasons held.now result.line.done result.reason }
+    ensures nobody { WarnsOf stations.now (said_by held.now) result.line.done result.nobody }
     ensures goes { let old : PostState L = record { station = post.old.station; recorder = recorder.old; exercise = post.old.printer.exercise; printing = record { out = O.contents out.old; fault = post.old.printer.fault } } in
         let new : PostState L = record { station = post.new.station; recorder = recorder.new; exercise = post.new.printer.exercise; printing = record { out = O.contents out.new; fault = post.new.printer.fault } } in
         GoesOn old new }
@@ -71,13 +76,16 @@ fn take_held<L: Line + Drop, W: Write, O: Write>(
         application: own.application(),
         reason: reason_of(alloc, held, line.done),
         trouble: post.line_trouble(),
+        nobody: warned_of(alloc, stations, held, line.done),
     }
 }
 
 /// Takes the lines that are left of a reader, each of which is held in a buffer while it is taken, and
-/// tells of each what was not done. It ends with the line at which an entry was not recorded.
+/// tells of each what was not done, and of its order if none of the stations of the script gets it. It
+/// ends with the line at which an entry was not recorded.
 pub(crate) fn play_lines<L: Line + Drop, R: Read, W: Write, O: Write, E: Write>(
     alloc: Global,
+    stations: &[Address],
     post: &mut Post<L>,
     recorder: &mut RecordingWriter<'_, W>,
     reader: &mut R,
@@ -88,7 +96,7 @@ pub(crate) fn play_lines<L: Line + Drop, R: Read, W: Write, O: Write, E: Write>(
     requires { length buffer.old ≡ LONGEST_LINE + 1 }
     ensures plays { let old : AtRecorder L = record { post = post.old; recorder = recorder.old } in
         let new : AtRecorder L = record { post = post.new; recorder = recorder.new } in
-        PlaysLines (telling L.strangers) (R.remaining reader.old) old new (E.contents errors.old) (E.contents errors.new) result }
+        PlaysLines stations.now (telling L.strangers) (R.remaining reader.old) old new (E.contents errors.old) (E.contents errors.new) result }
     ensures goes { let old : PostState L = record { station = post.old.station; recorder = recorder.old; exercise = post.old.printer.exercise; printing = record { out = O.contents out.old; fault = post.old.printer.fault } } in
         let new : PostState L = record { station = post.new.station; recorder = recorder.new; exercise = post.new.printer.exercise; printing = record { out = O.contents out.new; fault = post.new.printer.fault } } in
         GoesOn old new }
@@ -110,7 +118,7 @@ pub(crate) fn play_lines<L: Line + Drop, R: Read, W: Write, O: Write, E: Write>(
                 };
             }
         };
-        let came = take_held(alloc, post, recorder, out, &buffer[..held]);
+        let came = take_held(alloc, stations, post, recorder, out, &buffer[..held]);
         told = told.and_came(errors, number, came);
         if came.line.is_over() {
             return Played {

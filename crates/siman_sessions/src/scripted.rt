@@ -1,9 +1,9 @@
 //! The station of a script that a session plays.
 
-ghost use Rattle.std.specs.Prelude.{◌≡◌, ◌<◌, length, IfSome};
+ghost use Rattle.std.specs.Prelude.{◌≡◌, ◌<◌, length, IfSome, IfOk};
 ghost use Rattle.siman_scripts.specs.Draft.{is_at, index_of};
 ghost use Rattle.siman_sessions.specs.declared.scripted.SetUpFault.TheVariants.{Memory};
-ghost use Rattle.siman_sessions.specs.Scripted.{station_at, SetsUpOne, SetsUp};
+ghost use Rattle.siman_sessions.specs.Scripted.{station_at, addresses_of, SetsUpOne, SetsUp};
 
 use dis_records::Address;
 use exercise_model::Recording;
@@ -19,6 +19,8 @@ pub struct SetUp {
     pub head: Recording,
     /// Its halves.
     pub node: Node,
+    /// The addresses of all stations of the script.
+    pub stations: Vec<Address>,
 }
 
 /// Why a station of a script was not set up.
@@ -82,9 +84,25 @@ fn of_world(fault: WorldFault) -> SetUpFault
     }
 }
 
-/// A station by itself, as it is begun.
-fn set_up_one(alloc: Global, exercise: u8, station: WorldStation) -> Result<SetUp, SetUpFault>
-    ensures { SetsUpOne exercise station result }
+/// The addresses of stations.
+fn addresses_of(alloc: Global, stations: &[WorldStation]) -> Result<Vec<Address>, AllocError>
+    ensures { IfOk result (λ addresses. addresses.items ≡ addresses_of stations.now) }
+{
+    let mut addresses = Vec::new(alloc);
+    for station in stations {
+        addresses.push(station.station.address())?;
+    }
+    Ok(addresses)
+}
+
+/// A station by itself, as it is begun, with the addresses of all stations of its script.
+fn set_up_one(
+    alloc: Global,
+    exercise: u8,
+    addresses: Vec<Address>,
+    station: WorldStation,
+) -> Result<SetUp, SetUpFault>
+    ensures { SetsUpOne exercise addresses.items station result }
 {
     let mut stations = Vec::new(alloc);
     stations.push(station)?;
@@ -99,6 +117,7 @@ fn set_up_one(alloc: Global, exercise: u8, station: WorldStation) -> Result<SetU
         Some(node) => Ok(SetUp {
             head: recording,
             node,
+            stations: addresses,
         }),
         None => unreachable!(),
     }
@@ -114,8 +133,9 @@ pub fn set_up(alloc: Global, script: Script, address: Address) -> Result<SetUp, 
         stations,
         ..
     } = script;
+    let addresses = addresses_of(alloc, &stations);
     match station_at(stations, address) {
-        Some(station) => set_up_one(alloc, exercise, station),
+        Some(station) => set_up_one(alloc, exercise, addresses?, station),
         None => Err(SetUpFault::NotInSetup),
     }
 }

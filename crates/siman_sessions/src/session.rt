@@ -9,6 +9,7 @@ use crate::closing::close;
 use crate::playing::{Played, Stop, play_lines};
 use crate::reading::LONGEST_LINE;
 use crate::told::Told;
+use dis_records::Address;
 use exercise_recording::RecordingWriter;
 use siman_lines::Line;
 use siman_posts::Post;
@@ -56,7 +57,8 @@ fn end_session<L: Line + Drop, W: Write, O: Write, E: Write>(
 /// 65,537 bytes, and taken ([`Post::take_line`]); a line of more than 65,536 bytes is one of no form. A
 /// line that was not done is told with its number, from 1, and so is one at which a send or a receive
 /// failed, each with a second line that explains it; want of memory is told, and that an entry was not
-/// printed. After all these it goes on. Where an entry was not recorded it ends at once: that is told,
+/// printed. Behind these an order is warned of that none of these stations gets, the stations of the
+/// script. After all these it goes on. Where an entry was not recorded it ends at once: that is told,
 /// and no further line is read.
 ///
 /// At the end of the text the recording is ended, and its counts are printed:
@@ -66,6 +68,7 @@ fn end_session<L: Line + Drop, W: Write, O: Write, E: Write>(
 /// else 0.
 pub fn play<L: Line + Drop, R: Read, W: Write, O: Write, E: Write>(
     alloc: Global,
+    stations: &[Address],
     post: &mut Post<L>,
     recorder: &mut RecordingWriter<'_, W>,
     reader: &mut R,
@@ -76,8 +79,8 @@ pub fn play<L: Line + Drop, R: Read, W: Write, O: Write, E: Write>(
     requires { length buffer.old ≡ LONGEST_LINE + 1 }
     ensures { let old : AtPost L = record { post = post.old; recorder = recorder.old; out = O.contents out.old } in
         let new : AtPost L = record { post = post.new; recorder = recorder.new; out = O.contents out.new } in
-        Plays L.strangers (R.remaining reader.old) old new (E.contents errors.old) (E.contents errors.new) result }
+        Plays stations.now L.strangers (R.remaining reader.old) old new (E.contents errors.old) (E.contents errors.new) result }
 {
-    let played = play_lines(alloc, post, recorder, reader, buffer, out, errors);
+    let played = play_lines(alloc, stations, post, recorder, reader, buffer, out, errors);
     end_session(alloc, post, recorder, played, out, errors)
 }

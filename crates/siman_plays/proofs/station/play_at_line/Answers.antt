@@ -13,7 +13,7 @@ create_played-requires-clause-ready g c =
 
 pub returns-in-Ok : goal.returns-in-Ok
 returns-in-Ok g c =
-    let did = c.create_played.ensures in (did.0, did.1, did.2, inr (c.in-Ok.ready, c.in-Ok.ensures.head, c.in-Ok.ensures.post, did.3))
+    let did = c.create_played.ensures in (did.0, did.1, did.2, inr (c.in-Ok.ready, c.in-Ok.ensures.head, c.in-Ok.ensures.post, c.in-Ok.ensures.stations, did.3))
 
 pub returns-in-Err : goal.returns-in-Err
 returns-in-Err g c = (

@@ -14,6 +14,6 @@ invariant-loop-number g l =
     let start : PostState g.row.L.Denot = record { station = l.fn.post.station; recorder = l.fn.recorder; exercise = l.fn.post.printer.exercise; printing = record { out = g.O.Write.contents l.fn.out; fault = l.fn.post.printer.fault } } in
     let now : PostState g.row.L.Denot = record { station = l.post.station; recorder = l.recorder; exercise = l.post.printer.exercise; printing = record { out = g.O.Write.contents l.out; fault = l.post.printer.fault } } in
     (length l.buffer ≡ LONGEST_LINE + 1)
-    × OnSoFar (telling g.L.Line.strangers) (g.R.Read.remaining l.fn.reader) (g.R.Read.remaining l.reader) old new (g.E.Write.contents l.fn.errors) (g.E.Write.contents l.errors)
+    × OnSoFar l.fn.stations (telling g.L.Line.strangers) (g.R.Read.remaining l.fn.reader) (g.R.Read.remaining l.reader) old new (g.E.Write.contents l.fn.errors) (g.E.Write.contents l.errors)
     l.number l.told
     × GoesOn start now

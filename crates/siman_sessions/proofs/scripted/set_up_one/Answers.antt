@@ -1,5 +1,5 @@
 -- the halves are those of the only station
-use Rattle.std.proofs.Common.{◌≡◌, List, [], ◌∷◌, ◌++◌, map, ap, ◌∙◌, subst}
+use Rattle.std.proofs.Common.{◌≡◌, List, [], ◌∷◌, ◌++◌, map, refl, ap, ◌∙◌, subst}
 use Rattle.exercise_model.specs.declared.form.Form.TheVariants.{First}
 use Rattle.exercise_model.specs.Recording.{opened}
 use Rattle.siman_scripts.specs.Stations.{WorldStationData}
@@ -18,4 +18,5 @@ returns c =
       node =
           only_node c.args.exercise c.args.station c.in-Ok.beginning.nodes.items c.pop.new.self.items c.in-Some.node
           (subst (λ (ss : List WorldStationData). AreNewNodes c.args.exercise ss c.in-Ok.beginning.nodes.items) alone c.in-Ok.ensures.nodes) c.in-Some.ensures.items;
+      stations = refl;
     }

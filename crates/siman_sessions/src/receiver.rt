@@ -1,0 +1,99 @@
+//! The receiver of an order, of which the script may have no station.
+
+ghost use Rattle.std.specs.Prelude.{◌≡◌, ◌++◌, codes, decimal};
+ghost use Rattle.byte_files.specs.Writing.{Writes};
+ghost use Rattle.siman_reports.specs.Records.{line_end};
+ghost use Rattle.siman_sessions.specs.Reading.{said_by};
+ghost use Rattle.siman_sessions.specs.Receiver.{gets, is_got, missing, nobody_of, WarnsOf, nobody_text};
+
+use crate::explanation::put_behind;
+use crate::reading::handed;
+use byte_files::{WriteFailed, put};
+use dis_records::Address;
+use siman_posts::Undone;
+use siman_scripts::{Command, Task, read_command};
+use std::alloc::Global;
+use std::io::Write;
+
+/// The number of a receiving identifier that means every site, or every application of one.
+const EVERY: u16 = 0xFFFF;
+
+/// Whether the station at an address gets what is sent to this site and application.
+fn gets(address: Address, site: u16, application: u16) -> bool
+    ensures { result ≡ gets site application address }
+{
+    address.site() == site && (application == EVERY || address.application() == application)
+}
+
+/// Whether one of these stations gets what is sent to this site and application.
+fn is_got(stations: &[Address], site: u16, application: u16) -> bool
+    ensures { result ≡ is_got stations.now site application }
+{
+    stations
+        .iter()
+        .any(|address| gets(*address, site, application))
+}
+
+/// The site and the application that an order is for, if none of these stations gets it.
+fn missing(stations: &[Address], site: u16, application: u16) -> Option<(u16, u16)>
+    ensures { result ≡ missing stations.now site application }
+{
+    if site == EVERY || is_got(stations, site, application) {
+        return None;
+    }
+    Some((site, application))
+}
+
+/// The receiver of the order that a line is, if none of these stations gets it.
+fn nobody_of(stations: &[Address], said: &Option<Command>) -> Option<(u16, u16)>
+    ensures { result ≡ nobody_of stations.now said.now }
+{
+    match said {
+        Some(
+            Command::Asks {
+                task: Task::Order(order),
+                ..
+            },
+        ) => missing(stations, order.target.site, order.target.application),
+        _ => None,
+    }
+}
+
+/// The receiver of the order that a line is, of which so much is held, if the line was done and none of
+/// these stations gets it. Where memory runs out that is not known.
+pub(crate) fn warned_of(
+    alloc: Global,
+    stations: &[Address],
+    held: &[u8],
+    done: Result<(), Undone>,
+) -> Option<(u16, u16)>
+    ensures { WarnsOf stations.now (said_by held.now) done result }
+{
+    if done.is_err() {
+        return None;
+    }
+    match read_command(alloc, handed(held)) {
+        Ok(said) => nobody_of(stations, &said),
+        Err(_) => None,
+    }
+}
+
+/// Writes the application of the receiver, and that nobody gets the order.
+fn put_nobody_there<E: Write>(errors: &mut E, application: u16) -> Result<(), WriteFailed>
+    ensures { Writes result (E.contents errors.old) (E.contents errors.new) ((codes ":" ++ decimal application) ++ (codes ", so nobody gets this order" ++ line_end)) }
+{
+    put_behind(errors, ":", application)?;
+    put(errors, b", so nobody gets this order\n")
+}
+
+/// Writes of which station the script has none, and that nobody gets the order.
+pub(crate) fn put_nobody<E: Write>(
+    errors: &mut E,
+    site: u16,
+    application: u16,
+) -> Result<(), WriteFailed>
+    ensures { Writes result (E.contents errors.old) (E.contents errors.new) (nobody_text site application) }
+{
+    put_behind(errors, ": the script has no station ", site)?;
+    put_nobody_there(errors, application)
+}

@@ -3,3 +3,4 @@ pub mod World
 pub mod ScriptTrial
 pub mod Live
 pub mod Station
+pub mod Warned

@@ -1,5 +1,10 @@
 //! What there is to warn of in a script: an order for a station that it has not.
 
+ghost use Rattle.std.specs.Prelude.{◌≡◌, IfSome};
+ghost use Rattle.siman_sessions.specs.Receiver.{gets};
+ghost use Rattle.siman_plays.specs.Warned.{is_got, nobody_of, is_lost, WarnsOf};
+
+use dis_records::Address;
 use siman_answers::Warning;
 use siman_scripts::{Act, Move, Script, WorldStation, line_of_move};
 use std::alloc::Global;
@@ -7,42 +12,61 @@ use std::alloc::Global;
 /// The number of a receiving identifier that means every site, or every application of one.
 const EVERY: u16 = 0xFFFF;
 
-/// Whether a station has this site and application, or is one of all that are meant.
-fn is_meant(station: &WorldStation, site: u16, application: u16) -> bool {
-    let address = station.station.address();
+/// Whether the station at an address gets what is sent to this site and application.
+fn gets(address: Address, site: u16, application: u16) -> bool
+    ensures { result ≡ gets site application address }
+{
     address.site() == site && (application == EVERY || address.application() == application)
 }
 
-/// The site and the application of the receiver of an order that none of these stations is, if the
-/// move is such an order.
-fn nobody_of(step: &Move, stations: &[WorldStation]) -> Option<(u16, u16)> {
-    let Act::Command(order) = &step.act else {
-        return None;
-    };
-    let (site, application) = (order.target.site, order.target.application);
-    if site == EVERY {
-        return None;
-    }
-    for station in stations {
-        if is_meant(station, site, application) {
-            return None;
+/// Whether one of these stations gets what is sent to this site and application.
+fn is_got(stations: &[WorldStation], site: u16, application: u16) -> bool
+    ensures { result ≡ is_got stations.now site application }
+{
+    stations.iter().any(|station| gets(station.station.address(), site, application))
+}
+
+/// The site and the application that an order is for, if none of these stations gets it.
+fn nobody_of(stations: &[WorldStation], act: &Act) -> Option<(u16, u16)>
+    ensures { result ≡ nobody_of stations.now act.now }
+{
+    match act {
+        Act::Command(order) => {
+            let (site, application) = (order.target.site, order.target.application);
+            if site == EVERY || is_got(stations, site, application) {
+                return None;
+            }
+            Some((site, application))
         }
+        Act::Deliver(_) | Act::Tick | Act::Tell(_) => None,
     }
-    Some((site, application))
+}
+
+/// Whether nobody gets the order of a move.
+fn is_lost(stations: &[WorldStation], step: &Move) -> bool
+    ensures { result ≡ is_lost stations.now step.entry.now }
+{
+    nobody_of(stations, &step.act).is_some()
 }
 
 /// The warning of the first order of a script, which this text spells, for a station that the script
 /// has not. Where there is no memory to find its line, there is none.
-pub(crate) fn no_such_station(alloc: Global, text: &[u8], script: &Script) -> Option<Warning> {
-    for (number, step) in script.moves.iter().enumerate() {
-        if let Some((site, application)) = nobody_of(step, &script.stations) {
-            let line = line_of_move(alloc, text, number).ok()??;
-            return Some(Warning::NoSuchStation {
-                line,
-                site,
-                application,
-            });
-        }
-    }
-    None
+pub(crate) fn no_such_station(alloc: Global, text: &[u8], script: &Script) -> Option<Warning>
+    ensures { IfSome result (WarnsOf text.now script.now) }
+{
+    let stations = script.stations.as_slice();
+    let number = script
+        .moves
+        .iter()
+        .position(|step| is_lost(stations, step))?;
+    let Some(step) = script.moves.as_slice().get(number) else {
+        return None;
+    };
+    let (site, application) = nobody_of(stations, &step.act)?;
+    let line = line_of_move(alloc, text, number).ok()??;
+    Some(Warning::NoSuchStation {
+        line,
+        site,
+        application,
+    })
 }

@@ -99,7 +99,7 @@ undone_text number came = refused_text number came came.line.done ++ line_text n
 abbrev pub failed_text : (number : ℕ) → Came → List ℕ
 failed_text number came = undone_text number came ++ wants_text (wants_memory came) (is_unwritten came)
 
--- warning: line N: the script has no station S:A, so nobody gets this order
+-- warning: line N: the script has no station S:A: add it there, or see whether the address is right
 abbrev pub warned_line : (number site application : ℕ) → List ℕ
 warned_line number site application = codes "warning: " ++ (at_line number ++ nobody_text site application)
 
@@ -107,6 +107,6 @@ abbrev pub warning_text : (number : ℕ) → (nobody : Option (ℕ × ℕ)) → 
 warning_text number None = []
 warning_text number (Some (site, application)) = warned_line number site application
 
--- WHAT IS TOLD OF THE LINE OF A NUMBER: why it was not done, and that a call of the line of the station failed, each with a second line that explains it; that memory ran out; that an entry was not recorded or not printed; and a warning of an order that nobody gets
+-- WHAT IS TOLD OF THE LINE OF A NUMBER: why it was not done, and that a call of the line of the station failed, each with a second line that explains it; that memory ran out; that an entry was not recorded or not printed; and a warning of an order for a station that the script lacks
 abbrev pub told_of : (number : ℕ) → Came → List ℕ
 told_of number came = failed_text number came ++ warning_text number came.nobody

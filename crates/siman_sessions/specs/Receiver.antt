@@ -31,7 +31,7 @@ abbrev pub WarnsOf : List Pair → Option Command → Result (Unit {0}) Undone �
 WarnsOf stations said (Ok x) nobody = (nobody ≡ nobody_of stations said) ⊎ (nobody ≡ None)
 WarnsOf stations said (Err why) nobody = nobody ≡ None
 
--- : the script has no station S:A, so nobody gets this order
+-- : the script has no station S:A: add it there, or see whether the address is right
 abbrev pub nobody_text : (site application : ℕ) → List ℕ
 nobody_text site application =
-    (codes ": the script has no station " ++ decimal site) ++ ((codes ":" ++ decimal application) ++ (codes ", so nobody gets this order" ++ line_end))
+    (codes ": the script has no station " ++ decimal site) ++ ((codes ":" ++ decimal application) ++ (codes ": add it there, or see whether the address is right" ++ line_end))

@@ -223,7 +223,7 @@ fn tell_failed<E: Write>(errors: &mut E, number: u64, came: Came) -> Result<(), 
     tell_wants(errors, came.wants_memory(), came.is_unwritten())
 }
 
-/// Writes at which line an order is that nobody gets, and for whom.
+/// Writes at which line an order is for a station that the script lacks, and for which.
 fn put_nobody_at<E: Write>(
     errors: &mut E,
     number: u64,
@@ -236,7 +236,7 @@ fn put_nobody_at<E: Write>(
     put_nobody(errors, site, application)
 }
 
-/// Writes the warning of an order that nobody gets.
+/// Writes the warning of an order for a station that the script lacks.
 fn put_warning<E: Write>(
     errors: &mut E,
     number: u64,
@@ -249,7 +249,7 @@ fn put_warning<E: Write>(
     put_nobody_at(errors, number, site, application)
 }
 
-/// Warns of the order of a line of text, if it is known that nobody gets it.
+/// Warns of the order of a line of text, if the script lacks its station.
 fn tell_warning<E: Write>(
     errors: &mut E,
     number: u64,

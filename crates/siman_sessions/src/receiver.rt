@@ -78,15 +78,18 @@ pub(crate) fn warned_of(
     }
 }
 
-/// Writes the application of the receiver, and that nobody gets the order.
+/// Writes the application of the receiver, and what to do.
 fn put_nobody_there<E: Write>(errors: &mut E, application: u16) -> Result<(), WriteFailed>
-    ensures { Writes result (E.contents errors.old) (E.contents errors.new) ((codes ":" ++ decimal application) ++ (codes ", so nobody gets this order" ++ line_end)) }
+    ensures { Writes result (E.contents errors.old) (E.contents errors.new) ((codes ":" ++ decimal application) ++ (codes ": add it there, or see whether the address is right" ++ line_end)) }
 {
     put_behind(errors, ":", application)?;
-    put(errors, b", so nobody gets this order\n")
+    put(
+        errors,
+        b": add it there, or see whether the address is right\n",
+    )
 }
 
-/// Writes of which station the script has none, and that nobody gets the order.
+/// Writes which station the script lacks, and what to do.
 pub(crate) fn put_nobody<E: Write>(
     errors: &mut E,
     site: u16,

@@ -93,7 +93,7 @@ const TOLD: &str = concat!(
     "  this session plays station 1:1 alone\n",
     "line 3: no-such-entity\n",
     "  the number of an entity is from 1 to 65533\n",
-    "warning: line 5: the script has no station 2:3, so nobody gets this order\n",
+    "warning: line 5: the script has no station 2:3: add it there, or see whether the address is right\n",
     "line 6: ids-spent\n",
     "  no request identifier is left after 4294967295: begin a new exercise with a lower first=F\n",
     "line 7: bad-line\n",

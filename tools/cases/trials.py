@@ -13,7 +13,6 @@ UNWRITTEN = Outcome(2, b"", b"output: write\n")
 # The first line of each fault: what it is about, and what there is to say.
 SUBJECTS = rb"hex|file|recording|certificate|join|script|world|live|station|line \d+|filter|view|chart|output|words"
 FAULT = re.compile(rb"(" + SUBJECTS + rb"): .*|memory")
-EXPLAINED = re.compile(FAULT.pattern + rb"|mend .* NEW")
 # How the program is called: its words, what it is given on standard input, and what stands before and behind it in a
 # line of the shell; then the outcomes that the pages allow.
 Case = namedtuple("Case", "words accepted given before behind", defaults=(b"", "", ""))
@@ -23,15 +22,15 @@ Verdict = namedtuple("Verdict", "told expected came")
 def first_lines(errors):
     """What is told on standard error, without the second lines of faults and without warnings.
 
-    A second line begins with two blanks and stands right behind a fault, or behind the line that says how the recording
-    of `live` is mended; one behind each. Whatever else begins so stays, and is found where the text is compared; a tip of
-    the usage stands behind an empty line, and is none. A warning begins with `warning: `, and is the last line.
+    A second line begins with two blanks and stands right behind a fault; one behind each. Whatever else begins so stays,
+    and is found where the text is compared; a tip of the usage stands behind an empty line, and is none. A warning begins
+    with `warning: `, and is the last line.
     """
     lines = errors.split(b"\n")
     if lines[-1] == b"" and len(lines) > 1 and lines[-2].startswith(b"warning: "):
         del lines[-2]
     before = [b"", *lines]
-    return b"\n".join(line for above, line in zip(before, lines) if not (line.startswith(b"  ") and EXPLAINED.fullmatch(above)))
+    return b"\n".join(line for above, line in zip(before, lines) if not (line.startswith(b"  ") and FAULT.fullmatch(above)))
 
 
 def has_second_lines(outcome):

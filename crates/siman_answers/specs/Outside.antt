@@ -1,10 +1,11 @@
 -- What a program has outside, what it leaves there, and what it does: the files that it opens, makes, saves, discards and closes, in their order.
-use Rattle.std.specs.Prelude.{◌≡◌, ◌⊎◌, ⊤, ℕ, Bool, List, [], ◌++◌, length, Vec, Option, Some, None, IfSome, Result, Ok, Err}
+use Rattle.std.specs.Prelude.{◌≡◌, ◌⊎◌, ⊤, ℕ, Bool, List, [], ◌++◌, length, Vec, Option, Some, None, IfSome, option_map, Result, Ok, Err}
 use Rattle.std.specs.declared.alloc.Global.{Global}
 use Rattle.std.specs.IoError.{error_kind}
 use Rattle.std.specs.declared.io.Error.{Error}
 use Rattle.std.specs.declared.io.ErrorKind.{ErrorKind}
 use Rattle.std.specs.declared.io.ErrorKind.TheVariants.{OutOfMemory}
+use Rattle.siman_answers.specs.declared.ending.Ending.{Ending}
 use Rattle.siman_answers.specs.declared.endpoint.Endpoint.{Endpoint}
 use Rattle.siman_answers.specs.declared.fault.Ended.{Ended}
 use Rattle.siman_answers.specs.declared.fault.Fault.{Fault}
@@ -18,12 +19,21 @@ pub record Stream : Type 0 where
   pub old : Option (List ℕ)
   pub new : Option (List ℕ)
 
--- how a command ended, the fault that is explained of it, and what it left on the writer of answers and on the writer of faults
+-- how a command ended, the fault that is explained of it, the recording that stands begun after that fault, and what it left on the writer of answers and on the writer of faults
 pub record Outcome : Type 0 where
   pub ended : Ended
   pub fault : Option Fault
+  pub begun : Option (List ℕ)
   pub out : Stream
   pub errors : Stream
+
+-- the name of the recording that stands begun after an ending
+abbrev pub begun_by : Ending → Option (List ℕ)
+begun_by ending = option_map (λ name. name.now) ending.begun
+
+-- an ending, with what it left on the writers
+abbrev pub outcome_of : Ending → (out errors : Stream) → Outcome
+outcome_of ending out errors = record { ended = ending.ended; fault = ending.fault; begun = begun_by ending; out = out; errors = errors }
 
 -- the bytes that a file has which was opened or made, where they are known, or why it was not
 abbrev pub Found : Type 0

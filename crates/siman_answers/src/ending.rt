@@ -2,6 +2,7 @@
 
 ghost use Rattle.std.specs.Prelude.{◌≡◌, None};
 ghost use Rattle.siman_answers.specs.Ending.{Ends, fault_in};
+ghost use Rattle.siman_answers.specs.Outside.{begun_by};
 
 use crate::fault::{Ended, Fault, end};
 use crate::notes::{Notes, Warning};
@@ -14,6 +15,8 @@ pub struct Ending<'a> {
     pub ended: Ended,
     /// The fault that was met, if it was one that is explained.
     pub fault: Option<Fault<'a>>,
+    /// The recording that the command began before its fault, which can be mended.
+    pub begun: Option<&'a str>,
     /// What a line of a station said last of a call that failed.
     pub trouble: Option<LineTrouble>,
     /// What there is to warn of.
@@ -24,10 +27,12 @@ pub struct Ending<'a> {
 pub fn conclude<'a, E: Write>(answered: Result<u8, Fault<'a>>, errors: &mut E) -> Ending<'a>
     ensures ends { Ends answered.entry result.ended (E.contents errors.old) (E.contents errors.new) }
     ensures fault { result.fault ≡ fault_in answered.entry }
+    ensures begun { begun_by result ≡ None }
 {
     Ending {
         ended: end(answered, errors),
         fault: answered.err(),
+        begun: None,
         trouble: None,
         warning: None,
     }
@@ -38,6 +43,7 @@ impl Ending<'_> {
     pub fn and_notes(self, notes: Notes) -> Self
         ensures ended { result.ended ≡ self.entry.ended }
         ensures fault { result.fault ≡ self.entry.fault }
+        ensures begun { begun_by result ≡ begun_by self.entry }
     {
         Ending {
             warning: self.warning.or(notes.warning),

@@ -14,6 +14,7 @@
 //! | `shut NAME`, `folder NAME`, `odd NAME`, `full NAME` | a file that can't be opened or made: no permission, a directory, what is none in its path, no memory |
 //! | `input`, `out`, `errors`, `left` | the lines behind it fill standard input, what must be out, what must be told of faults, what the file must hold that is made |
 //! | `reason` | the lines behind it fill what must stand behind the first line of the fault; where it is not there, nothing or one line that begins with two blanks, and only behind a fault |
+//! | `behind` | the lines behind it fill what must stand behind such a line that the case does not say |
 //! | `discarded` | as `left`, of a file that is made and must be discarded in the end |
 //! | `text TEXT`, `piece TEXT` | a line with its line end, a text without |
 //! | `times N TEXT` | a text so many times |

@@ -60,7 +60,7 @@ pub(crate) fn run_case(
     makes: Calls,
     line_fails: Option<u64>,
 ) -> Outcome<'_>
-    ensures { (told : Telling WireLine) × (words : Result (List (List ℕ)) ErrorKind) × (fault : Option Fault) × EndsProgram told words (deeds_of result.shelf.done) None (record { ended = result.ended; fault = fault; out = untold; errors = untold }) }
+    ensures { (told : Telling WireLine) × (words : Result (List (List ℕ)) ErrorKind) × (fault : Option Fault) × (begun : Option (List ℕ)) × EndsProgram told words (deeds_of result.shelf.done) None (record { ended = result.ended; fault = fault; begun = begun; out = untold; errors = untold }) }
 {
     let mut shelf = filled(alloc, case, makes, line_fails);
     let mut out = write_to(alloc, case.out.calls);
@@ -102,22 +102,25 @@ fn compare_made<W: Write>(
     }
 }
 
-/// Whether bytes are one line that begins with two blanks.
-fn is_second_line(bytes: &[u8]) -> bool {
-    let first_end = bytes.iter().position(|byte| *byte == b'\n');
-    bytes.starts_with(b"  ") && first_end == bytes.len().checked_sub(1)
+/// Whether bytes are one line that begins with two blanks, and this behind it.
+fn is_second_line(bytes: &[u8], behind: &[u8]) -> bool {
+    let Some(first_end) = bytes.iter().position(|byte| *byte == b'\n') else {
+        return false;
+    };
+    bytes.starts_with(b"  ") && bytes.get(first_end.saturating_add(1)..) == Some(behind)
 }
 
 /// Prints the second line of a fault, where it is otherwise than the case wants; where that does not
-/// say it, behind a fault one line may stand that begins with two blanks, and else one that warns.
+/// say it, behind a fault one line may stand that begins with two blanks, and what the case says behind
+/// it, and else one that warns.
 fn compare_reason<W: Write>(case: &Case, left: &Outcome<'_>, out: &mut W) -> io::Result<bool> {
-    let (name, told) = (&case.name, &left.reasons.bytes);
+    let (name, told, behind) = (&case.name, &left.reasons.bytes, &case.behind.bytes);
     if case.is_reason {
         return compare(name, "reason", told, &case.reason.bytes, out);
     }
     let fits = match left.ended.status {
-        0 | 1 => told.is_empty() || told.starts_with(b"warning: "),
-        _ => told.is_empty() || is_second_line(told),
+        0 | 1 => behind.is_empty() && (told.is_empty() || told.starts_with(b"warning: ")),
+        _ => (told.is_empty() && behind.is_empty()) || is_second_line(told, behind),
     };
     if fits {
         return Ok(true);

@@ -49,9 +49,13 @@ abbrev pub DoesView : ViewWord → (recording : List ℕ) → (filters : List (L
 DoesView ViewWord.Review recording filters spelling = ReviewsNamed spelling recording filters
 DoesView ViewWord.Log recording filters spelling = LogsNamed spelling recording filters
 
+-- with this answer or fault, which is then told, and no recording stands begun
+abbrev pub EndsIn : Answered → Outcome → Type 0
+EndsIn answered o = Ends answered o.ended o.errors.old o.errors.new × (o.fault ≡ fault_in answered) × (o.begun ≡ None)
+
 -- with the status of what was answered, or with that of the fault that was met, which is then told
 abbrev pub EndsAs : (Answered → Stream → Type 0) → Outcome → Type 0
-EndsAs Tells o = (answered : Answered) × Tells answered o.out × Ends answered o.ended o.errors.old o.errors.new × (o.fault ≡ fault_in answered)
+EndsAs Tells o = (answered : Answered) × Tells answered o.out × EndsIn answered o
 
 -- how a command with two words ends
 abbrev pub EndsTwo : {L : Type 0} → Telling L → TwoWords → (first second : List ℕ) → (force : Bool) → List Deed → Outcome → Type 0
@@ -64,7 +68,7 @@ EndsTwo told TwoWords.Mend old new force deeds o = EndsAs (WorksSparing MendsFil
 
 -- how a command ends that takes no words, and reads standard input, which has these bytes where they are known
 abbrev pub EndsBare : NoWord → Option (List ℕ) → Outcome → Type 0
-EndsBare NoWord.Pdus input o = (bytes : List ℕ) × Has input bytes × EndsLines (lines_of bytes) o
+EndsBare NoWord.Pdus input o = ((bytes : List ℕ) × Has input bytes × EndsLines (lines_of bytes) o) × (o.begun ≡ None)
 
 -- HOW A TASK ENDS
 abbrev pub EndsTask : {L : Type 0} → Telling L → Asked → List Deed → Option (List ℕ) → Outcome → Type 0
@@ -77,10 +81,6 @@ EndsTask told (asks.Station words) deeds input o = EndsStation told.strangers wo
 EndsTask told (View view recording filters spelling) deeds input o = EndsAs (DoesView view recording filters spelling deeds) o
 EndsTask told (asks.Why recording certificate spelling) deeds input o = EndsAs (WhyNamed spelling recording certificate deeds) o
 EndsTask told (asks.Chart recording certificate picture words force) deeds input o = EndsAs (ChartsNamed recording certificate picture words force deeds) o
-
--- with this answer or fault
-abbrev pub EndsIn : Answered → Outcome → Type 0
-EndsIn answered o = Ends answered o.ended o.errors.old o.errors.new × (o.fault ≡ fault_in answered)
 
 -- HOW WORDS END that ask for no task: with want of memory, with the help that they ask for, or as a fault of usage, which is told on the writer of faults
 abbrev pub EndsUsage : (helps : Bool) → Outcome → Type 0
@@ -113,9 +113,9 @@ EndsProgram told (Ok words) deeds input o = EndsWords told words deeds input o
 EndsProgram told (Err kind) deeds input o =
     (deeds ≡ []) × (Keeps o.out.old o.out.new × ((fault : Fault) × IsToldAs kind Words fault × EndsIn (Err fault) o))
 
--- HOW IT ENDS WITH A REASON: so, and behind the first line of its fault the second one is told, or else what there is to warn of
+-- HOW IT ENDS WITH A REASON: so, and behind the first line of its fault the second one is told, and how the recording is mended that it began; or else what there is to warn of
 abbrev pub EndsExplained : (Outcome → Type 0) → Ended → (out errors reasons : Stream) → Type 0
 EndsExplained Ends ended out errors reasons =
-    (fault : Option Fault) × (warning : Option Warning)
-    × (let o : Outcome = record { ended = ended; fault = fault; out = out; errors = errors } in Ends o)
-    × Explains ended.written fault warning reasons.old reasons.new
+    (fault : Option Fault) × (begun : Option (List ℕ)) × (warning : Option Warning)
+    × (let o : Outcome = record { ended = ended; fault = fault; begun = begun; out = out; errors = errors } in Ends o)
+    × Explains ended.written fault begun warning reasons.old reasons.new

@@ -74,8 +74,8 @@ move_text place fault = line_text place.line (move_words fault)
 -- Of a word that says a step past the last one.
 
 abbrev pub step_text : ℕ → List ℕ
-step_text zero = five (codes "the order has no steps") [] [] [] []
-step_text (suc last) = five (codes "the last step is ") (decimal last) [] [] []
+step_text zero = five (codes "there are no steps") [] [] [] []
+step_text (suc last) = five (codes "the number of steps is ") (decimal (suc last)) (codes ": the last is ") (decimal last) []
 
 -- Of a reason.
 
@@ -98,6 +98,11 @@ IsReason other text = ⊤
 -- THE SECOND LINE begins with two blanks
 abbrev pub second_line : (text : List ℕ) → List ℕ
 second_line text = codes "  " ++ (text ++ line_end)
+
+-- mend REC NEW, with the name of the recording that was begun in the place of REC; the word NEW stands as it is
+abbrev pub mend_line : (begun : Option (List ℕ)) → List ℕ
+mend_line None = []
+mend_line (Some name) = (codes "mend " ++ name) ++ (codes " NEW" ++ line_end)
 
 -- whether all that was to be told is written
 abbrev pub Wrote : Type 0
@@ -127,8 +132,9 @@ abbrev pub Warns : Option Warning → (old new : Option (List ℕ)) → Type 0
 Warns None old new = Keeps old new
 Warns (Some warning) old new = (wrote : Wrote) × Writes wrote old new (warning_line warning)
 
--- BEHIND THE FIRST LINE OF A FAULT its second one is told, or a prefix of it, where the writer failed; nothing, where the first line was not written whole. Where there was no fault, it is told what there is to warn of.
-abbrev pub Explains : (first : Wrote) → Option Fault → Option Warning → (old new : Option (List ℕ)) → Type 0
-Explains first None warning old new = Warns warning old new
-Explains (Err failed) (Some fault) warning old new = Keeps old new
-Explains (Ok x) (Some fault) warning old new = (text : List ℕ) × (wrote : Wrote) × IsReason fault text × Writes wrote old new (second_line text)
+-- BEHIND THE FIRST LINE OF A FAULT its second one is told, and how the recording is mended that was begun before, or a prefix of that, where the writer failed; nothing, where the first line was not written whole. Where there was no fault, it is told what there is to warn of.
+abbrev pub Explains : (first : Wrote) → Option Fault → (begun : Option (List ℕ)) → Option Warning → (old new : Option (List ℕ)) → Type 0
+Explains first None begun warning old new = Warns warning old new
+Explains (Err failed) (Some fault) begun warning old new = Keeps old new
+Explains (Ok x) (Some fault) begun warning old new =
+    (text : List ℕ) × (wrote : Wrote) × IsReason fault text × Writes wrote old new (second_line text ++ mend_line begun)

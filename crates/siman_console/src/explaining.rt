@@ -1,15 +1,16 @@
 //! Telling the reason of a fault, behind its first line.
 
-ghost use Rattle.std.specs.Prelude.{◌≡◌, ◌++◌};
+ghost use Rattle.std.specs.Prelude.{◌≡◌, ◌++◌, Some, option_map};
 ghost use Rattle.byte_files.specs.Writing.{Writes};
 ghost use Rattle.siman_reports.specs.Records.{line_end};
-ghost use Rattle.siman_console.specs.Reasons.{reason_words, second_line, warning_line, Warns, Explains};
+ghost use Rattle.siman_console.specs.Reasons.{reason_words, second_line, mend_line, warning_line, Warns, Explains};
+ghost use Rattle.siman_answers.specs.Outside.{begun_by};
 
 use crate::named::Named;
 use crate::pieces::put_pieces;
 use crate::reason::{Reason, reason_of};
 use crate::warning::warning_pieces;
-use byte_files::{WriteFailed, put};
+use byte_files::{WriteFailed, put, put_both};
 use siman_answers::{Ended, Ending, Known, Warning};
 use siman_lines::put_line_trouble;
 use siman_scripts::put_reason;
@@ -42,6 +43,29 @@ fn put_second<W: Write>(writer: &mut W, reason: Reason<'_>) -> Result<(), WriteF
     put_ended(writer, reason)
 }
 
+/// Writes how the recording of a name is mended: `mend NAME NEW`.
+fn put_mend<W: Write>(writer: &mut W, name: &str) -> Result<(), WriteFailed>
+    ensures { Writes result (W.contents writer.old) (W.contents writer.new) (mend_line (Some name.now)) }
+{
+    put_both(writer, b"mend ", name.as_bytes())?;
+    put(writer, b" NEW\n")
+}
+
+/// Writes the second line of a fault, and how the recording is mended that was begun before it.
+fn put_explained<W: Write>(
+    writer: &mut W,
+    reason: Reason<'_>,
+    begun: Option<&str>,
+) -> Result<(), WriteFailed>
+    ensures { Writes result (W.contents writer.old) (W.contents writer.new) (second_line (reason_words reason.entry) ++ mend_line (option_map (λ name. name.now) begun.entry)) }
+{
+    put_second(writer, reason)?;
+    match begun {
+        Some(name) => put_mend(writer, name),
+        None => Ok(()),
+    }
+}
+
 /// Writes what there is to warn of.
 fn put_warning<W: Write>(writer: &mut W, warning: Warning) -> Result<(), WriteFailed>
     ensures { Writes result (W.contents writer.old) (W.contents writer.new) (warning_line warning) }
@@ -60,7 +84,8 @@ fn warn<W: Write>(warning: Option<Warning>, reasons: &mut W)
 }
 
 /// Tells the reason of the fault that a command met, if it met one and its first line is written, and
-/// else what there is to warn of; gives how the command ended.
+/// how the recording is mended that it began, and else what there is to warn of; gives how the command
+/// ended.
 pub(crate) fn explained<'a, E: Write>(
     ending: Ending<'a>,
     named: Named<'a>,
@@ -68,7 +93,7 @@ pub(crate) fn explained<'a, E: Write>(
     reasons: &mut E,
 ) -> Ended
     ensures ended { result ≡ ending.entry.ended }
-    ensures explains { Explains result.written ending.entry.fault ending.entry.warning (E.contents reasons.old) (E.contents reasons.new) }
+    ensures explains { Explains result.written ending.entry.fault (begun_by ending.entry) ending.entry.warning (E.contents reasons.old) (E.contents reasons.new) }
 {
     let fault = match ending.fault {
         Some(fault) => fault,
@@ -81,6 +106,6 @@ pub(crate) fn explained<'a, E: Write>(
         return ending.ended;
     }
     let reason = reason_of(fault, named, known, ending.trouble);
-    let _ = put_second(reasons, reason);
+    let _ = put_explained(reasons, reason, ending.begun);
     ending.ended
 }

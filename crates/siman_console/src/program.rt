@@ -3,7 +3,7 @@
 ghost use Rattle.std.specs.Prelude.{List, string_bytes, map};
 ghost use Rattle.std.specs.IoError.{error_kind};
 ghost use Rattle.std.specs.List.{All};
-ghost use Rattle.siman_answers.specs.Outside.{Deed, Adds, WasHeld, Stream, Outcome};
+ghost use Rattle.siman_answers.specs.Outside.{Deed, Adds, WasHeld, Stream, outcome_of};
 ghost use Rattle.siman_console.specs.Program.{DoesOne, DoesView, EndsTwo, EndsTask, EndsExplained, EndsWords, EndsProgram, words_by};
 ghost use Rattle.siman_words.specs.Words.{asked_by};
 ghost use Rattle.siman_lines.specs.AtLines.{Telling};
@@ -57,8 +57,9 @@ fn end_two<'a, O: Outside, W: Write, E: Write>(
     notes: &mut Notes,
 ) -> Ending<'a>
     ensures { let told : Telling O.Line = record { received = O.Line.received; sent = O.Line.sent; failures = O.Line.failures; strangers = O.Line.strangers } in
-        let o : Outcome = record { ended = result.ended; fault = result.fault; out = record { old = W.contents out.old; new = W.contents out.new }; errors = record { old = E.contents errors.old; new = E.contents errors.new } } in
-        (deeds : List Deed) × Adds (O.deeds outside.old) (O.deeds outside.new) deeds × All (WasHeld (O.holds outside.old)) deeds × EndsTwo told command words.entry.0.now words.entry.1.now force deeds o }
+        let out : Stream = record { old = W.contents out.old; new = W.contents out.new } in
+        let errors : Stream = record { old = E.contents errors.old; new = E.contents errors.new } in
+        (deeds : List Deed) × Adds (O.deeds outside.old) (O.deeds outside.new) deeds × All (WasHeld (O.holds outside.old)) deeds × EndsTwo told command words.entry.0.now words.entry.1.now force deeds (outcome_of result out errors) }
 {
     match command {
         TwoWords::Check => conclude(
@@ -117,8 +118,9 @@ fn end_task<'a, O: Outside, R: Read + Drop, W: Write, E: Write>(
     notes: &mut Notes,
 ) -> Ending<'a>
     ensures { let told : Telling O.Line = record { received = O.Line.received; sent = O.Line.sent; failures = O.Line.failures; strangers = O.Line.strangers } in
-        let o : Outcome = record { ended = result.ended; fault = result.fault; out = record { old = W.contents out.old; new = W.contents out.new }; errors = record { old = E.contents errors.old; new = E.contents errors.new } } in
-        (deeds : List Deed) × Adds (O.deeds outside.old) (O.deeds outside.new) deeds × All (WasHeld (O.holds outside.old)) deeds × EndsTask told (asked_by (λ word. word.now) task.entry) deeds (R.remaining input) o }
+        let out : Stream = record { old = W.contents out.old; new = W.contents out.new } in
+        let errors : Stream = record { old = E.contents errors.old; new = E.contents errors.new } in
+        (deeds : List Deed) × Adds (O.deeds outside.old) (O.deeds outside.new) deeds × All (WasHeld (O.holds outside.old)) deeds × EndsTask told (asked_by (λ word. word.now) task.entry) deeds (R.remaining input) (outcome_of result out errors) }
 {
     match task {
         Task::Trial => conclude(TrialCommand.say(alloc, input, out, notes), errors),

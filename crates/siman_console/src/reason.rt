@@ -97,18 +97,18 @@ fn move_pieces(place: MovePlace, fault: MoveFault) -> Pieces<'static>
     line_pieces(place.line, move_words(fault))
 }
 
-/// Which step is the last of so many.
+/// How many steps there are, and which one is the last.
 fn step_pieces(steps: usize) -> Pieces<'static>
     ensures { pieces_text result ≡ step_text steps }
 {
     if steps == 0 {
-        return words("the order has no steps");
+        return words("there are no steps");
     }
     five(
-        Piece::Words("the last step is "),
+        Piece::Words("the number of steps is "),
+        Piece::Number(steps as u64),
+        Piece::Words(": the last is "),
         Piece::Number(steps as u64 - 1),
-        Piece::Nothing,
-        Piece::Nothing,
         Piece::Nothing,
     )
 }

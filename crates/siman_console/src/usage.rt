@@ -1,8 +1,8 @@
 //! What is told of words that gave no task, and of none at a terminal.
 
-ghost use Rattle.std.specs.Prelude.{false, Option};
+ghost use Rattle.std.specs.Prelude.{ℕ, List, false, Option};
 ghost use Rattle.siman_answers.specs.declared.fault.Fault.{Fault};
-ghost use Rattle.siman_answers.specs.Outside.{Outcome};
+ghost use Rattle.siman_answers.specs.Outside.{Stream, Outcome, outcome_of};
 ghost use Rattle.siman_console.specs.Program.{EndsUsage};
 
 use byte_files::put;
@@ -20,8 +20,9 @@ pub(crate) fn end_usage<W: Write, E: Write>(
     out: &mut W,
     errors: &mut E,
 ) -> Ending<'static>
-    ensures { let o : Outcome = record { ended = result.ended; fault = result.fault; out = record { old = W.contents out.old; new = W.contents out.new }; errors = record { old = E.contents errors.old; new = E.contents errors.new } } in
-        EndsUsage asks_help o }
+    ensures { let out : Stream = record { old = W.contents out.old; new = W.contents out.new } in
+        let errors : Stream = record { old = E.contents errors.old; new = E.contents errors.new } in
+        EndsUsage asks_help (outcome_of result out errors) }
 {
     let text = match text {
         Ok(text) => text,
@@ -35,6 +36,7 @@ pub(crate) fn end_usage<W: Write, E: Write>(
         return Ending {
             ended,
             fault: None,
+            begun: None,
             trouble: None,
             warning: None,
         };
@@ -48,7 +50,7 @@ pub(crate) fn end_usage<W: Write, E: Write>(
 /// Ends a program without words whose standard input is a terminal, on which nobody means to write a
 /// script: as a fault of usage, told on `errors` with status 2, or for want of memory (`memory`, 3).
 pub fn end_at_terminal<W: Write, E: Write>(alloc: Global, out: &mut W, errors: &mut E) -> Ended
-    ensures { (fault : Option Fault) × (let o : Outcome = record { ended = result; fault = fault; out = record { old = W.contents out.old; new = W.contents out.new }; errors = record { old = E.contents errors.old; new = E.contents errors.new } } in
+    ensures { (fault : Option Fault) × (begun : Option (List ℕ)) × (let o : Outcome = record { ended = result; fault = fault; begun = begun; out = record { old = W.contents out.old; new = W.contents out.new }; errors = record { old = E.contents errors.old; new = E.contents errors.new } } in
         EndsUsage false o) }
 {
     end_usage(false, terminal_text(alloc), out, errors).ended

@@ -7,7 +7,7 @@ ghost use Rattle.siman_files.specs.declared.hex_text.TheConstants.{LONGEST_HEX};
 ghost use Rattle.siman_answers.specs.declared.fault.Fault.TheVariants.{Memory};
 ghost use Rattle.siman_files.specs.declared.pdus.Stop.TheVariants as stops;
 ghost use Rattle.siman_answers.specs.Ending.{Wrote};
-ghost use Rattle.siman_answers.specs.Outside.{Has, Stream, Outcome};
+ghost use Rattle.siman_answers.specs.Outside.{Has, Stream, Outcome, begun_by, outcome_of};
 ghost use Rattle.siman_files.specs.Pdus.{told_of_line, TellsBad, TellsLine, TellsLines, EndsAt, EndsLines};
 
 use crate::hex_text::LONGEST_HEX;
@@ -61,7 +61,7 @@ pub fn pdus_command<R: Read + Drop, W: Write, E: Write>(
     out: &mut W,
     errors: &mut E,
 ) -> u8
-    ensures { (bytes : List ℕ) × Has (R.remaining input) bytes × ((wrote : Wrote) × (let o : Outcome = record { ended = record { status = result; written = wrote }; fault = None; out = record { old = W.contents out.old; new = W.contents out.new }; errors = record { old = E.contents errors.old; new = E.contents errors.new } } in
+    ensures { (bytes : List ℕ) × Has (R.remaining input) bytes × ((wrote : Wrote) × (let o : Outcome = record { ended = record { status = result; written = wrote }; fault = None; begun = None; out = record { old = W.contents out.old; new = W.contents out.new }; errors = record { old = E.contents errors.old; new = E.contents errors.new } } in
         EndsLines (lines_of bytes) o)) }
 {
     end_lines(alloc, input, out, errors).ended.status
@@ -74,21 +74,25 @@ pub fn end_lines<R: Read + Drop, W: Write, E: Write>(
     out: &mut W,
     errors: &mut E,
 ) -> Ending<'static>
-    ensures { let o : Outcome = record { ended = result.ended; fault = result.fault; out = record { old = W.contents out.old; new = W.contents out.new }; errors = record { old = E.contents errors.old; new = E.contents errors.new } } in
-        (bytes : List ℕ) × Has (R.remaining input) bytes × EndsLines (lines_of bytes) o }
+    ensures ends { let out : Stream = record { old = W.contents out.old; new = W.contents out.new } in
+        let errors : Stream = record { old = E.contents errors.old; new = E.contents errors.new } in
+        (bytes : List ℕ) × Has (R.remaining input) bytes × EndsLines (lines_of bytes) (outcome_of result out errors) }
+    ensures begun { begun_by result ≡ None }
 {
     end_at(tell_input(alloc, input, out, errors), errors)
 }
 
 /// Ends the command that told all lines, or stopped.
 fn end_at<E: Write>(answered: Result<u8, Stop>, errors: &mut E) -> Ending<'static>
-    ensures { EndsAt answered result.ended (E.contents errors.old) (E.contents errors.new) }
+    ensures ends { EndsAt answered result.ended (E.contents errors.old) (E.contents errors.new) }
+    ensures begun { begun_by result ≡ None }
 {
     match answered {
         Ok(status) => Ending {
             ended: end(Ok(status), errors),
             // What is expected of lines is told once.
             fault: (status == 2).then_some(Fault::NotBytePairs),
+            begun: None,
             trouble: None,
             warning: None,
         },
@@ -100,6 +104,7 @@ fn end_at<E: Write>(answered: Result<u8, Stop>, errors: &mut E) -> Ending<'stati
                 written: Err(failed),
             },
             fault: None,
+            begun: None,
             trouble: None,
             warning: None,
         },

@@ -31,6 +31,8 @@ pub struct Case {
     /// The second line of the fault, where the case says it.
     pub reason: Stream,
     pub is_reason: bool,
+    /// What must stand behind that line, where the case does not say the line itself.
+    pub behind: Stream,
     pub left: Stream,
     /// Whether a file must be left.
     pub is_left: bool,
@@ -76,6 +78,7 @@ impl Drop for Case {
             errors: _errors,
             reason: _reason,
             is_reason: _is_reason,
+            behind: _behind,
             left: _left,
             is_left: _is_left,
             is_discarded: _is_discarded,
@@ -111,6 +114,7 @@ pub fn begin_case(alloc: Global, name: String, files: Vec<File>) -> Case {
         errors: empty(alloc),
         reason: empty(alloc),
         is_reason: false,
+        behind: empty(alloc),
         left: empty(alloc),
         is_left: false,
         is_discarded: false,
@@ -207,6 +211,7 @@ impl Case {
             Part::Out => Some(&mut self.out),
             Part::Errors => Some(&mut self.errors),
             Part::Reason => Some(&mut self.reason),
+            Part::Behind => Some(&mut self.behind),
             Part::Left | Part::Discarded => Some(&mut self.left),
             Part::Coming => self.coming.last_mut(),
             Part::Sent => Some(&mut self.sent),

@@ -11,6 +11,7 @@ pub(crate) enum Part {
     Out,
     Errors,
     Reason,
+    Behind,
     Left,
     Discarded,
     Coming,
@@ -74,7 +75,7 @@ pub(crate) struct Line<'a> {
 }
 
 /// Each word, how many numbers stand behind it, and whether a text may stand behind those.
-static WORDS: [(&str, Says, usize, bool); 41] = [
+static WORDS: [(&str, Says, usize, bool); 42] = [
     ("case", Says::Case, 0, true),
     ("words", Says::Words, 0, true),
     (
@@ -104,6 +105,7 @@ static WORDS: [(&str, Says, usize, bool); 41] = [
     ("out", Says::Begin(Part::Out), 0, false),
     ("errors", Says::Begin(Part::Errors), 0, false),
     ("reason", Says::Begin(Part::Reason), 0, false),
+    ("behind", Says::Begin(Part::Behind), 0, false),
     ("left", Says::Begin(Part::Left), 0, false),
     ("discarded", Says::Begin(Part::Discarded), 0, false),
     ("comes", Says::Begin(Part::Coming), 0, false),

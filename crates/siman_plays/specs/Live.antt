@@ -19,7 +19,7 @@ use Rattle.siman_scripts.specs.MoveLine.{line_of_move}
 use Rattle.std.specs.declared.io.ErrorKind.{ErrorKind}
 use Rattle.std.specs.declared.io.ErrorKind.TheVariants.{AlreadyExists, OutOfMemory}
 use Rattle.siman_answers.specs.Outside.{Has, Stream, Outcome, Deed, LooksFor, Lines, Creates, Leaves}
-use Rattle.siman_answers.specs.Ending.{Wrote, fault_line, status_of, fault_in, IsToldAs}
+use Rattle.siman_answers.specs.Ending.{Ends, fault_in, IsToldAs}
 use Rattle.siman_answers.specs.Making.{Answered}
 use Rattle.siman_answers.specs.Opening.{WorksOn}
 use Rattle.siman_reports.specs.Records.{line_end}
@@ -120,21 +120,13 @@ is_created [] = false
 is_created (Creates name (Ok fresh) ∷ deeds) = true
 is_created (deed ∷ deeds) = is_created deeds
 
--- mend REC NEW, with the name of the file in the place of REC; the word NEW stands as it is
-abbrev pub mend_line : (created : Bool) → (name : List ℕ) → List ℕ
-mend_line true name = (codes "mend " ++ name) ++ (codes " NEW" ++ line_end)
-mend_line false name = []
-
--- After a fault its line is told, and, where the file was created before, how what it has is mended; or a prefix of that, where the writer failed.
-abbrev pub TellsLived : (created : Bool) → (name : List ℕ) → Answered → Wrote → (old new : Option (List ℕ)) → Type 0
-TellsLived created name (Ok status) wrote old new = (wrote ≡ Ok tt) × Keeps old new
-TellsLived created name (Err fault) wrote old new = Writes wrote old new (fault_line fault ++ mend_line created name)
-
-pub record EndsLived (created : Bool) (name : List ℕ) (answered : Answered) (ended : Ended) (old new : Option (List ℕ)) : Type 0 where
-  pub status_is : ended.status ≡ status_of answered
-  pub tells : TellsLived created name answered ended.written old new
+-- the recording that stands begun after a fault: the file that was created before
+abbrev pub begun_in : (created : Bool) → (name : List ℕ) → Answered → Option (List ℕ)
+begun_in true name (Err fault) = Some name
+begun_in true name (Ok status) = None
+begun_in false name answered = None
 
 abbrev pub EndsLive : {L : Type 0} → Telling L → (script recording : List ℕ) → List Deed → Outcome → Type 0
 EndsLive told script recording deeds o =
     (answered : Answered) × WorksOn BeginsFile (LivesText told) script recording deeds answered o.out
-    × EndsLived (is_created deeds) recording answered o.ended o.errors.old o.errors.new × (o.fault ≡ fault_in answered)
+    × Ends answered o.ended o.errors.old o.errors.new × (o.fault ≡ fault_in answered) × (o.begun ≡ begun_in (is_created deeds) recording answered)

@@ -172,10 +172,11 @@ EndsPlayed (Err fault) ended old new = Ends (Err fault) ended old new
 abbrev pub played_fault : Played → Option Fault
 played_fault played = result_err played
 
--- Where a word is no address nothing is done.
+-- Where a word is no address nothing is done. Of a recording that it began it tells itself.
 abbrev pub EndsStation : {L : Type 0} → (strangers : L → ℕ) → StationAsked → List Deed → (input : Option (List ℕ)) → Outcome → Type 0
 EndsStation strangers asked deeds input o =
-    ((fault : Fault) × Places asked (Err fault) × (deeds ≡ []) × Keeps o.out.old o.out.new × Ends (Err fault) o.ended o.errors.old o.errors.new × (o.fault ≡ Some fault))
+    (o.begun ≡ None)
+    × (((fault : Fault) × Places asked (Err fault) × (deeds ≡ []) × Keeps o.out.old o.out.new × Ends (Err fault) o.ended o.errors.old o.errors.new × (o.fault ≡ Some fault))
     ⊎ ((placed : Placed) × (played : Played) × (mid : Option (List ℕ)) × IsPlaced asked placed
     × (let s : Streams = record { out = o.out; errors = record { old = o.errors.old; new = mid } } in PlaysFile strangers asked placed input deeds played s)
-    × EndsPlayed played o.ended mid o.errors.new × (o.fault ≡ played_fault played))
+    × EndsPlayed played o.ended mid o.errors.new × (o.fault ≡ played_fault played)))

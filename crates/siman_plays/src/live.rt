@@ -1,18 +1,16 @@
 //! The command `live`: the moves of a script, made by stations that each have a line of their own.
 
-ghost use Rattle.std.specs.Prelude.{◌≡◌, ◌++◌, ℕ, List, Option, Ok, Err, length, true, false};
-ghost use Rattle.byte_files.specs.Writing.{Writes};
+ghost use Rattle.std.specs.Prelude.{◌≡◌, ℕ, List, Option, option_map, Ok, Err, length, true, false};
 ghost use Rattle.siman_scripts.specs.Script.{script_at};
 ghost use Rattle.std.specs.IoError.{error_kind};
 ghost use Rattle.std.specs.List.{All};
 ghost use Rattle.exercise_model.specs.Setting.{IsSetting};
 ghost use Rattle.siman_lines.specs.AtLines.{Telling, AreFresh};
-ghost use Rattle.siman_answers.specs.Ending.{fault_line};
 ghost use Rattle.siman_answers.specs.Opening.{WorksOn};
 ghost use Rattle.siman_plays.specs.Explained.{text_read, TellsWhyNot};
-ghost use Rattle.siman_plays.specs.Live.{Begins, BeginsText, BeginsFile, IsUncreated, CreatesLived, LivesAtLines, LivesBegun, IsPlaced, LivesText, is_created, mend_line, EndsLived, EndsLive};
+ghost use Rattle.siman_plays.specs.Live.{Begins, BeginsText, BeginsFile, IsUncreated, CreatesLived, LivesAtLines, LivesBegun, IsPlaced, LivesText, is_created, begun_in, EndsLive};
 ghost use Rattle.siman_plays.specs.Live.Lived.{AreNew};
-ghost use Rattle.siman_answers.specs.Outside.{Stream, Outcome, Deed, Found, Adds, WasHeld, Has};
+ghost use Rattle.siman_answers.specs.Outside.{Stream, outcome_of, Deed, Found, Adds, WasHeld, Has};
 
 mod moves;
 mod recorded;
@@ -21,10 +19,9 @@ use crate::explained::{refused, stopped};
 use crate::live::moves::{stand_at_lines, trouble_of};
 use crate::live::recorded::{Recorded, record_moves, tell_entries};
 use crate::warned::no_such_station;
-use byte_files::{WriteFailed, put, put_both};
 use exercise_model::Recording;
 use siman_answers::{
-    Ended, Ending, Fault, MovePlace, Notes, Outside, of_error, open_apart, read_text, tell,
+    Ending, Fault, MovePlace, Notes, Outside, conclude, of_error, open_apart, read_text,
 };
 use siman_lines::{LineTrouble, StationAtLine, left_out};
 use siman_scripts::{LARGEST_SCRIPT, Move, Script, line_of_move, read_script};
@@ -282,48 +279,20 @@ fn live_of_file<'a, O: Outside, W: Write>(
     }
 }
 
-/// Writes how a recording that stands under a name is mended: `mend NAME NEW`.
-fn tell_mend<E: Write>(name: &str, errors: &mut E) -> Result<(), WriteFailed>
-    ensures { Writes result (E.contents errors.old) (E.contents errors.new) (mend_line true name.now) }
+/// The recording that stands begun after a fault: the file of a name, where it was created before.
+fn begun_in<'a>(lived: Lived<'_>, name: &'a str) -> Option<&'a str>
+    ensures { option_map (λ name. name.now) result ≡ begun_in lived.entry.created name.now lived.entry.answered }
 {
-    put_both(errors, b"mend ", name.as_bytes())?;
-    put(errors, b" NEW\n")
-}
-
-/// Writes the line of a fault, and, where the file of a name was created before, how it is mended.
-fn tell_lived<E: Write>(
-    fault: Fault<'_>,
-    created: bool,
-    name: &str,
-    errors: &mut E,
-) -> Result<(), WriteFailed>
-    ensures { Writes result (E.contents errors.old) (E.contents errors.new) (fault_line fault.entry ++ mend_line created name.now) }
-{
-    tell(fault, errors)?;
-    if created {
-        return tell_mend(name, errors);
+    if !lived.created {
+        return None;
     }
-    Ok(())
-}
-
-/// Ends `live`, after it told its fault.
-fn end_lived<E: Write>(lived: Lived<'_>, name: &str, errors: &mut E) -> Ended
-    ensures { EndsLived lived.entry.created name.now lived.entry.answered result (E.contents errors.old) (E.contents errors.new) }
-{
     match lived.answered {
-        Ok(status) => Ended {
-            status,
-            written: Ok(()),
-        },
-        Err(fault) => Ended {
-            status: fault.status(),
-            written: tell_lived(fault, lived.created, name, errors),
-        },
+        Ok(_) => None,
+        Err(_) => Some(name),
     }
 }
 
-/// Does what `live` is asked for with these words, and ends as that asks for. After a fault of a
-/// recording that it created it tells how that is mended.
+/// Does what `live` is asked for with these words, and ends as that asks for.
 pub fn end_live<'a, O: Outside, W: Write, E: Write>(
     alloc: Global,
     words: (&'a str, &'a str),
@@ -332,15 +301,16 @@ pub fn end_live<'a, O: Outside, W: Write, E: Write>(
     errors: &mut E,
 ) -> Ending<'a>
     ensures { let told : Telling O.Line = record { received = O.Line.received; sent = O.Line.sent; failures = O.Line.failures; strangers = O.Line.strangers } in
-        let o : Outcome = record { ended = result.ended; fault = result.fault; out = record { old = W.contents out.old; new = W.contents out.new }; errors = record { old = E.contents errors.old; new = E.contents errors.new } } in
-        (deeds : List Deed) × Adds (O.deeds outside.old) (O.deeds outside.new) deeds × All (WasHeld (O.holds outside.old)) deeds × EndsLive told words.entry.0.now words.entry.1.now deeds o }
+        let out : Stream = record { old = W.contents out.old; new = W.contents out.new } in
+        let errors : Stream = record { old = E.contents errors.old; new = E.contents errors.new } in
+        (deeds : List Deed) × Adds (O.deeds outside.old) (O.deeds outside.new) deeds × All (WasHeld (O.holds outside.old)) deeds × EndsLive told words.entry.0.now words.entry.1.now deeds (outcome_of result out errors) }
 {
     let mut notes = Notes::nothing();
     let lived = live_of_file(alloc, words, outside, out, &mut notes);
     Ending {
-        ended: end_lived(lived, words.1, errors),
-        fault: lived.answered.err(),
+        begun: begun_in(lived, words.1),
         trouble: lived.trouble,
         warning: notes.warning,
+        ..conclude(lived.answered, errors)
     }
 }

@@ -3,7 +3,7 @@
 
 ghost use Rattle.std.specs.Prelude.{◌≡◌, ◌+◌, ◌∷◌, ℕ, List, length, Option, None, Ok, map};
 ghost use Rattle.std.specs.List.{All};
-ghost use Rattle.siman_answers.specs.Outside.{Stream, Outcome, Deed, Found, Adds, WasHeld, Has};
+ghost use Rattle.siman_answers.specs.Outside.{Stream, outcome_of, Deed, Found, Adds, WasHeld, Has};
 ghost use Rattle.siman_scripts.specs.Script.{script_at};
 ghost use Rattle.siman_sessions.specs.declared.reading.TheConstants.{LONGEST_LINE};
 ghost use Rattle.siman_sessions.specs.Recorded.{IsReady};
@@ -301,8 +301,9 @@ pub fn end_station<'a, O: Outside, R: Read + Drop, W: Write, E: Write>(
     out: &mut W,
     errors: &mut E,
 ) -> Ending<'a>
-    ensures { let o : Outcome = record { ended = result.ended; fault = result.fault; out = record { old = W.contents out.old; new = W.contents out.new }; errors = record { old = E.contents errors.old; new = E.contents errors.new } } in
-        (deeds : List Deed) × Adds (O.deeds outside.old) (O.deeds outside.new) deeds × All (WasHeld (O.holds outside.old)) deeds × EndsStation O.Line.strangers (named_by (λ word. word.now) words.entry) deeds (R.remaining input) o }
+    ensures { let out : Stream = record { old = W.contents out.old; new = W.contents out.new } in
+        let errors : Stream = record { old = E.contents errors.old; new = E.contents errors.new } in
+        (deeds : List Deed) × Adds (O.deeds outside.old) (O.deeds outside.new) deeds × All (WasHeld (O.holds outside.old)) deeds × EndsStation O.Line.strangers (named_by (λ word. word.now) words.entry) deeds (R.remaining input) (outcome_of result out errors) }
 {
     let placed = match place(alloc, &words) {
         Ok(placed) => placed,
@@ -313,6 +314,7 @@ pub fn end_station<'a, O: Outside, R: Read + Drop, W: Write, E: Write>(
     Ending {
         ended: end_played(played, errors),
         fault: played.err(),
+        begun: None,
         trouble: None,
         warning: None,
     }

@@ -1,5 +1,5 @@
 -- What standard input asks for is answered with no file; what words ask for, as their files have it.
-use Rattle.std.proofs.Common.{ℕ, List, [], Option, refl}
+use Rattle.std.proofs.Common.{◌≡◌, ℕ, List, [], Option, None, refl}
 use Rattle.std.proofs.lemmas.List.Elements.{All-nil}
 use Rattle.siman_words.specs.declared.commands.NoWord.{NoWord}
 use Rattle.siman_words.specs.declared.commands.NoWord.TheVariants.{Pdus}
@@ -12,19 +12,19 @@ use Rattle.siman_console.proofs.program.end_task.Goals as goal
 
 pub returns-in-Trial : goal.returns-in-Trial
 returns-in-Trial g c =
-    rw c.in-Trial.is ([], adds_none _, All-nil (WasHeld (g.O.Outside.holds c.args.outside.now)), (refl, (c.say.result, c.say.ensures, c.conclude.ensures.ends, c.conclude.ensures.fault)))
+    rw c.in-Trial.is ([], adds_none _, All-nil (WasHeld (g.O.Outside.holds c.args.outside.now)), (refl, (c.say.result, c.say.ensures, (c.conclude.ensures.ends, c.conclude.ensures.fault, c.conclude.ensures.begun))))
 
 pub returns-in-One : goal.returns-in-One
 returns-in-One g c =
     let did = c.do_one-done.ensures in
-    rw c.in-One.is (did.0, did.1, did.2, (c.do_one-done.result, did.3, c.conclude-in-One.ensures.ends, c.conclude-in-One.ensures.fault))
+    rw c.in-One.is (did.0, did.1, did.2, (c.do_one-done.result, did.3, (c.conclude-in-One.ensures.ends, c.conclude-in-One.ensures.fault, c.conclude-in-One.ensures.begun)))
 
 pub returns-in-Two : goal.returns-in-Two
 returns-in-Two g c = rw c.in-Two.is c.end_two.ensures
 
 -- the only command that takes no words ends so
-lines_end : (command : NoWord) (input : Option (List ℕ)) (o : Outcome) → (bytes : List ℕ) × Has input bytes × EndsLines (lines_of bytes) o → EndsBare command input o
-lines_end Pdus input o ended = ended
+lines_end : (command : NoWord) (input : Option (List ℕ)) (o : Outcome) → (bytes : List ℕ) × Has input bytes × EndsLines (lines_of bytes) o → o.begun ≡ None → EndsBare command input o
+lines_end Pdus input o ended begun = (ended, begun)
 
 pub returns-in-Bare-Pdus : goal.returns-in-Bare-Pdus
 returns-in-Bare-Pdus g c =
@@ -32,28 +32,28 @@ returns-in-Bare-Pdus g c =
       [],
       adds_none _,
       All-nil (WasHeld (g.O.Outside.holds c.args.outside.now)),
-      (refl, lines_end c.in-Bare-Pdus.field-0 (g.R.Read.remaining c.args.input) _ c.end_lines.ensures),
+      (refl, lines_end c.in-Bare-Pdus.field-0 (g.R.Read.remaining c.args.input) _ c.end_lines.ensures.ends c.end_lines.ensures.begun),
     )
 
 pub returns-in-Join : goal.returns-in-Join
 returns-in-Join g c =
     let did = rw c.word_of-word.ensures at c.join_pieces-joined.ensures in
-    rw c.in-Join.is (did.0, did.1, did.2, (c.join_pieces-joined.result, did.3, c.conclude-in-Join.ensures.ends, c.conclude-in-Join.ensures.fault))
+    rw c.in-Join.is (did.0, did.1, did.2, (c.join_pieces-joined.result, did.3, (c.conclude-in-Join.ensures.ends, c.conclude-in-Join.ensures.fault, c.conclude-in-Join.ensures.begun)))
 
 pub returns-in-View : goal.returns-in-View
 returns-in-View g c =
     let did = c.do_view-done.ensures in
-    rw c.in-View.is (did.0, did.1, did.2, (c.do_view-done.result, did.3, c.conclude-in-View.ensures.ends, c.conclude-in-View.ensures.fault))
+    rw c.in-View.is (did.0, did.1, did.2, (c.do_view-done.result, did.3, (c.conclude-in-View.ensures.ends, c.conclude-in-View.ensures.fault, c.conclude-in-View.ensures.begun)))
 
 pub returns-in-Why : goal.returns-in-Why
 returns-in-Why g c =
     let did = c.why_named-done.ensures in
-    rw c.in-Why.is (did.0, did.1, did.2, (c.why_named-done.result, did.3, c.conclude-in-Why.ensures.ends, c.conclude-in-Why.ensures.fault))
+    rw c.in-Why.is (did.0, did.1, did.2, (c.why_named-done.result, did.3, (c.conclude-in-Why.ensures.ends, c.conclude-in-Why.ensures.fault, c.conclude-in-Why.ensures.begun)))
 
 pub returns-in-Chart : goal.returns-in-Chart
 returns-in-Chart g c =
     let did = c.chart_named-charted.ensures in
-    rw c.in-Chart.is (did.0, did.1, did.2, (c.chart_named-charted.result, did.3, c.conclude-in-Chart.ensures.ends, c.conclude-in-Chart.ensures.fault))
+    rw c.in-Chart.is (did.0, did.1, did.2, (c.chart_named-charted.result, did.3, (c.conclude-in-Chart.ensures.ends, c.conclude-in-Chart.ensures.fault, c.conclude-in-Chart.ensures.begun)))
 
 pub returns-in-Station : goal.returns-in-Station
 returns-in-Station g c = rw c.in-Station.is c.end_station.ensures

@@ -7,7 +7,7 @@ use Rattle.siman_lines.specs.AtLines.{Telling}
 use Rattle.siman_words.specs.Words.{Asked, CommandLine, asked_by_name}
 use Rattle.siman_answers.specs.declared.fault.Fault.TheVariants.{Memory}
 use Rattle.siman_answers.specs.Ending.{Ends}
-use Rattle.siman_answers.specs.Outside.{Outcome, WasHeld}
+use Rattle.siman_answers.specs.Outside.{Outcome, WasHeld, begun_by}
 use Rattle.siman_answers.proofs.Offered.{adds_none}
 use Rattle.siman_console.specs.Program.{EndsIn, EndsAsked}
 use Rattle.siman_console.proofs.program.end_words.Goals as goal
@@ -27,8 +27,9 @@ returns-in-Err g c =
       All-nil (WasHeld (g.O.Outside.holds c.args.outside.now)),
       (
         c.conclude-ending.result.fault,
+        begun_by c.conclude-ending.result,
         c.conclude-ending.result.warning,
-        memory_ends _ _ _ _ _ (Keeps-refl (g.W.Write.contents c.args.out.now)) (ends, c.conclude-ending.ensures.fault),
+        memory_ends _ _ _ _ _ (Keeps-refl (g.W.Write.contents c.args.out.now)) (ends, c.conclude-ending.ensures.fault, c.conclude-ending.ensures.begun),
         c.explained.ensures.explains,
       ),
     )
@@ -42,8 +43,9 @@ returns-in-Some g c =
       did.2,
       (
         c.and_notes.result.fault,
+        begun_by c.and_notes.result,
         c.and_notes.result.warning,
-        rw (← asks, c.explained-in-Some.ensures.ended, c.and_notes.ensures.ended, c.and_notes.ensures.fault) (inr did.3),
+        rw (← asks, c.explained-in-Some.ensures.ended, c.and_notes.ensures.ended, c.and_notes.ensures.fault, c.and_notes.ensures.begun) (inr did.3),
         c.explained-in-Some.ensures.explains,
       ),
     )
@@ -57,6 +59,7 @@ returns-in-None g c =
       All-nil (WasHeld (g.O.Outside.holds c.args.outside.now)),
       (
         c.end_usage-ending.result.fault,
+        begun_by c.end_usage-ending.result,
         c.end_usage-ending.result.warning,
         rw (← none, ← helps, c.explained-in-None.ensures.ended) (refl, c.end_usage-ending.ensures),
         c.explained-in-None.ensures.explains,

@@ -3,7 +3,7 @@ use Rattle.std.proofs.Common.{[], Err, refl}
 use Rattle.std.proofs.KnownBytes.{Keeps-refl}
 use Rattle.std.proofs.lemmas.List.Elements.{All-nil}
 use Rattle.siman_answers.specs.Ending.{Ends}
-use Rattle.siman_answers.specs.Outside.{WasHeld}
+use Rattle.siman_answers.specs.Outside.{WasHeld, begun_by}
 use Rattle.siman_answers.proofs.Offered.{adds_none}
 use Rattle.siman_console.proofs.program.run.Goals as goal
 
@@ -17,8 +17,9 @@ returns-in-Err g c =
       All-nil (WasHeld (g.O.Outside.holds c.args.outside.now)),
       (
         c.conclude-ending.result.fault,
+        begun_by c.conclude-ending.result,
         c.conclude-ending.result.warning,
-        (refl, (Keeps-refl (g.W.Write.contents c.args.out.now), (c.of_error.result, c.of_error.ensures, (ends, c.conclude-ending.ensures.fault)))),
+        (refl, (Keeps-refl (g.W.Write.contents c.args.out.now), (c.of_error.result, c.of_error.ensures, (ends, c.conclude-ending.ensures.fault, c.conclude-ending.ensures.begun)))),
         c.explained.ensures.explains,
       ),
     )

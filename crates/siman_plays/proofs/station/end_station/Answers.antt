@@ -11,10 +11,13 @@ returns-in-Err g c = (
   [],
   adds_none _,
   All-nil (WasHeld (g.O.Outside.holds c.args.outside.now)),
-  inl (c.in-Err.fault, c.in-Err.ensures, refl, Keeps-refl (g.W.Write.contents c.args.out.now), c.conclude.ensures.ends, c.conclude.ensures.fault),
+  (
+    c.conclude.ensures.begun,
+    inl (c.in-Err.fault, c.in-Err.ensures, refl, Keeps-refl (g.W.Write.contents c.args.out.now), c.conclude.ensures.ends, c.conclude.ensures.fault),
+  ),
 )
 
 pub returns : goal.returns
 returns g c =
     let did = c.play_file-played.ensures in
-    (did.0, did.1, did.2, inr (c.in-Ok.placed, c.play_file-played.result, _, c.in-Ok.ensures, did.3, c.end_played.ensures, c.err.ensures.value))
+    (did.0, did.1, did.2, (refl, inr (c.in-Ok.placed, c.play_file-played.result, _, c.in-Ok.ensures, did.3, c.end_played.ensures, c.err.ensures.value)))
